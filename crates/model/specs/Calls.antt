@@ -1,0 +1,135 @@
+-- Document 01: a list of calls, run, the host's totals, and uncut recovery.
+use Prim.Native.Nat.{ℕ, zero, suc, _+_, _-_, _^_}
+use mathlib.Core.Bool.{Bool, true, false}
+use mathlib.Core.List.{List, [], _∷_}
+use lib.Dec.{ltb, eqb}
+use Rattle.model.specs.Device.{Out, boot, cut, post, step, off}
+use Rattle.model.specs.Store.{Store, view, Write, none, to, settled}
+use Rattle.model.specs.Test.{pick}
+use Rattle.model.specs.Types.{Answer, Body, Checked, Device, Ended, Refusal, Totals}
+
+-- ---- "any list of boots, steps, posts and cuts"
+
+pub data Call : Type 0 where
+  Boot Step Cut : Call
+  Post : ℕ → ℕ → Call
+
+unfoldable pub call : List ℕ → List ℕ → Device → Call → Out
+call p s d Boot = boot p s d
+call p s d Step = step p s d
+call p s d Cut = cut
+call p s d (Post e x) = post p s d e x
+
+pub record Line : Type 0 where
+  pub called : Call
+  pub answered : Answer
+
+-- the calls with their answers
+unfoldable pub history : List ℕ → List ℕ → Device → List Call → List Line
+history p s d [] = []
+history p s d (c ∷ cs) =
+    let o = call p s d c in
+    record { called = c; answered = o .answer } ∷ history p (settled s (o .write)) (o .device) cs
+
+-- the store and the device after them
+pub record Now : Type 0 where
+  pub store : List ℕ
+  pub device : Device
+
+unfoldable pub afterCalls : List ℕ → List ℕ → Device → List Call → Now
+afterCalls p s d [] = record { store = s; device = d }
+afterCalls p s d (c ∷ cs) =
+    let o = call p s d c in
+    afterCalls p (settled s (o .write)) (o .device) cs
+
+-- what comes of a refusal, or what comes otherwise
+unfoldable pub unlessRefused {ℓ} : {A : Type ℓ} → Answer → (Refusal → A) → A → A
+unlessRefused Answer.Done f x = x
+unlessRefused (Answer.Chosen b) f x = x
+unlessRefused Answer.Worked f x = x
+unlessRefused Answer.Stored f x = x
+unlessRefused (Answer.Committed b) f x = x
+unlessRefused Answer.Accepted f x = x
+unlessRefused (Answer.Refused r) f x = f r
+
+-- ---- "The host's totals (bodies committed, events accepted, stores made; 32 bits, staying at the largest value)"
+
+unfoldable pub more : ℕ → ℕ
+more x = pick (ltb x (2 ^ 32 - 1)) (x + 1) x
+
+unfoldable pub moreIf : Bool → ℕ → ℕ
+moreIf b x = pick b (more x) x
+
+unfoldable pub isCommit : Answer → Bool
+isCommit Answer.Done = false
+isCommit (Answer.Chosen b) = false
+isCommit Answer.Worked = false
+isCommit Answer.Stored = false
+isCommit (Answer.Committed b) = true
+isCommit Answer.Accepted = false
+isCommit (Answer.Refused r) = false
+
+unfoldable pub isAccept : Answer → Bool
+isAccept Answer.Done = false
+isAccept (Answer.Chosen b) = false
+isAccept Answer.Worked = false
+isAccept Answer.Stored = false
+isAccept (Answer.Committed b) = false
+isAccept Answer.Accepted = true
+isAccept (Answer.Refused r) = false
+
+-- a store counts because one was made
+unfoldable pub isStore : Write → Bool
+isStore none = false
+isStore (to w x) = true
+
+-- the totals after a step
+unfoldable pub counted : Totals → Out → Totals
+counted t o =
+    record {
+      committed = moreIf (isCommit (o .answer)) (t .committed);
+      accepted = moreIf (isAccept (o .answer)) (t .accepted);
+      stores = moreIf (isStore (o .write)) (t .stores);
+    }
+
+-- ---- "Run repeats steps up to a budget (32 bits) and returns the count of steps made, with spent or the refusal; a budget of 0
+-- looks at nothing and returns spent."
+
+pub record Ran : Type 0 where
+  pub steps : ℕ
+  pub ended : Ended
+  pub store : List ℕ
+  pub device : Device
+  pub totals : Totals
+
+unfoldable pub runFrom : List ℕ → ℕ → ℕ → List ℕ → Device → Totals → Ran
+runFrom p zero n s d t = record { steps = n; ended = Ended.Spent; store = s; device = d; totals = t }
+runFrom p (suc k) n s d t =
+    let o = step p s d in
+    let rest = runFrom p k (n + 1) (settled s (o .write)) (o .device) (counted t o) in
+    unlessRefused (o .answer) (λ f. record { steps = n; ended = Ended.Refused f; store = s; device = d; totals = t }) rest
+
+unfoldable pub run : List ℕ → ℕ → List ℕ → Device → Totals → Ran
+run p budget s d t = runFrom p budget 0 s d t
+
+-- ---- Uncut recovery "is a cut, a boot, then steps while the phase isn't 0, without posts". It ends with the count of steps and
+-- the store, or it is refused, or the steps allowed don't suffice.
+
+pub data Recovery : Type 0 where
+  recovered : ℕ → List ℕ → Recovery
+  refused : Refusal → Recovery
+  unfinished : Recovery
+
+unfoldable pub finish : List ℕ → ℕ → ℕ → List ℕ → Device → Recovery
+finish p zero n s d = pick (eqb (view s .phase) 0) (recovered n s) unfinished
+finish p (suc k) n s d =
+    let o = step p s d in
+    let rest = finish p k (n + 1) (settled s (o .write)) (o .device) in
+    let go = unlessRefused (o .answer) refused rest in
+    pick (eqb (view s .phase) 0) (recovered n s) go
+
+-- with at most k steps
+unfoldable pub recovery : List ℕ → ℕ → List ℕ → Recovery
+recovery p k s =
+    let o = boot p s (cut .device) in
+    unlessRefused (o .answer) refused (finish p k 0 s (o .device))

@@ -1,0 +1,141 @@
+-- Document 01, refusal 7: the rules of the control words, of the log's addresses and of the waiting records, each with the word
+-- that it names first and with what it needs. "A rule that needs a broken word is passed over."
+use Prim.Native.Nat.{ℕ, zero, suc, _+_, _*_}
+use mathlib.Core.Bool.{Bool, true, false, not}
+use mathlib.Core.List.{List, [], _∷_, _++_}
+use lib.Dec.{ltb, leb, eqb}
+use Rattle.model.specs.Program.{tasks, events, memoryWords, transaction}
+use Rattle.model.specs.Store.{Store, address, event, after, empty, firstWaiting, logAt, queueAt}
+use Rattle.model.specs.Test.{pick, _and_, _or_, must, _then_}
+use Rattle.model.specs.Types.{Checked, Refusal}
+
+-- A rule speaks where `asked` is true: in its phases, and where the words that it needs are sound.
+pub record Rule : Type 0 where
+  pub word : ℕ
+  pub asked : Bool
+  pub kept : Bool
+
+abbrev rule : ℕ → Bool → Bool → Rule
+rule w asked kept = record { word = w; asked = asked; kept = kept }
+
+abbrev pub broken : Rule → Bool
+broken r = r .asked and not (r .kept)
+
+-- where rule r is broken, 7 with its word
+unfoldable pub obey : Rule → Checked
+obey r = must (not (broken r)) (Refusal.Control (r .word))
+
+unfoldable pub obeyAll : List Rule → Checked
+obeyAll [] = Checked.Accepted
+obeyAll (r ∷ rs) = obey r then obeyAll rs
+
+-- f 0, .., f (n - 1)
+unfoldable pub upTo : (ℕ → Rule) → ℕ → List Rule
+upTo f zero = []
+upTo f (suc n) = upTo f n ++ f n ∷ []
+
+abbrev pub inPhase : Store → ℕ → Bool
+inPhase v n = eqb (v .phase) n
+
+abbrev pub committing : Store → Bool
+committing v = inPhase v 1 or inPhase v 2
+
+-- ---- the rules, in the order of their words
+
+-- "8 at most 2"
+unfoldable pub phaseRule : Store → Rule
+phaseRule v = rule 8 true (leb (v .phase) 2)
+
+-- "9 below T"
+unfoldable pub taskRule : List ℕ → Store → Rule
+taskRule p v = rule 9 true (ltb (v .task) (tasks p))
+
+-- "in phase 0, 10 is 0 or the transaction number of task 9"
+unfoldable pub openRule : List ℕ → Store → Rule
+openRule p v =
+    rule 10 (inPhase v 0 and taskRule p v .kept) (eqb (v .openNumber) 0 or eqb (v .openNumber) (transaction p (v .task)))
+
+-- "in phase 2, 10 is 0"
+unfoldable pub openServing : Store → Rule
+openServing v = rule 10 (inPhase v 2) (eqb (v .openNumber) 0)
+
+-- "In phases 1 and 2, 11 at most L"
+unfoldable pub countRule : Store → Rule
+countRule v = rule 11 (committing v) (leb (v .count) (v .pairs))
+
+-- "In phase 1, 12 below T"
+unfoldable pub pendingTaskRule : List ℕ → Store → Rule
+pendingTaskRule p v = rule 12 (inPhase v 1) (ltb (v .pending) (tasks p))
+
+-- "14 and 15 at most Q"
+unfoldable pub headRule : Store → Rule
+headRule v = rule 14 true (leb (v .head) (v .records))
+
+unfoldable pub tailRule : Store → Rule
+tailRule v = rule 15 true (leb (v .tail) (v .records))
+
+-- "In phase 2, 12 at most Q and equals 14, or is the slot after it with the queue not empty."
+unfoldable pub pendingHeadRule : Store → Rule
+pendingHeadRule v =
+    rule 12 (inPhase v 2 and headRule v .kept and tailRule v .kept)
+    (leb (v .pending) (v .records)
+    and (eqb (v .pending) (v .head) or (eqb (v .pending) (after (v .records) (v .head)) and not (empty v))))
+
+-- "and 13 is 0 or task 12's number"
+unfoldable pub pendingOpenRule : List ℕ → Store → Rule
+pendingOpenRule p v =
+    rule 13 (inPhase v 1 and pendingTaskRule p v .kept) (eqb (v .pendingOpen) 0 or eqb (v .pendingOpen) (transaction p (v .pending)))
+
+-- "the first n log addresses below M", pair j's
+unfoldable pub addressRule : List ℕ → Store → ℕ → Rule
+addressRule p v j =
+    rule (logAt (memoryWords p) + 2 * j) (committing v and countRule v .kept and ltb j (v .count)) (ltb (address v j) (memoryWords p))
+
+-- does a record wait in slot x, of records from slot h up to slot t?
+unfoldable pub between : ℕ → ℕ → ℕ → Bool
+between h t x = pick (leb h t) (leb h x and ltb x t) (leb h x or ltb x t)
+
+-- "each waiting record's event below E", slot x's
+unfoldable pub recordRule : List ℕ → Store → ℕ → Rule
+recordRule p v x =
+    rule (queueAt (memoryWords p) (v .pairs) + 2 * x)
+    (phaseRule v .kept
+    and headRule v .kept
+    and tailRule v .kept
+    and (not (inPhase v 2) or pendingHeadRule v .kept)
+    and between (firstWaiting v) (v .tail) x) (ltb (event v x) (events p))
+
+-- ---- 7 whole, as boot has it, and its early part: "without the parts of 7 .. that need a row, .. a log pair or a record"
+
+unfoldable pub rules : List ℕ → Store → List Rule
+rules p v =
+    (phaseRule v
+    ∷ taskRule p v
+    ∷ openRule p v
+    ∷ openServing v
+    ∷ countRule v
+    ∷ pendingTaskRule p v
+    ∷ pendingHeadRule v
+    ∷ pendingOpenRule p v
+    ∷ headRule v
+    ∷ tailRule v
+    ∷ [])
+    ++ upTo (addressRule p v) (v .pairs)
+    ++ upTo (recordRule p v) (v .records + 1)
+
+unfoldable pub earlyRules : List ℕ → Store → List Rule
+earlyRules p v =
+    phaseRule v
+    ∷ taskRule p v
+    ∷ openServing v
+    ∷ countRule v
+    ∷ pendingTaskRule p v
+    ∷ pendingHeadRule v
+    ∷ headRule v
+    ∷ tailRule v
+    ∷ []
+
+-- "Place: the word of any broken rule, that is the first word it names": w is such a word
+unfoldable pub blames : List Rule → ℕ → Bool
+blames [] w = false
+blames (r ∷ rs) w = (broken r and eqb (r .word) w) or blames rs w

@@ -1,0 +1,306 @@
+-- Document 01, "What a step does" and "Order": the device, what a call looks at, and what boot, cut, post and step do, for all
+-- words and all device states. A call's outcome is at most one store, a device state and an answer.
+use Prim.Native.Nat.{ℕ, zero, suc, _+_, _-_, _*_}
+use mathlib.Core.Bool.{Bool, true, false, not}
+use mathlib.Core.List.{List, [], _∷_}
+use lib.Dec.{ltb, leb, eqb}
+use lib.ListN.{length, getD, set, replicate}
+use Rattle.model.specs.Check.{contentsRule, rowsInside, rowUsed, instructionRule, check}
+use Rattle.model.specs.Control.{Rule, obey, obeyAll, openRule, rules, earlyRules}
+use Rattle.model.specs.Program.{tasks, events, memoryWords, instructions, transaction, number, effectAt, newOpen, word, reg}
+use Rattle.model.specs.Store.{Store, view, address, value, event, datum, Word, Phase, Task, Open, Count, Pending, PendingOpen, Head, Tail, Memory, Address, Value, Event, Datum, Write, none, to, find, after, empty, full, logAt, queueAt, storeRule}
+use Rattle.model.specs.Test.{pick, _and_, must, _then_}
+use Rattle.model.specs.Types.{Answer, Body, Checked, Device, Effect, Found, Free, Half, Handler, Next, Place, Refusal, Resting, Run, Storing}
+
+-- ---- "Off is one fixed value of the device, all else 0. Boot makes no store and turns that value on."
+
+unfoldable pub fresh : Bool → Device
+fresh on = record { on = on; regs = replicate 8 0; place = Free 0; count = 0; handler = Resting }
+
+abbrev pub off : Device
+off = fresh false
+
+abbrev pub turnedOn : Device
+turnedOn = fresh true
+
+-- another place, other registers and another log count; another handler
+unfoldable pub moved : Device → List ℕ → Place → ℕ → Device
+moved d r x l = record { on = d .on; regs = r; place = x; count = l; handler = d .handler }
+
+unfoldable pub handled : Device → Handler → Device
+handled d h = record { on = d .on; regs = d .regs; place = d .place; count = d .count; handler = h }
+
+-- ---- The outcome of a call. "A refusal .. changes no word, state or total."
+
+pub record Out : Type 0 where
+  pub write : Write
+  pub device : Device
+  pub answer : Answer
+
+abbrev pub out : Write → Device → Answer → Out
+out w d a = record { write = w; device = d; answer = a }
+
+abbrev pub refuse : Device → Refusal → Out
+refuse d r = out none d (Answer.Refused r)
+
+unfoldable pub judged : Checked → Device → Out → Out
+judged Checked.Accepted d o = o
+judged (Checked.Refused r) d o = refuse d r
+
+-- Store number c of a row of stores, the last of which turns the device into the off value turned on and has its own answer.
+unfoldable pub storing : List Write → ℕ → Device → Answer → Out
+storing ws c d a =
+    let last = eqb (c + 1) (length ws) in
+    out (getD ws c none) (pick last turnedOn d) (pick last a Answer.Stored)
+
+-- ---- The rows of stores that a commit makes
+-- "11 is n, 12 the next task, 13 the new open number, 8 becomes 1 (the commit store)"; n is the log count l
+unfoldable pub taskStores : List ℕ → ℕ → ℕ → ℕ → List Write
+taskStores p t k l = to Count l ∷ to Pending k ∷ to PendingOpen (newOpen (transaction p t) (transaction p k)) ∷ to Phase 1 ∷ []
+
+-- "DONE: 11, 12 with the slot after head, 8 becomes 2"
+unfoldable pub eventStores : Store → ℕ → List Write
+eventStores v l = to Count l ∷ to Pending (after (v .records) (v .head)) ∷ to Phase 2 ∷ []
+
+-- "then n copies, 9 from 12, 10 from 13, 8 becomes 0"; "n copies, 14 from 12, 8 becomes 0": the stores after the copies
+unfoldable pub lastStores : Store → List Write
+lastStores v =
+    pick (eqb (v .phase) 1) (to Task (v .pending) ∷ to Open (v .pendingOpen) ∷ to Phase 0 ∷ []) (to Head (v .pending) ∷ to Phase 0 ∷ [])
+
+-- ---- 25, what needs no row, instruction, log pair or record
+
+-- "in phase 0 a running body that isn't word 9's task, nor the event of a record at head with word 10 at 0"; "body .. out of
+-- range"
+unfoldable pub mayRun : List ℕ → Store → Body → Bool
+mayRun p v (Body.Task t) = eqb t (v .task)
+mayRun p v (Body.Event e) = ltb e (events p) and eqb (v .openNumber) 0 and not (empty v)
+
+-- how many stores GO makes up to the commit store, and DONE
+unfoldable pub endStores : Body → ℕ
+endStores (Body.Task t) = 4
+endStores (Body.Event e) = 3
+
+-- "log count above L; commit place past its last store, or phase disagreeing; a body running in phase 1 or 2; a commit begun in
+-- phase 0 without a body ..; half a SAVE .. with L pairs"
+unfoldable pub placeSound : List ℕ → Store → ℕ → Place → Bool
+placeSound p v l (Free c) = pick (eqb (v .phase) 0) (eqb c 0) (ltb c (v .count + length (lastStores v)))
+placeSound p v l (Run b j c) = eqb (v .phase) 0 and mayRun p v b and ltb c (endStores b)
+placeSound p v l (Half b j) = eqb (v .phase) 0 and mayRun p v b and ltb l (v .pairs)
+
+-- "a handler at work with the queue full or its event not below E"
+unfoldable pub handlerSound : List ℕ → Store → Handler → Bool
+handlerSound p v Resting = true
+handlerSound p v (Storing n e x) = ltb e (events p) and not (full v)
+
+unfoldable pub isFresh : Place → Handler → Bool
+isFresh (Free c) Resting = eqb c 0
+isFresh (Free c) (Storing n e x) = false
+isFresh (Run b j c) h = false
+isFresh (Half b j) h = false
+
+-- the first n registers
+unfoldable pub zeros : List ℕ → ℕ → Bool
+zeros r zero = true
+zeros r (suc n) = zeros r n and eqb (reg r n) 0
+
+-- "off unlike its fixed value"
+unfoldable pub deviceSound : List ℕ → Store → Device → Bool
+deviceSound p v d =
+    pick (d .on) (leb (d .count) (v .pairs) and placeSound p v (d .count) (d .place) and handlerSound p v (d .handler))
+    (zeros (d .regs) 8 and eqb (d .count) 0 and isFresh (d .place) (d .handler))
+
+-- "Step and post look at program words 0 to 5, store contents and words 8 to 15: 1, 2, 3, 6, 7, 25, 22, without the parts of 7
+-- and 25 that need a row, an instruction, a log pair or a record"
+unfoldable pub look : List ℕ → List ℕ → Device → Checked
+look p s d =
+    contentsRule p
+    then storeRule p s
+    then obeyAll (earlyRules p (view s))
+    then must (deviceSound p (view s) d) Refusal.State
+    then must (d .on) Refusal.PowerOff
+
+-- ---- Boot, cut and post
+
+-- "boot 1 to 7, 26"
+unfoldable pub bootCheck : List ℕ → List ℕ → Device → Checked
+bootCheck p s d = check p then storeRule p s then obeyAll (rules p (view s)) then must (not (d .on)) Refusal.PowerOn
+
+unfoldable pub boot : List ℕ → List ℕ → Device → Out
+boot p s d = judged (bootCheck p s d) d (out none turnedOn Answer.Done)
+
+-- "A cut refuses nothing."
+unfoldable pub cut : Out
+cut = out none off Answer.Done
+
+unfoldable pub atRest : Handler → Bool
+atRest Resting = true
+atRest (Storing n e x) = false
+
+-- "post then 8, 20, 21"
+unfoldable pub postCheck : List ℕ → List ℕ → Device → ℕ → Checked
+postCheck p s d e =
+    look p s d
+    then must (ltb e (events p)) Refusal.NoEvent
+    then must (atRest (d .handler)) Refusal.HandlerBusy
+    then must (not (full (view s))) Refusal.QueueFull
+
+-- "A post makes no store, sets the handler to work"
+unfoldable pub post : List ℕ → List ℕ → Device → ℕ → ℕ → Out
+post p s d e x = judged (postCheck p s d e) d (out none (handled d (Storing Next.Event e x)) Answer.Done)
+
+-- ---- Step 1. "A handler at work makes its next store: event, data, then tail. The tail store accepts the event."
+
+unfoldable pub handlerStep : Store → Device → Next → ℕ → ℕ → Out
+handlerStep v d Next.Event e x = out (to (Event (v .tail)) e) (handled d (Storing Next.Data e x)) Answer.Stored
+handlerStep v d Next.Data e x = out (to (Datum (v .tail)) x) (handled d (Storing Next.Tail e x)) Answer.Stored
+handlerStep v d Next.Tail e x = out (to Tail (after (v .records) (v .tail))) (handled d Resting) Answer.Accepted
+
+-- ---- Step 2. "A commit makes its next store", in phases 1 and 2: c stores are made after the commit store
+
+-- "the rest of 7 .. for .. a log pair"
+unfoldable pub pairSound : List ℕ → Store → ℕ → Checked
+pairSound p v j = must (ltb (address v j) (memoryWords p)) (Refusal.Control (logAt (memoryWords p) + 2 * j))
+
+unfoldable pub copyStep : List ℕ → Store → Device → ℕ → Out
+copyStep p v d c =
+    let after = moved d (d .regs) (Free (c + 1)) (d .count) in
+    pick (ltb c (v .count)) (judged (pairSound p v c) d (out (to (Memory (address v c)) (value v c)) after Answer.Stored))
+    (storing (lastStores v) (c - v .count) after Answer.Stored)
+
+-- ---- Step 3. "With no body running, one is chosen"
+
+-- "Registers become 0, except that register 0 gets an event's data. The log count becomes 0."
+unfoldable pub begun : Device → Body → ℕ → Device
+begun d b x = moved d (x ∷ replicate 7 0) (Run b 0 0) 0
+
+-- "a chosen record (7)", the record at head
+unfoldable pub recordSound : List ℕ → Store → Checked
+recordSound p v =
+    must (ltb (event v (v .head)) (events p)) (Refusal.Control (queueAt (memoryWords p) (v .pairs) + 2 * v .head))
+
+-- "if word 10 is 0 and the queue isn't empty, the event at head; otherwise the current task"
+unfoldable pub chooseStep : List ℕ → Store → Device → Out
+chooseStep p v d =
+    let e = Body.Event (event v (v .head)) in
+    let t = Body.Task (v .task) in
+    pick (eqb (v .openNumber) 0 and not (empty v))
+    (judged (recordSound p v) d (out none (begun d e (datum v (v .head))) (Answer.Chosen e)))
+    (out none (begun d t 0) (Answer.Chosen t))
+
+-- ---- Step 4. "One instruction runs."
+
+-- The rules that are left for a body at instruction j, with what its instruction does: "a chosen record (7), the body's row (4
+-- ..), the instruction (5), at GO task k's row (4), the rest of 7, then of 25, for these"
+unfoldable pub headSound : List ℕ → Store → Body → Checked
+headSound p v (Body.Task t) = Checked.Accepted
+headSound p v (Body.Event e) = recordSound p v
+
+unfoldable pub namedRow : List ℕ → Effect → Checked
+namedRow p (Effect.Compute a x) = Checked.Accepted
+namedRow p (Effect.Jump k) = Checked.Accepted
+namedRow p (Effect.Read a x) = Checked.Accepted
+namedRow p (Effect.Write x y) = Checked.Accepted
+namedRow p (Effect.EndTask k) = rowUsed p k
+namedRow p Effect.EndEvent = Checked.Accepted
+namedRow p Effect.Unknown = Checked.Accepted
+
+unfoldable pub openSound : List ℕ → Store → Body → Checked
+openSound p v (Body.Task t) = obey (openRule p v)
+openSound p v (Body.Event e) = Checked.Accepted
+
+-- the event of the record at head
+unfoldable pub headIs : Store → Body → Bool
+headIs v (Body.Task t) = true
+headIs v (Body.Event e) = eqb (event v (v .head)) e
+
+unfoldable pub ends : Effect → Bool
+ends (Effect.Compute a x) = false
+ends (Effect.Jump k) = false
+ends (Effect.Read a x) = false
+ends (Effect.Write x y) = false
+ends (Effect.EndTask k) = true
+ends Effect.EndEvent = true
+ends Effect.Unknown = false
+
+unfoldable pub saves : Effect → Bool
+saves (Effect.Compute a x) = false
+saves (Effect.Jump k) = false
+saves (Effect.Read a x) = false
+saves (Effect.Write x y) = true
+saves (Effect.EndTask k) = false
+saves Effect.EndEvent = false
+saves Effect.Unknown = false
+
+-- "a commit begun in phase 0 without a body at GO or DONE; half a SAVE without a SAVE"
+unfoldable pub placeFits : Place → Effect → Bool
+placeFits (Free c) f = true
+placeFits (Run b j c) f = pick (eqb c 0) true (ends f)
+placeFits (Half b j) f = saves f
+
+unfoldable pub bodySound : List ℕ → Store → Place → Body → ℕ → Effect → Checked
+bodySound p v x b j f =
+    let i = number p b in
+    let there = ltb j (instructions p i) in
+    headSound p v b
+    then rowsInside p
+    then rowUsed p i
+    then pick there (instructionRule p i j then namedRow p f) Checked.Accepted
+    then openSound p v b
+    then must (there and headIs v b and placeFits x f) Refusal.State
+
+-- what an address shows: "LOAD takes the log's value for that address, if it has one, else memory's"
+unfoldable pub shown : Store → Found → ℕ → ℕ
+shown v (Found.Pair i) a = value v i
+shown v Found.Nothing a = word (v .memory) a
+
+-- "SAVE to an address in the log overwrites its value in one step; otherwise one step stores the address and the next .. the
+-- value." "24: SAVE to an address not in the log, with L pairs there."
+unfoldable pub saveStep : Store → Device → Body → ℕ → ℕ → ℕ → Found → Out
+saveStep v d b j a x (Found.Pair i) = out (to (Value i) x) (moved d (d .regs) (Run b (j + 1) 0) (d .count)) Answer.Stored
+saveStep v d b j a x Found.Nothing =
+    pick (ltb (d .count) (v .pairs)) (out (to (Address (d .count)) a) (moved d (d .regs) (Half b j) (d .count)) Answer.Stored)
+    (refuse d Refusal.LogFull)
+
+-- body b at instruction j, c stores of its end made. "23: address k + b not below M."
+unfoldable pub act : List ℕ → Store → Device → Body → ℕ → ℕ → Effect → Out
+act p v d b j c (Effect.Compute a x) = out none (moved d (set (d .regs) a x) (Run b (j + 1) 0) (d .count)) Answer.Worked
+act p v d b j c (Effect.Jump k) = out none (moved d (d .regs) (Run b k 0) (d .count)) Answer.Worked
+act p v d b j c (Effect.Read a x) =
+    pick (ltb x (memoryWords p))
+    (out none (moved d (set (d .regs) a (shown v (find (v .log) (d .count) x) x)) (Run b (j + 1) 0) (d .count)) Answer.Worked)
+    (refuse d Refusal.Address)
+act p v d b j c (Effect.Write x y) =
+    pick (ltb x (memoryWords p)) (saveStep v d b j x y (find (v .log) (d .count) x)) (refuse d Refusal.Address)
+act p v d b j c (Effect.EndTask k) =
+    storing (taskStores p (number p b) k (d .count)) c (moved d (d .regs) (Run b j (c + 1)) (d .count)) (Answer.Committed b)
+act p v d b j c Effect.EndEvent =
+    storing (eventStores v (d .count)) c (moved d (d .regs) (Run b j (c + 1)) (d .count)) (Answer.Committed b)
+act p v d b j c Effect.Unknown = refuse d Refusal.State
+
+-- the value of half a SAVE, "without looking again at address or log"
+unfoldable pub saveRest : Device → Body → ℕ → Effect → Out
+saveRest d b j (Effect.Compute a x) = refuse d Refusal.State
+saveRest d b j (Effect.Jump k) = refuse d Refusal.State
+saveRest d b j (Effect.Read a x) = refuse d Refusal.State
+saveRest d b j (Effect.Write x y) = out (to (Value (d .count)) y) (moved d (d .regs) (Run b (j + 1) 0) (d .count + 1)) Answer.Stored
+saveRest d b j (Effect.EndTask k) = refuse d Refusal.State
+saveRest d b j Effect.EndEvent = refuse d Refusal.State
+saveRest d b j Effect.Unknown = refuse d Refusal.State
+
+-- ---- "First that applies"
+
+unfoldable pub placeStep : List ℕ → Store → Device → Place → Out
+placeStep p v d (Free c) = pick (eqb (v .phase) 0) (chooseStep p v d) (copyStep p v d c)
+placeStep p v d (Run b j c) =
+    let f = effectAt p (number p b) j (d .regs) in
+    judged (bodySound p v (Run b j c) b j f) d (act p v d b j c f)
+placeStep p v d (Half b j) =
+    let f = effectAt p (number p b) j (d .regs) in
+    judged (bodySound p v (Half b j) b j f) d (saveRest d b j f)
+
+unfoldable pub nextStep : List ℕ → Store → Device → Handler → Out
+nextStep p v d Resting = placeStep p v d (d .place)
+nextStep p v d (Storing n e x) = handlerStep v d n e x
+
+unfoldable pub step : List ℕ → List ℕ → Device → Out
+step p s d = judged (look p s d) d (nextStep p (view s) d (d .handler))

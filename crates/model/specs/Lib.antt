@@ -1,0 +1,11 @@
+pub mod Types
+pub mod Test
+pub mod Program
+pub mod Check
+pub mod Store
+pub mod Control
+pub mod Device
+pub mod Answer
+pub mod Calls
+pub mod Serial
+pub mod Counting

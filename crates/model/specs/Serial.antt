@@ -1,0 +1,143 @@
+-- Document 01, "The serial run": what the bodies whose commit store was made do without cuts, log or store.
+-- "The serial run has the program and reads the calls with their answers, never the store."
+-- A body that loops has no end, so a body is run for a number of instructions, the fuel; Claims.antt says that the number of
+-- calls suffices, and that more fuel changes nothing. The run stops, `none`, where one of the things claimed with it fails:
+-- "each body run is the answered one and ends, each address below M; at an event a record is there and the open number is 0."
+use Prim.Native.Nat.{ℕ, zero, suc, _+_}
+use mathlib.Core.Bool.{Bool, true, false}
+use mathlib.Core.List.{List, [], _∷_, _++_}
+use mathlib.Core.Option.{Option, none, some}
+use lib.Dec.{ltb, eqb}
+use lib.ListN.{getD, set, replicate}
+use Rattle.model.specs.Calls.{Call, Boot, Step, Cut, Post, Line}
+use Rattle.model.specs.Program.{entry, memoryWords, transaction, instructions, number, effectAt, newOpen, word}
+use Rattle.model.specs.Store.{Record}
+use Rattle.model.specs.Test.{pick, _and_}
+use Rattle.model.specs.Types.{Answer, Body, Effect}
+
+pub record Serial : Type 0 where
+  pub memory : List ℕ
+  pub task : ℕ
+  pub openNumber : ℕ
+  pub records : List Record
+  -- what the latest post with the answer done carried
+  pub posted : Record
+
+-- "It starts with memory 0, the entry task as current task, open number 0 and no records."
+unfoldable pub serialStart : List ℕ → Serial
+serialStart p =
+    record {
+      memory = replicate (memoryWords p) 0;
+      task = entry p;
+      openNumber = 0;
+      records = [];
+      posted = record { event = 0; datum = 0 };
+    }
+
+-- ---- "instructions run from the first, on memory without a log, to DONE or to GO"
+
+-- how a body's run ends: at GO with the task named, at DONE, or not soundly within the fuel
+pub data Walked : Type 0 where
+  went : ℕ → List ℕ → Walked
+  served : List ℕ → Walked
+  lost : Walked
+
+-- one instruction on registers r and memory m, at place j; `go` runs the rest
+unfoldable pub advance : List ℕ → ℕ → List ℕ → List ℕ → (ℕ → List ℕ → List ℕ → Walked) → Effect → Walked
+advance p j r m go (Effect.Compute a x) = go (j + 1) (set r a x) m
+advance p j r m go (Effect.Jump k) = go k r m
+advance p j r m go (Effect.Read a x) = pick (ltb x (memoryWords p)) (go (j + 1) (set r a (word m x)) m) lost
+advance p j r m go (Effect.Write x y) = pick (ltb x (memoryWords p)) (go (j + 1) r (set m x y)) lost
+advance p j r m go (Effect.EndTask k) = went k m
+advance p j r m go Effect.EndEvent = served m
+advance p j r m go Effect.Unknown = lost
+
+-- body i, with this much fuel
+unfoldable pub walk : ℕ → List ℕ → ℕ → ℕ → List ℕ → List ℕ → Walked
+walk zero p i j r m = lost
+walk (suc fuel) p i j r m =
+    pick (ltb j (instructions p i)) (advance p j r m (λ k s n. walk fuel p i k s n) (effectAt p i j r)) lost
+
+-- "Registers are as at choosing"
+unfoldable pub walkBody : ℕ → List ℕ → Body → ℕ → List ℕ → Walked
+walkBody fuel p b x m = walk fuel p (number p b) 0 (x ∷ replicate 7 0) m
+
+-- ---- The run
+
+-- "to GO, which sets current task and open number"
+unfoldable pub afterTask : List ℕ → Serial → Walked → Option Serial
+afterTask p z (went k m) =
+    some
+    (record {
+      memory = m;
+      task = k;
+      openNumber = newOpen (transaction p (z .task)) (transaction p k);
+      records = z .records;
+      posted = z .posted;
+    })
+afterTask p z (served m) = none
+afterTask p z lost = none
+
+unfoldable pub afterEvent : Serial → List Record → Walked → Option Serial
+afterEvent z rest (went k m) = none
+afterEvent z rest (served m) =
+    some (record { memory = m; task = z .task; openNumber = z .openNumber; records = rest; posted = z .posted })
+afterEvent z rest lost = none
+
+-- "for an event that of the oldest record, which goes"
+unfoldable pub serveOldest : ℕ → List ℕ → Serial → ℕ → List Record → Option Serial
+serveOldest fuel p z e [] = none
+serveOldest fuel p z e (oldest ∷ rest) =
+    pick (eqb (oldest .event) e and eqb (z .openNumber) 0)
+    (afterEvent z rest (walkBody fuel p (Body.Event e) (oldest .datum) (z .memory))) none
+
+-- "The answer committed runs a body: for a task the current one"
+unfoldable pub runBody : ℕ → List ℕ → Serial → Body → Option Serial
+runBody fuel p z (Body.Task t) = pick (eqb t (z .task)) (afterTask p z (walkBody fuel p (Body.Task t) 0 (z .memory))) none
+runBody fuel p z (Body.Event e) = serveOldest fuel p z e (z .records)
+
+-- a post that was answered done
+unfoldable pub afterDone : Serial → Call → Serial
+afterDone z Boot = z
+afterDone z Step = z
+afterDone z Cut = z
+afterDone z (Post e x) =
+    record {
+      memory = z .memory;
+      task = z .task;
+      openNumber = z .openNumber;
+      records = z .records;
+      posted = record { event = e; datum = x };
+    }
+
+-- "The answer accepted adds what the latest post with the answer done carried."
+unfoldable pub accept : Serial → Serial
+accept z =
+    record {
+      memory = z .memory;
+      task = z .task;
+      openNumber = z .openNumber;
+      records = z .records ++ z .posted ∷ [];
+      posted = z .posted;
+    }
+
+-- "All else, cuts and refusals too, changes nothing."
+unfoldable pub tell : ℕ → List ℕ → Serial → Call → Answer → Option Serial
+tell fuel p z c Answer.Done = some (afterDone z c)
+tell fuel p z c (Answer.Chosen b) = some z
+tell fuel p z c Answer.Worked = some z
+tell fuel p z c Answer.Stored = some z
+tell fuel p z c (Answer.Committed b) = runBody fuel p z b
+tell fuel p z c Answer.Accepted = some (accept z)
+tell fuel p z c (Answer.Refused r) = some z
+
+unfoldable pub andThen : Option Serial → (Serial → Option Serial) → Option Serial
+andThen none f = none
+andThen (some z) f = f z
+
+unfoldable pub serialFrom : ℕ → List ℕ → Serial → List Line → Option Serial
+serialFrom fuel p z [] = some z
+serialFrom fuel p z (x ∷ xs) = andThen (tell fuel p z (x .called) (x .answered)) (λ y. serialFrom fuel p y xs)
+
+unfoldable pub serial : ℕ → List ℕ → List Line → Option Serial
+serial fuel p xs = serialFrom fuel p (serialStart p) xs

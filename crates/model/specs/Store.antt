@@ -1,0 +1,200 @@
+-- Document 01, "Store words": where the parts of a store lie, what each holds, and what one store to it is; formatting.
+use Prim.Native.Nat.{ℕ, zero, suc, _+_, _-_, _*_}
+use mathlib.Core.Bool.{Bool, true, false}
+use mathlib.Core.List.{List, [], _∷_, _++_}
+use lib.Dec.{ltb, leb, eqb}
+use lib.ListN.{length, take, drop, set, replicate}
+use Rattle.model.specs.Check.{check}
+use Rattle.model.specs.Program.{word, memoryWords, entry}
+use Rattle.model.specs.Test.{pick, _and_, must, _then_}
+use Rattle.model.specs.Types.{Checked, Refusal, Found}
+
+-- ---- "Contents first. Words 0 to 7: mark (hex C0A1), M, log pairs L (1 to 64), queue records Q (1 to 32), then the starts of
+-- control (8), memory (16), log (16 + M), queue (16 + M + 2L). The length is 18 + M + 2L + 2Q, for the ring has Q + 1 slots of
+-- two words (event, data)."
+
+unfoldable pub storeMark : ℕ
+storeMark = 0xC0A1
+
+abbrev pub controlAt : ℕ
+controlAt = 8
+
+abbrev pub memoryAt : ℕ
+memoryAt = 16
+
+abbrev pub logAt : ℕ → ℕ
+logAt m = memoryAt + m
+
+abbrev pub queueAt : ℕ → ℕ → ℕ
+queueAt m l = logAt m + 2 * l
+
+abbrev pub storeLength : ℕ → ℕ → ℕ → ℕ
+storeLength m l q = queueAt m l + 2 * (q + 1)
+
+unfoldable pub storeContents : ℕ → ℕ → ℕ → List ℕ
+storeContents m l q = storeMark ∷ m ∷ l ∷ q ∷ controlAt ∷ memoryAt ∷ logAt m ∷ queueAt m l ∷ []
+
+-- ---- The store by its parts, as a step reads it
+-- "Control: 8 phase (0 running, 1 task commit, 2 event commit); 9 current task; 10 open transaction (0 none); 11 count n; 12
+-- pending next task, or in phase 2 pending head; 13 pending open; 14 head; 15 tail."
+pub record Store : Type 0 where
+  pub pairs : ℕ
+  pub records : ℕ
+  pub phase : ℕ
+  pub task : ℕ
+  pub openNumber : ℕ
+  pub count : ℕ
+  pub pending : ℕ
+  pub pendingOpen : ℕ
+  pub head : ℕ
+  pub tail : ℕ
+  pub memory : List ℕ
+  pub log : List ℕ
+  pub queue : List ℕ
+
+abbrev pub view : List ℕ → Store
+view s =
+    record {
+      pairs = word s 2;
+      records = word s 3;
+      phase = word s 8;
+      task = word s 9;
+      openNumber = word s 10;
+      count = word s 11;
+      pending = word s 12;
+      pendingOpen = word s 13;
+      head = word s 14;
+      tail = word s 15;
+      memory = take (word s 1) (drop memoryAt s);
+      log = take (2 * word s 2) (drop (logAt (word s 1)) s);
+      queue = take (2 * (word s 3 + 1)) (drop (queueAt (word s 1) (word s 2)) s);
+    }
+
+-- a log pair's address and value; a slot's event and data
+abbrev pub address : Store → ℕ → ℕ
+address v j = word (v .log) (2 * j)
+
+abbrev pub value : Store → ℕ → ℕ
+value v j = word (v .log) (2 * j + 1)
+
+abbrev pub event : Store → ℕ → ℕ
+event v x = word (v .queue) (2 * x)
+
+abbrev pub datum : Store → ℕ → ℕ
+datum v x = word (v .queue) (2 * x + 1)
+
+-- ---- "A step makes at most one store": none, or one word with its new value
+pub data Word : Type 0 where
+  Phase Task Open Count Pending PendingOpen Head Tail : Word
+  Memory Address Value Event Datum : ℕ → Word
+
+unfoldable pub index : List ℕ → Word → ℕ
+index s Phase = 8
+index s Task = 9
+index s Open = 10
+index s Count = 11
+index s Pending = 12
+index s PendingOpen = 13
+index s Head = 14
+index s Tail = 15
+index s (Memory a) = memoryAt + a
+index s (Address j) = logAt (word s 1) + 2 * j
+index s (Value j) = logAt (word s 1) + (2 * j + 1)
+index s (Event x) = queueAt (word s 1) (word s 2) + 2 * x
+index s (Datum x) = queueAt (word s 1) (word s 2) + (2 * x + 1)
+
+pub data Write : Type 0 where
+  none : Write
+  to : Word → ℕ → Write
+
+unfoldable pub settled : List ℕ → Write → List ℕ
+settled s none = s
+settled s (to w x) = set s (index s w) x
+
+-- ---- The log: "the search of the log ends with the pair found, or with none". Of k pairs from pair j on, the first with this
+-- address.
+unfoldable pub findFrom : List ℕ → ℕ → ℕ → ℕ → Found
+findFrom log a j zero = Found.Nothing
+findFrom log a j (suc k) = pick (eqb (word log (2 * j)) a) (Found.Pair j) (findFrom log a (suc j) k)
+
+unfoldable pub find : List ℕ → ℕ → ℕ → Found
+find log n a = findFrom log a 0 n
+
+-- ---- The ring: "Empty means head equals tail; full means the slot after tail is head."
+
+-- the slot after x, of the slots 0 to q
+unfoldable pub after : ℕ → ℕ → ℕ
+after q x = pick (eqb x q) 0 (x + 1)
+
+abbrev pub empty : Store → Bool
+empty v = eqb (v .head) (v .tail)
+
+abbrev pub full : Store → Bool
+full v = eqb (after (v .records) (v .tail)) (v .head)
+
+-- "The waiting records run to tail from head, in phase 2 from word 12."
+unfoldable pub firstWaiting : Store → ℕ
+firstWaiting v = pick (eqb (v .phase) 2) (v .pending) (v .head)
+
+-- how many slots lie from h up to t, of the slots 0 to q
+unfoldable pub distance : ℕ → ℕ → ℕ → ℕ
+distance q h t = pick (leb h t) (t - h) (t + (q + 1) - h)
+
+pub record Record : Type 0 where
+  pub event : ℕ
+  pub datum : ℕ
+
+unfoldable pub slot : List ℕ → ℕ → Record
+slot queue x = record { event = word queue (2 * x); datum = word queue (2 * x + 1) }
+
+-- k records from slot x on
+unfoldable pub recordsFrom : List ℕ → ℕ → ℕ → ℕ → List Record
+recordsFrom queue q x zero = []
+recordsFrom queue q x (suc k) = slot queue x ∷ recordsFrom queue q (after q x) k
+
+unfoldable pub waiting : Store → List Record
+waiting v =
+    let h = firstWaiting v in
+    recordsFrom (v .queue) (v .records) h (distance (v .records) h (v .tail))
+
+-- ---- "Formatting sets the contents, word 9 to the entry task and all else to 0."
+
+unfoldable pub formatted : List ℕ → ℕ → ℕ → List ℕ
+formatted p l q =
+    let m = memoryWords p in
+    storeContents m l q ++ 0 ∷ entry p ∷ replicate (storeLength m l q - 10) 0
+
+-- "9: L or Q outside limits, when formatting."
+unfoldable pub sizesRule : ℕ → ℕ → Bool
+sizesRule l q = leb 1 l and leb l 64 and leb 1 q and leb q 32
+
+-- "format 1 to 5, 9, 6 (only the length)"
+unfoldable pub formatCheck : List ℕ → ℕ → ℕ → List ℕ → Checked
+formatCheck p l q s =
+    check p
+    then must (sizesRule l q) Refusal.Sizes
+    then must (eqb (length s) (storeLength (memoryWords p) l q)) Refusal.StoreContents
+
+-- the store after the call
+unfoldable pub formatStore : Checked → List ℕ → List ℕ → List ℕ
+formatStore Checked.Accepted s new = new
+formatStore (Checked.Refused r) s new = s
+
+unfoldable pub format : List ℕ → ℕ → ℕ → List ℕ → List ℕ
+format p l q s = formatStore (formatCheck p l q s) s (formatted p l q)
+
+-- "6: store contents or length wrong, or M unlike the program's."
+unfoldable pub storeRule : List ℕ → List ℕ → Checked
+storeRule p s =
+    let m = memoryWords p in
+    let l = word s 2 in
+    let q = word s 3 in
+    must (leb 8 (length s)) Refusal.StoreContents
+    then must (eqb (word s 0) storeMark) Refusal.StoreContents
+    then must (eqb (word s 1) m) Refusal.StoreContents
+    then must (sizesRule l q) Refusal.StoreContents
+    then must (eqb (word s 4) controlAt) Refusal.StoreContents
+    then must (eqb (word s 5) memoryAt) Refusal.StoreContents
+    then must (eqb (word s 6) (logAt m)) Refusal.StoreContents
+    then must (eqb (word s 7) (queueAt m l)) Refusal.StoreContents
+    then must (eqb (length s) (storeLength m l q)) Refusal.StoreContents

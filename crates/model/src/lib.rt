@@ -1,0 +1,146 @@
+// The types of the runtime. What they mean is said in specs/, beside the sentences of document 01.
+// There is no code here: the crates above have it, each function with a contract that cites specs/.
+
+// What a step runs: a task or an event, with its own number.
+pub enum Body {
+    Task(u16),
+    Event(u16),
+}
+
+// A store that a handler makes next.
+pub enum Next {
+    Event,
+    Data,
+    Tail,
+}
+
+// The handler of an interrupt: at rest, or at work on an event with its data.
+pub enum Handler {
+    Resting,
+    Storing(Next, u16, u16),
+}
+
+// Where the device stands.
+pub enum Place {
+    // No body runs. In phases 1 and 2: how many of the stores that follow the commit store are made.
+    Free(u16),
+    // A body at an instruction. At GO and DONE: how many of the commit's first stores are made.
+    Run(Body, u16, u16),
+    // A body at a SAVE whose address is stored and whose value is not.
+    Half(Body, u16),
+}
+
+// The device state, which a cut loses.
+pub struct Device {
+    pub on: bool,
+    pub regs: [u16; 8],
+    pub place: Place,
+    pub count: u16,
+    pub handler: Handler,
+}
+
+impl Device {
+    // The state after a cut.
+    pub const OFF: Device = Device {
+        on: false,
+        regs: [0; 8],
+        place: Place::Free(0),
+        count: 0,
+        handler: Handler::Resting,
+    };
+}
+
+// Why a call is refused. specs/Answer.antt has each case's number and place.
+pub enum Refusal {
+    ProgramLength,
+    ProgramMark,
+    ProgramSize(u16),
+    Row(u16),
+    Code(u16, u16),
+    StoreContents,
+    Control(u16),
+    NoEvent,
+    Sizes,
+    HandlerBusy,
+    QueueFull,
+    PowerOff,
+    Address,
+    LogFull,
+    State,
+    PowerOn,
+}
+
+// What a check finds.
+pub enum Checked {
+    Accepted,
+    Refused(Refusal),
+}
+
+// What a call answers.
+pub enum Answer {
+    Done,
+    Chosen(Body),
+    Worked,
+    Stored,
+    Committed(Body),
+    Accepted,
+    Refused(Refusal),
+}
+
+// An instruction, by its opcode, with the fields that it uses.
+pub enum Instruction {
+    Set(u16, u16),
+    Move(u16, u16),
+    Add(u16, u16),
+    Sub(u16, u16),
+    And(u16, u16),
+    Or(u16, u16),
+    Xor(u16, u16),
+    Shift(u16, u16),
+    Load(u16, u16),
+    Save(u16, u16),
+    LoadX(u16, u16, u16),
+    SaveX(u16, u16, u16),
+    Jump(u16),
+    JumpZero(u16, u16),
+    JumpLess(u16, u16, u16),
+    Go(u16),
+    Done,
+    Unknown,
+}
+
+// What an instruction does, memory and log aside. An address is k + b as a whole number.
+pub enum Effect {
+    // A register becomes a value.
+    Compute(u16, u16),
+    // The body goes on at an instruction.
+    Jump(u16),
+    // A register gets what an address shows.
+    Read(u16, u32),
+    // An address gets a value.
+    Write(u32, u16),
+    // The task ends, and names the next.
+    EndTask(u16),
+    // The event ends.
+    EndEvent,
+    Unknown,
+}
+
+// What the search of the log ends with.
+pub enum Found {
+    Pair(u16),
+    Nothing,
+}
+
+// The host's totals: bodies committed, events accepted, stores made.
+pub struct Totals {
+    pub committed: u32,
+    pub accepted: u32,
+    pub stores: u32,
+}
+
+// How a run ends.
+pub enum Ended {
+    Spent,
+    Refused(Refusal),
+}
