@@ -1,1 +1,6 @@
+pub mod TestLaws
+pub mod ProgramLaws
+pub mod RingLaws
+pub mod LogLaws
+pub mod StoreLaws
 pub mod Starred

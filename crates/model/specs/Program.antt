@@ -80,10 +80,9 @@ abbrev pub operand : List ℕ → ℕ → ℕ → ℕ
 operand p i j = word p (start p i + 2 * j + 1)
 
 -- The opcode table, its columns "opcode" and "uses". "Opcodes 17 to 255 are refused."
-unfoldable pub decode : ℕ → ℕ → ℕ → ℕ → Instruction
-decode op a b k =
-    getD
-    (Instruction.Set a k
+abbrev pub instructionTable : ℕ → ℕ → ℕ → List Instruction
+instructionTable a b k =
+    Instruction.Set a k
     ∷ Instruction.Move a b
     ∷ Instruction.Add a b
     ∷ Instruction.Sub a b
@@ -100,8 +99,10 @@ decode op a b k =
     ∷ Instruction.JumpLess a b k
     ∷ Instruction.Go k
     ∷ Instruction.Done
-    ∷ []) op
-    Instruction.Unknown
+    ∷ []
+
+unfoldable pub decode : ℕ → ℕ → ℕ → ℕ → Instruction
+decode op a b k = getD (instructionTable a b k) op Instruction.Unknown
 
 -- What each field is below: 8 for a register, 1 where the field is unused and so 0. "A jump's k is below its body's count, GO's
 -- below T"; "k 0 to 15"; "k below M"; "GO stands only in tasks, DONE only in events": in the other kind no k will do.
@@ -114,27 +115,29 @@ abbrev below : ℕ → ℕ → ℕ → Bounds
 below a b k = record { a = a; b = b; k = k }
 
 -- by opcode, for a program of m memory words and t tasks and a body of n instructions
+abbrev pub boundsTable : (m t n : ℕ) (isTask : Bool) → List Bounds
+boundsTable m t n isTask =
+    below 8 1 65536 -- SET
+    ∷ below 8 8 1 -- MOV
+    ∷ below 8 8 1 -- ADD
+    ∷ below 8 8 1 -- SUB
+    ∷ below 8 8 1 -- AND
+    ∷ below 8 8 1 -- OR
+    ∷ below 8 8 1 -- XOR
+    ∷ below 8 1 16 -- SHR
+    ∷ below 8 1 m -- LOAD
+    ∷ below 8 1 m -- SAVE
+    ∷ below 8 8 m -- LOADX
+    ∷ below 8 8 m -- SAVEX
+    ∷ below 1 1 n -- JUMP
+    ∷ below 8 1 n -- JZ
+    ∷ below 8 8 n -- JLT
+    ∷ below 1 1 (pick isTask t 0) -- GO
+    ∷ below 1 1 (pick isTask 0 1) -- DONE
+    ∷ []
+
 unfoldable pub bounds : (m t n : ℕ) (isTask : Bool) → ℕ → Bounds
-bounds m t n isTask op =
-    getD
-    (below 8 1 65536  -- SET
-    ∷ below 8 8 1  -- MOV
-    ∷ below 8 8 1  -- ADD
-    ∷ below 8 8 1  -- SUB
-    ∷ below 8 8 1  -- AND
-    ∷ below 8 8 1  -- OR
-    ∷ below 8 8 1  -- XOR
-    ∷ below 8 1 16  -- SHR
-    ∷ below 8 1 m  -- LOAD
-    ∷ below 8 1 m  -- SAVE
-    ∷ below 8 8 m  -- LOADX
-    ∷ below 8 8 m  -- SAVEX
-    ∷ below 1 1 n  -- JUMP
-    ∷ below 8 1 n  -- JZ
-    ∷ below 8 8 n  -- JLT
-    ∷ below 1 1 (pick isTask t 0)  -- GO
-    ∷ below 1 1 (pick isTask 0 1)  -- DONE
-    ∷ []) op (below 0 0 0)
+bounds m t n isTask op = getD (boundsTable m t n isTask) op (below 0 0 0)
 
 -- "A body's last instruction is JUMP, GO or DONE."
 unfoldable pub mayBeLast : ℕ → Bool
