@@ -3,4 +3,7 @@ pub mod ProgramLaws
 pub mod RingLaws
 pub mod LogLaws
 pub mod StoreLaws
+pub mod Invariant
+pub mod Kept
+pub mod KeptBody
 pub mod Starred

@@ -11,7 +11,7 @@ use lib.Dec.{ltb, leb, eqb}
 use lib.ListN.{set, getD}
 use lib.Seq.{getD-set-other}
 use borrow.Author.Tests.{ltb-true, ltb-false, leb-true, leb-false, eqb-true, eqb-false, eq-eqb, ne-eqb, le-leb, lt-leb, lt-ltb, le-ltb}
-use Rattle.model.proofs.TestLaws.{pick-case, pick-true, pick-false, clash}
+use Rattle.model.proofs.TestLaws.{pick-case, pick-true, pick-false, clash, same-or}
 use Rattle.model.specs.Control.{between}
 use Rattle.model.specs.Store.{after, distance, slot, recordsFrom, Record}
 use Rattle.model.specs.Test.{pick, _and_, _or_}
@@ -19,7 +19,7 @@ use Rattle.model.specs.Test.{pick, _and_, _or_}
 -- ---- what the definitions say, in plain arithmetic
 
 -- y is the slot after x
-abbrev After : ℕ → ℕ → ℕ → Type 0
+abbrev pub After : ℕ → ℕ → ℕ → Type 0
 After q x y = ((x ≡ q) × (y ≡ 0)) ⊎ ((x ≢ q) × (y ≡ x + 1))
 
 pub after-is : (q x : ℕ) → After q x (after q x)
@@ -27,7 +27,7 @@ unfolding after
 after-is q x = pick-case (λ (y : ℕ). After q x y) (λ e. inl (eqb-true _ _ e, refl)) (λ e. inr (eqb-false _ _ e, refl))
 
 -- n slots lie from h up to t
-abbrev Distance : ℕ → ℕ → ℕ → ℕ → Type 0
+abbrev pub Distance : ℕ → ℕ → ℕ → ℕ → Type 0
 Distance q h t n = ((h ≤ t) × (n + h ≡ t)) ⊎ ((t < h) × (n + h ≡ t + (q + 1)))
 
 pub distance-is : (q h t : ℕ) → h ≤ q → Distance q h t (distance q h t)
@@ -108,6 +108,12 @@ records-tail queue q t (suc k) h l m e =
     (records-tail queue q t k (after q h) (after-le q h l) m
     (let f : suc (distance q (after q h) t) ≡ suc k = sym (distance-head q h t l m (distance-some q h t k l m e)) ∙ e in omega arith))
 
+-- a new head takes the first record away
+pub records-head : (queue : List ℕ) (q h t : ℕ) → h ≤ q → t ≤ q → h ≢ t
+    → recordsFrom queue q h (distance q h t) ≡ slot queue h ∷ recordsFrom queue q (after q h) (distance q (after q h) t)
+unfolding recordsFrom
+records-head queue q h t l m ne = rw (distance-head q h t l m ne)
+
 -- a store to the tail's slot changes no record from head up to it
 pub records-free : (queue : List ℕ) (q t y x k h : ℕ) → h ≤ q → t ≤ q → distance q h t ≡ k → (y ≡ 2 * t) ⊎ (y ≡ 2 * t + 1)
     → recordsFrom (set queue y x) q h k ≡ recordsFrom queue q h k
@@ -128,7 +134,7 @@ records-free queue q t y x (suc k) h l m e at =
 
 -- ---- the slots between head and tail
 
-abbrev Between : ℕ → ℕ → ℕ → Type 0
+abbrev pub Between : ℕ → ℕ → ℕ → Type 0
 Between h t x = ((h ≤ t) × ((h ≤ x) × (x < t))) ⊎ ((t < h) × ((h ≤ x) ⊎ (x < t)))
 
 pub between-is : (h t x : ℕ) → between h t x ≡ true → Between h t x
@@ -155,3 +161,30 @@ pub between-free : (h t x : ℕ) → Between h t x → x ≢ t
 between-free h t x (inl b) = omega arith
 between-free h t x (inr (l, inl b)) = omega arith
 between-free h t x (inr (l, inr b)) = omega arith
+
+-- a new tail: its old slot waits too
+pub between-tail : (q h t x : ℕ) → h ≤ q → t ≤ q → x ≤ q → after q t ≢ h → Between h (after q t) x → Between h t x ⊎ (x ≡ t)
+between-tail q h t x l m n ne b = same-or x t inr (λ d. inl (go (after q t) (after-is q t) ne b (leb h t) refl d))
+  where
+    go : (a : ℕ) → After q t a → a ≢ h → Between h a x → (c : Bool) → leb h t ≡ c → x ≢ t → Between h t x
+    go a (inl s) ne (inl b) c e d = absurd (omega arith)
+    go a (inr s) ne (inl b) true e d = inl (leb-true _ _ e, (omega arith, omega arith))
+    go a (inr s) ne (inl b) false e d = let k : t < h = leb-false _ _ e in absurd (omega arith)
+    go a (inl s) ne (inr (y, inl b)) c e d = inl (omega arith, (omega arith, omega arith))
+    go a (inr s) ne (inr (y, inl b)) c e d = inr (omega arith, inl (omega arith))
+    go a (inl s) ne (inr (y, inr b)) c e d = absurd (omega arith)
+    go a (inr s) ne (inr (y, inr b)) c e d = inr (omega arith, inr (omega arith))
+
+-- a new head: what waits then waits now
+pub between-head : (q h t x : ℕ) → h ≤ q → t ≤ q → x ≤ q → h ≢ t → Between (after q h) t x → Between h t x
+between-head q h t x l m n ne b = go (after q h) (after-is q h) b (leb h t) refl
+  where
+    go : (a : ℕ) → After q h a → Between a t x → (c : Bool) → leb h t ≡ c → Between h t x
+    go a (inl s) (inl b) c e = inr (omega arith, inr (omega arith))
+    go a (inr s) (inl b) true e = inl (leb-true _ _ e, (omega arith, omega arith))
+    go a (inr s) (inl b) false e = let k : t < h = leb-false _ _ e in absurd (omega arith)
+    go a (inl s) (inr (y, w)) c e = absurd (omega arith)
+    go a (inr s) (inr (y, inl b)) true e = let k : h ≤ t = leb-true _ _ e in absurd (omega arith)
+    go a (inr s) (inr (y, inr b)) true e = let k : h ≤ t = leb-true _ _ e in absurd (omega arith)
+    go a (inr s) (inr (y, inl b)) false e = inr (leb-false _ _ e, inl (omega arith))
+    go a (inr s) (inr (y, inr b)) false e = inr (leb-false _ _ e, inr (omega arith))

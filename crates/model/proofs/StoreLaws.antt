@@ -34,12 +34,12 @@ viewAt m l q s =
     }
 
 -- a store from its parts, in the order of the record
-abbrev parts : ℕ → ℕ → ℕ → ℕ → ℕ → ℕ → ℕ → ℕ → ℕ → ℕ → List ℕ → List ℕ → List ℕ → Store
+abbrev pub parts : ℕ → ℕ → ℕ → ℕ → ℕ → ℕ → ℕ → ℕ → ℕ → ℕ → List ℕ → List ℕ → List ℕ → Store
 parts l q ph ta op n pe po h t m lo qu =
     record { pairs = l; records = q; phase = ph; task = ta; openNumber = op; count = n; pending = pe; pendingOpen = po; head = h; tail = t; memory = m; log = lo; queue = qu }
 
 -- the parts after one store
-pub apply : Store → Write → Store
+unfoldable pub apply : Store → Write → Store
 apply v none = v
 apply v (to Phase x) = parts (v .pairs) (v .records) x (v .task) (v .openNumber) (v .count) (v .pending) (v .pendingOpen) (v .head) (v .tail) (v .memory) (v .log) (v .queue)
 apply v (to Task x) = parts (v .pairs) (v .records) (v .phase) x (v .openNumber) (v .count) (v .pending) (v .pendingOpen) (v .head) (v .tail) (v .memory) (v .log) (v .queue)

@@ -1,0 +1,167 @@
+-- What holds of store, device and serial run after every call. Each predicate is a record over just the parts that it speaks of, so
+-- that a proof of it stands as it is after a store to another part. Assumes nothing.
+use Prim.Native.Nat.{ℕ, zero, suc, _+_, _-_, _*_, _≤_, _<_, min}
+use mathlib.Core.Path.{_≡_, refl, sym, ap, _∙_}
+use mathlib.Core.Logic.{_⊎_, inl, inr, _≢_}
+use mathlib.Core.Bool.{Bool, true, false, not}
+use mathlib.Core.List.{List, [], _∷_, _++_}
+use lib.ListN.{length, set, replicate}
+use Rattle.model.proofs.LogLaws.{addr, val, overlay, Distinct}
+use Rattle.model.proofs.RingLaws.{Between}
+use Rattle.model.specs.Device.{off}
+use Rattle.model.specs.Program.{word, tasks, events, memoryWords, instructions, transaction, number, effectAt, newOpen}
+use Rattle.model.specs.Serial.{Serial, Walked, walk}
+use Rattle.model.specs.Store.{Store, Record, after, firstWaiting, waiting, recordsFrom, distance}
+use Rattle.model.specs.Types.{Answer, Body, Device, Effect, Free, Half, Handler, Next, Place, Resting, Run, Storing}
+
+-- the parts have their lengths
+pub record Lengths (p : List ℕ) (v : Store) : Type 0 where
+  pub memory-length : length (v .memory) ≡ memoryWords p
+  pub log-length : length (v .log) ≡ 2 * v .pairs
+  pub queue-length : length (v .queue) ≡ 2 * (v .records + 1)
+
+-- the serial run's task and open number are a task's
+pub record Tasked (p : List ℕ) (task open′ : ℕ) : Type 0 where
+  pub task-in : task < tasks p
+  pub open-in : (open′ ≡ 0) ⊎ (open′ ≡ transaction p task)
+
+-- the waiting records, from slot f up to slot t of the slots 0 to q, are the serial run's
+pub record Waiting (p : List ℕ) (queue : List ℕ) (q f t : ℕ) (records : List Record) : Type 0 where
+  pub first-in : f ≤ q
+  pub tail-in : t ≤ q
+  pub same : recordsFrom queue q f (distance q f t) ≡ records
+  pub known : (x : ℕ) → x ≤ q → Between f t x → word queue (2 * x) < events p
+
+-- the handler's event waits for its tail store; what it has stored stands in the tail's slot
+abbrev pub SoFar : List ℕ → ℕ → ℕ → ℕ → Next → Type 0
+SoFar queue t e x Next.Event = Unit {0}
+SoFar queue t e x Next.Data = word queue (2 * t) ≡ e
+SoFar queue t e x Next.Tail = (word queue (2 * t) ≡ e) × (word queue (2 * t + 1) ≡ x)
+
+pub record AtWork (p : List ℕ) (queue : List ℕ) (q h t : ℕ) (posted : Record) (n : Next) (e x : ℕ) : Type 0 where
+  pub event-in : e < events p
+  pub room : after q t ≢ h
+  pub posted-is : posted ≡ record { event = e; datum = x }
+  pub so-far : SoFar queue t e x n
+
+abbrev pub Handles : List ℕ → List ℕ → ℕ → ℕ → ℕ → Record → Handler → Type 0
+Handles p queue q h t posted Resting = Unit {0}
+Handles p queue q h t posted (Storing n e x) = AtWork p queue q h t posted n e x
+
+-- ---- phase 0: the store is as the serial run has it, with memory m, current task y and open number o
+
+pub record Still (phase task open′ : ℕ) (memory : List ℕ) (y o : ℕ) (m : List ℕ) : Type 0 where
+  pub phase-is : phase ≡ 0
+  pub memory-is : memory ≡ m
+  pub task-is : task ≡ y
+  pub open-is : open′ ≡ o
+
+-- ---- phases 1 and 2: the log's first n pairs laid over memory give what the serial run has; c stores are made, and min c n pairs
+-- are copied onto what memory held at the commit store or at the last boot
+
+pub record Copying (p : List ℕ) (l n c : ℕ) (memory log m : List ℕ) : Type 0 where
+  pub count-in : n ≤ l
+  pub addresses : (j : ℕ) → j < n → addr log j < memoryWords p
+  pub base : List ℕ
+  pub copied : memory ≡ overlay base log (min c n)
+  pub whole : overlay base log n ≡ m
+
+-- words 8, 9, 10, 12 and 13
+pub record TaskCommit (p : List ℕ) (phase task open′ n pending pendingOpen c y o : ℕ) : Type 0 where
+  pub phase-is : phase ≡ 1
+  pub task-in : task < tasks p
+  pub pending-is : pending ≡ y
+  pub pendingOpen-is : pendingOpen ≡ o
+  pub place : c < n + 3
+  pub task-done : n < c → task ≡ pending
+  pub open-done : n + 1 < c → open′ ≡ pendingOpen
+
+-- words 8, 9, 10, 12 and 14
+pub record EventCommit (phase task open′ n pending q h t c y o : ℕ) : Type 0 where
+  pub phase-is : phase ≡ 2
+  pub task-is : task ≡ y
+  pub open-is : open′ ≡ o
+  pub open-none : open′ ≡ 0
+  pub pending-is : (pending ≡ h) ⊎ ((pending ≡ after q h) × (h ≢ t))
+  pub place : c < n + 2
+  pub head-done : n < c → h ≡ pending
+
+-- ---- a body runs in phase 0
+
+-- it is word 9's task, or the event of the record at head with word 10 at 0; its register 0 was x at choosing
+abbrev pub Mine : ℕ → ℕ → ℕ → ℕ → List ℕ → ℕ → Body → Type 0
+Mine task open′ h t queue x (Body.Task n) = (n ≡ task) × (x ≡ 0)
+Mine task open′ h t queue x (Body.Event e) = (open′ ≡ 0) × ((h ≢ t) × ((word queue (2 * h) ≡ e) × (word queue (2 * h + 1) ≡ x)))
+
+-- at instruction j with registers r and l log pairs; k bounds the instructions that it has run
+pub record Running (p : List ℕ) (memory log m : List ℕ) (k : ℕ) (b : Body) (x j : ℕ) (r : List ℕ) (l : ℕ) : Type 0 where
+  pub body-in : number p b < tasks p + events p
+  pub place-in : j < instructions p (number p b)
+  pub addresses : (i : ℕ) → i < l → addr log i < memoryWords p
+  pub distinct : Distinct log l
+  -- so many instructions without a log lead from choosing to here
+  pub ran : ℕ
+  pub ran-in : ran ≤ k
+  pub same : (f : ℕ) → walk (ran + f) p (number p b) 0 (x ∷ replicate 7 0) m ≡ walk f p (number p b) j r (overlay memory log l)
+
+-- c stores of the commit are made at GO or DONE
+abbrev pub Ending : List ℕ → ℕ → ℕ → ℕ → ℕ → ℕ → ℕ → Body → ℕ → Effect → Type 0
+Ending p n pending pendingOpen q h l b c (Effect.Compute a x) = c ≡ 0
+Ending p n pending pendingOpen q h l b c (Effect.Jump k) = c ≡ 0
+Ending p n pending pendingOpen q h l b c (Effect.Read a x) = c ≡ 0
+Ending p n pending pendingOpen q h l b c (Effect.Write x y) = c ≡ 0
+Ending p n pending pendingOpen q h l b c (Effect.EndTask k) =
+    (c < 4) × ((0 < c → n ≡ l) × ((1 < c → pending ≡ k) × (2 < c → pendingOpen ≡ newOpen (transaction p (number p b)) (transaction p k))))
+Ending p n pending pendingOpen q h l b c Effect.EndEvent = (c < 3) × ((0 < c → n ≡ l) × (1 < c → pending ≡ after q h))
+Ending p n pending pendingOpen q h l b c Effect.Unknown = ⊥
+
+-- the address of a SAVE is stored behind l pairs that haven't it
+abbrev pub HalfSaved : List ℕ → List ℕ → ℕ → ℕ → Effect → Type 0
+HalfSaved p log pairs l (Effect.Compute a x) = ⊥
+HalfSaved p log pairs l (Effect.Jump k) = ⊥
+HalfSaved p log pairs l (Effect.Read a x) = ⊥
+HalfSaved p log pairs l (Effect.Write x y) = (x < memoryWords p) × ((l < pairs) × ((addr log l ≡ x) × ((i : ℕ) → i < l → addr log i ≢ x)))
+HalfSaved p log pairs l (Effect.EndTask k) = ⊥
+HalfSaved p log pairs l Effect.EndEvent = ⊥
+HalfSaved p log pairs l Effect.Unknown = ⊥
+
+-- ---- the whole, for the store v, the device d and the serial state z after k calls
+
+abbrev pub StillAt : Store → Serial → Type 0
+StillAt v z = Still (v .phase) (v .task) (v .openNumber) (v .memory) (z .task) (z .openNumber) (z .memory)
+
+abbrev pub CopyingAt : List ℕ → Store → Serial → ℕ → Type 0
+CopyingAt p v z c = Copying p (v .pairs) (v .count) c (v .memory) (v .log) (z .memory)
+
+abbrev pub TaskCommitAt : List ℕ → Store → Serial → ℕ → Type 0
+TaskCommitAt p v z c =
+    TaskCommit p (v .phase) (v .task) (v .openNumber) (v .count) (v .pending) (v .pendingOpen) c (z .task) (z .openNumber)
+
+abbrev pub EventCommitAt : Store → Serial → ℕ → Type 0
+EventCommitAt v z c =
+    EventCommit (v .phase) (v .task) (v .openNumber) (v .count) (v .pending) (v .records) (v .head) (v .tail) c (z .task) (z .openNumber)
+
+abbrev pub BodyAt : List ℕ → Store → Device → Serial → ℕ → Body → ℕ → Type 0
+BodyAt p v d z k b j =
+    StillAt v z
+    × ((x : ℕ)
+    × Mine (v .task) (v .openNumber) (v .head) (v .tail) (v .queue) x b
+    × Running p (v .memory) (v .log) (z .memory) k b x j (d .regs) (d .count))
+
+abbrev pub EndingAt : List ℕ → Store → Device → Body → ℕ → Effect → Type 0
+EndingAt p v d b c f = Ending p (v .count) (v .pending) (v .pendingOpen) (v .records) (v .head) (d .count) b c f
+
+abbrev pub Placed : List ℕ → Store → Device → Serial → ℕ → Place → Type 0
+Placed p v d z k (Free c) =
+    (StillAt v z × (c ≡ 0)) ⊎ (CopyingAt p v z c × (TaskCommitAt p v z c ⊎ EventCommitAt v z c))
+Placed p v d z k (Run b j c) = BodyAt p v d z k b j × EndingAt p v d b c (effectAt p (number p b) j (d .regs))
+Placed p v d z k (Half b j) = BodyAt p v d z k b j × HalfSaved p (v .log) (v .pairs) (d .count) (effectAt p (number p b) j (d .regs))
+
+pub record Inv (p : List ℕ) (v : Store) (d : Device) (z : Serial) (k : ℕ) : Type 0 where
+  pub tasked : Tasked p (z .task) (z .openNumber)
+  pub head-in : v .head ≤ v .records
+  pub waits : Waiting p (v .queue) (v .records) (firstWaiting v) (v .tail) (z .records)
+  pub handles : Handles p (v .queue) (v .records) (v .head) (v .tail) (z .posted) (d .handler)
+  pub off-is : d .on ≡ false → d ≡ off
+  pub count-in : d .count ≤ v .pairs
+  pub placed : Placed p v d z k (d .place)
