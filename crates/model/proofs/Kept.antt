@@ -16,6 +16,7 @@ use Rattle.model.proofs.RingLaws.{Between, after-le, after-injective, d
 use Rattle.model.proofs.StoreLaws.{apply, Inside}
 use Rattle.model.proofs.TestLaws.{pick-case, pick-true, pick-false, clash, same-or, below-or, must-true}
 use Rattle.model.specs.Answer.{refusal}
+use Rattle.model.specs.Claims.{Expected}
 use Rattle.model.specs.Calls.{Call, Boot, Step, Cut, Post}
 use Rattle.model.specs.Device.{Out, out, refuse, judged, off, fresh, handled, moved, handlerStep, storing, lastStores, pairSound, copyStep}
 use Rattle.model.specs.Program.{word, tasks, events, memoryWords, instructions, transaction, number, effectAt, newOpen}
@@ -33,6 +34,7 @@ pub record Kept (p : List ℕ) (v : Store) (z : Serial) (k : ℕ) (c : Call) (o 
   pub inside : InsideOf p v (o .write)
   pub after : Serial
   pub tells : (fuel : ℕ) → k < fuel → tell fuel p z c (o .answer) ≡ some after
+  pub expected : Expected c (o .answer)
   pub inv : Inv p (apply v (o .write)) (o .device) after (suc k)
 
 -- ---- one call later
@@ -67,9 +69,9 @@ inv-later p v d z k i =
     }
 
 -- a refused call
-pub refused-kept : (p : List ℕ) (v : Store) (d : Device) (z : Serial) (k : ℕ) (c : Call) (r : Refusal) → Inv p v d z k → Kept p v z k c (refuse d r)
+pub refused-kept : (p : List ℕ) (v : Store) (d : Device) (z : Serial) (k : ℕ) (c : Call) (r : Refusal) → Expected c (Answer.Refused r) → Inv p v d z k → Kept p v z k c (refuse d r)
 unfolding tell apply
-refused-kept p v d z k c r i = record { inside = tt; after = z; tells = λ fuel l. refl; inv = inv-later p v d z k i }
+refused-kept p v d z k c r e i = record { inside = tt; after = z; tells = λ fuel l. refl; expected = e; inv = inv-later p v d z k i }
 
 -- ---- where the waiting records start
 
@@ -104,7 +106,7 @@ module _ (p : List ℕ) (v : Store) (d : Device) (z : Serial) (k : ℕ) (i : Inv
 
 -- ---- the handler: only the queue and its tail change
 
-abbrev requeued : Store → List ℕ → ℕ → Store
+abbrev pub requeued : Store → List ℕ → ℕ → Store
 requeued v queue t =
     record {
       pairs = v .pairs;
@@ -123,14 +125,14 @@ requeued v queue t =
     }
 
 -- other records and another latest post
-abbrev queued : Serial → List Record → Record → Serial
+abbrev pub queued : Serial → List Record → Record → Serial
 queued z rs x = record { memory = z .memory; task = z .task; openNumber = z .openNumber; records = rs; posted = x }
 
 module _ (p : List ℕ) (v : Store) (d : Device) (z : Serial) (k : ℕ) (queue : List ℕ) (t : ℕ) where
-  abbrev MineStays : Type 0
+  abbrev pub MineStays : Type 0
   MineStays = (b : Body) (x : ℕ) → Mine (v .task) (v .openNumber) (v .head) (v .tail) (v .queue) x b → Mine (v .task) (v .openNumber) (v .head) t queue x b
 
-  placed-requeued : (h : Handler) (rs : List Record) (y : Record) → MineStays → (v .head ≢ v .tail → v .head ≢ t) → (x : Place)
+  pub placed-requeued : (h : Handler) (rs : List Record) (y : Record) → MineStays → (v .head ≢ v .tail → v .head ≢ t) → (x : Place)
       → Placed p v d z k x → Placed p (requeued v queue t) (handled d h) (queued z rs y) (suc k) x
   unfolding handled
   placed-requeued h rs y f g (Free c) (inl s) = inl s
@@ -224,13 +226,14 @@ module _ (p : List ℕ) (v : Store) (lengths : Lengths p v) (d : Device) (on : d
       mine (Body.Task n) y m = m
       mine (Body.Event n) y (o, (ne, m)) = (o, (λ f. a .room (sym f), m))
 
-  handler-kept : (n : Next) (e x : ℕ) → AtWork p (v .queue) (v .records) (v .head) (v .tail) (z .posted) n e x → Kept p v z k Step (handlerStep v d n e x)
+  pub handler-kept : (n : Next) (e x : ℕ) → AtWork p (v .queue) (v .records) (v .head) (v .tail) (z .posted) n e x → Kept p v z k Step (handlerStep v d n e x)
   unfolding handlerStep apply tell
   handler-kept Next.Event e x a =
       record {
         inside = i .waits .tail-in;
         after = z;
         tells = λ fuel l. refl;
+        expected = tt;
         inv =
             stored-free p v lengths d on z k i (2 * v .tail) e (inl refl) (Storing Next.Data e x)
             (record {
@@ -245,6 +248,7 @@ module _ (p : List ℕ) (v : Store) (lengths : Lengths p v) (d : Device) (on : d
         inside = i .waits .tail-in;
         after = z;
         tells = λ fuel l. refl;
+        expected = tt;
         inv =
             stored-free p v lengths d on z k i (2 * v .tail + 1) x (inr refl) (Storing Next.Tail e x)
             (record {
@@ -256,7 +260,7 @@ module _ (p : List ℕ) (v : Store) (lengths : Lengths p v) (d : Device) (on : d
                   , getD-set-same (v .queue) (2 * v .tail + 1) x 0 (omega (arith, i .waits .tail-in, lengths .queue-length)))
             })
       }
-  handler-kept Next.Tail e x a = record { inside = tt; after = accept z; tells = λ fuel l. refl; inv = tail-stored e x a }
+  handler-kept Next.Tail e x a = record { inside = tt; after = accept z; tells = λ fuel l. refl; expected = tt; inv = tail-stored e x a }
 
 -- ---- a commit's stores in phases 1 and 2
 
@@ -287,6 +291,14 @@ event-later s h =
       head-done = λ l. absurd (omega arith)
     }
 
+pub task-last-is : (v : Store) → v .phase ≡ 1 → lastStores v ≡ to Task (v .pending) ∷ to Open (v .pendingOpen) ∷ to Phase 0 ∷ []
+unfolding lastStores
+task-last-is v e = pick-true _ _ (ap (λ (x : ℕ). eqb x 1) e)
+
+pub event-last-is : (v : Store) → v .phase ≡ 2 → lastStores v ≡ to Head (v .pending) ∷ to Phase 0 ∷ []
+unfolding lastStores
+event-last-is v e = pick-false _ _ (ap (λ (x : ℕ). eqb x 1) e)
+
 module _ (p : List ℕ) (v : Store) (d : Device) (on : d .on ≡ true) (rest : d .handler ≡ Resting) (z : Serial) (k : ℕ)
     (i : Inv p v d z k) (c : ℕ) (m : CopyingAt p v z c) where
   -- the device one store later
@@ -308,6 +320,7 @@ module _ (p : List ℕ) (v : Store) (d : Device) (on : d .on ≡ true) (rest : d
         inside = m .addresses c h;
         after = z;
         tells = λ fuel l. refl;
+        expected = tt;
         inv =
             record {
               tasked = i .tasked;
@@ -355,14 +368,6 @@ module _ (p : List ℕ) (v : Store) (d : Device) (on : d .on ≡ true) (rest : d
       let h : v .count ≤ c = omega arith in
       pick-false _ _ (le-ltb _ _ h) ∙ ap (λ (x : ℕ). storing (lastStores v) x further Answer.Stored) f
 
-  task-last-is : v .phase ≡ 1 → lastStores v ≡ to Task (v .pending) ∷ to Open (v .pendingOpen) ∷ to Phase 0 ∷ []
-  unfolding lastStores
-  task-last-is e = pick-true _ _ (ap (λ (x : ℕ). eqb x 1) e)
-
-  event-last-is : v .phase ≡ 2 → lastStores v ≡ to Head (v .pending) ∷ to Phase 0 ∷ []
-  unfolding lastStores
-  event-last-is e = pick-false _ _ (ap (λ (x : ℕ). eqb x 1) e)
-
   task-last-kept : TaskCommitAt p v z c → (j : ℕ) → c ≡ v .count + j
       → Kept p v z k Step (storing (to Task (v .pending) ∷ to Open (v .pendingOpen) ∷ to Phase 0 ∷ []) j further Answer.Stored)
   unfolding storing pick apply tell moved firstWaiting fresh
@@ -371,6 +376,7 @@ module _ (p : List ℕ) (v : Store) (d : Device) (on : d .on ≡ true) (rest : d
         inside = tt;
         after = z;
         tells = λ fuel l. refl;
+        expected = tt;
         inv =
             record {
               tasked = i .tasked;
@@ -399,6 +405,7 @@ module _ (p : List ℕ) (v : Store) (d : Device) (on : d .on ≡ true) (rest : d
         inside = tt;
         after = z;
         tells = λ fuel l. refl;
+        expected = tt;
         inv =
             record {
               tasked = i .tasked;
@@ -427,6 +434,7 @@ module _ (p : List ℕ) (v : Store) (d : Device) (on : d .on ≡ true) (rest : d
         inside = tt;
         after = z;
         tells = λ fuel l. refl;
+        expected = tt;
         inv =
             record {
               tasked = i .tasked;
@@ -456,6 +464,7 @@ module _ (p : List ℕ) (v : Store) (d : Device) (on : d .on ≡ true) (rest : d
         inside = tt;
         after = z;
         tells = λ fuel l. refl;
+        expected = tt;
         inv =
             record {
               tasked = i .tasked;
@@ -484,6 +493,7 @@ module _ (p : List ℕ) (v : Store) (d : Device) (on : d .on ≡ true) (rest : d
         inside = tt;
         after = z;
         tells = λ fuel l. refl;
+        expected = tt;
         inv =
             record {
               tasked = i .tasked;
@@ -505,11 +515,11 @@ module _ (p : List ℕ) (v : Store) (d : Device) (on : d .on ≡ true) (rest : d
       }
   event-last-kept s (suc (suc j)) e = absurd (omega (arith, s .place))
 
-  commit-kept : (TaskCommitAt p v z c ⊎ EventCommitAt v z c) → Kept p v z k Step (copyStep p v d c)
+  pub commit-kept : (TaskCommitAt p v z c ⊎ EventCommitAt v z c) → Kept p v z k Step (copyStep p v d c)
   commit-kept t =
       below-or c (v .count) (copy-kept t)
       (λ h.
       let e : c ≡ v .count + (c - v .count) = omega arith in
       rw (last-is (c - v .count) e)
-      (⊎-elim (λ s. rw (task-last-is (s .phase-is)) (task-last-kept s (c - v .count) e))
-      (λ s. rw (event-last-is (s .phase-is)) (event-last-kept s (c - v .count) e)) t))
+      (⊎-elim (λ s. rw (task-last-is v (s .phase-is)) (task-last-kept s (c - v .count) e))
+      (λ s. rw (event-last-is v (s .phase-is)) (event-last-kept s (c - v .count) e)) t))

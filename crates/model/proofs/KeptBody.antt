@@ -19,12 +19,14 @@ use Rattle.model.proofs.ProgramLaws.{Contents, Leads, Sound}
 use Rattle.model.proofs.RingLaws.{Between, after-le, between-first, between-head, records-head}
 use Rattle.model.proofs.StoreLaws.{apply, Inside}
 use Rattle.model.proofs.TestLaws.{pick-case, pick-true, pick-false, clash, same-or, below-or, and-true, and-left, and-right, must-true, then-passed}
+use Rattle.model.specs.Answer.{refusal}
 use Rattle.model.specs.Calls.{Call, Step}
+use Rattle.model.specs.Claims.{isIn, mayMeet}
 use Rattle.model.specs.Device.{Out, out, refuse, judged, fresh, moved, begun, storing, taskStores, eventStores, recordSound, chooseStep, shown, saveStep, act, saveRest}
 use Rattle.model.specs.Program.{word, tasks, events, memoryWords, instructions, transaction, number, effectAt, newOpen}
 use Rattle.model.specs.Serial.{Serial, Walked, went, served, lost, advance, walk, walkBody, afterTask, afterEvent, serveOldest, runBody, tell}
 use Rattle.model.specs.Store.{Store, address, value, event, datum, Record, queueAt, after, empty, firstWaiting, slot, recordsFrom, distance, find, Word, Phase, Count, Pending, PendingOpen, Address, Value, Write, none, to}
-use Rattle.model.specs.Test.{pick, _and_}
+use Rattle.model.specs.Test.{pick, _and_, _or_}
 use Rattle.model.specs.Types.{Answer, Body, Checked, Device, Effect, Found, Free, Half, Handler, Place, Refusal, Resting, Run}
 
 -- no store of a body's end is made
@@ -108,6 +110,7 @@ module _ (p : List ℕ) (sound : Sound p) (v : Store) (lengths : Lengths p v) (d
         inside = tt;
         after = z;
         tells = λ fuel l. refl;
+        expected = tt;
         inv =
             runs (v .log) b x 0 (x ∷ replicate 7 0) 0 mine
             (record {
@@ -121,7 +124,7 @@ module _ (p : List ℕ) (sound : Sound p) (v : Store) (lengths : Lengths p v) (d
             }) (omega arith)
       }
 
-  choose-kept : Kept p v z k Step (chooseStep p v d)
+  pub choose-kept : Kept p v z k Step (chooseStep p v d)
   unfolding chooseStep judged recordSound number
   choose-kept =
       pick-case (λ (o : Out). Kept p v z k Step o)
@@ -200,6 +203,7 @@ module _ (p : List ℕ) (sound : Sound p) (v : Store) (lengths : Lengths p v) (d
         inside = tt;
         after = z;
         tells = λ fuel l. refl;
+        expected = tt;
         inv = goes-on f e (v .log) a r (d .count) place (h .addresses) (h .distinct) (i .count-in) same
       }
 
@@ -216,6 +220,7 @@ module _ (p : List ℕ) (sound : Sound p) (v : Store) (lengths : Lengths p v) (d
         inside = room;
         after = z;
         tells = λ fuel s. refl;
+        expected = tt;
         inv =
             record {
               tasked = i .tasked;
@@ -246,7 +251,7 @@ module _ (p : List ℕ) (sound : Sound p) (v : Store) (lengths : Lengths p v) (d
 
   save-kept : (y w : ℕ) → effectAt p n j (d .regs) ≡ Effect.Write y w → j + 1 < instructions p n → y < memoryWords p
       → (f : Found) → find (v .log) (d .count) y ≡ f → Kept p v z k Step (saveStep v d b j y w f)
-  unfolding saveStep tell apply moved advance
+  unfolding saveStep tell apply moved advance refusal isIn mayMeet _or_
   save-kept y w e place below (Found.Pair a) q =
       let pair = find-pair (v .log) (d .count) y a q in
       let keeps : (m : ℕ) → addr (set (v .log) (2 * a + 1) w) m ≡ addr (v .log) m = λ m. getD-set-other (v .log) (2 * a + 1) (2 * m) w 0 (omega arith) in
@@ -254,6 +259,7 @@ module _ (p : List ℕ) (sound : Sound p) (v : Store) (lengths : Lengths p v) (d
         inside = omega (arith, pair .0, i .count-in);
         after = z;
         tells = λ fuel l. refl;
+        expected = tt;
         inv =
             goes-on (Effect.Write y w) e (set (v .log) (2 * a + 1) w) (j + 1) (d .regs) (d .count) place
             (λ m l. rw (keeps m) (h .addresses m l))
@@ -266,9 +272,9 @@ module _ (p : List ℕ) (sound : Sound p) (v : Store) (lengths : Lengths p v) (d
       }
   save-kept y w e place below Found.Nothing q =
       pick-case (λ (o : Out). Kept p v z k Step o) (λ s. half-saved y w e below (find-nothing (v .log) (d .count) y q) (ltb-true _ _ s))
-      (λ s. refused-kept p v d z k Step Refusal.LogFull i)
+      (λ s. refused-kept p v d z k Step Refusal.LogFull refl i)
 
-  rest-kept : (f : Effect) → effectAt p n j (d .regs) ≡ f → Leads p n j f → HalfSaved p (v .log) (v .pairs) (d .count) f → Kept p v z k Step (saveRest d b j f)
+  pub rest-kept : (f : Effect) → effectAt p n j (d .regs) ≡ f → Leads p n j f → HalfSaved p (v .log) (v .pairs) (d .count) f → Kept p v z k Step (saveRest d b j f)
   unfolding saveRest tell apply advance
   rest-kept (Effect.Compute a y) e leads t = absurd t
   rest-kept (Effect.Jump a) e leads t = absurd t
@@ -281,6 +287,7 @@ module _ (p : List ℕ) (sound : Sound p) (v : Store) (lengths : Lengths p v) (d
         inside = room;
         after = z;
         tells = λ fuel s. refl;
+        expected = tt;
         inv =
             goes-on (Effect.Write y w) e log (j + 1) (d .regs) (l + 1) leads
             (λ m s. rw (keeps m) (below-or m l (h .addresses m) (λ t. let f : m ≡ l = omega arith in rw (f, stored) below)))
@@ -321,6 +328,7 @@ module _ (p : List ℕ) (sound : Sound p) (v : Store) (lengths : Lengths p v) (d
         inside = s;
         after = z;
         tells = λ fuel l. refl;
+        expected = tt;
         inv =
             rw q
             (record {
@@ -364,6 +372,7 @@ task-commits p sound v lengths d on z k i still t j x mine h a e below count pen
             posted = z .posted
           };
       tells = λ fuel l. pick-true _ _ (eq-eqb _ _ is) ∙ ap (afterTask p z) (ends fuel l);
+      expected = tt;
       inv =
           record {
             tasked = record { task-in = below; open-in = new-open-in p (transaction p (z .task)) a };
@@ -422,6 +431,7 @@ event-commits p sound v lengths d on z k i still e j x mine h ends count pending
           ∙ ap (afterEvent z rest)
           (ap (λ (y : ℕ). walk fuel p (tasks p + e) 0 (y ∷ replicate 7 0) (z .memory)) (mine .1 .1 .1)
           ∙ walk-ends p sound v lengths d on z k i still (Body.Event e) j x mine h Effect.EndEvent ends fuel l);
+      expected = tt;
       inv =
           record {
             tasked = i .tasked;
@@ -522,7 +532,7 @@ module _ (p : List ℕ) (sound : Sound p) (v : Store) (lengths : Lengths p v) (d
   event-end-kept e leads (suc (suc (suc c))) t = absurd (omega (arith, t .0))
 
   pub act-kept : (c : ℕ) (f : Effect) → effectAt p (number p b) j (d .regs) ≡ f → Leads p (number p b) j f → EndingAt p v d b c f → Kept p v z k Step (act p v d b j c f)
-  unfolding act advance
+  unfolding act advance refusal isIn mayMeet _or_
   act-kept c (Effect.Compute a y) e leads t = works p sound v lengths d on z k i still b j x mine h (Effect.Compute a y) e (j + 1) (set (d .regs) a y) leads (λ g. refl)
   act-kept c (Effect.Jump a) e leads t = works p sound v lengths d on z k i still b j x mine h (Effect.Jump a) e a (d .regs) leads (λ g. refl)
   act-kept c (Effect.Read a y) e leads t =
@@ -531,10 +541,10 @@ module _ (p : List ℕ) (sound : Sound p) (v : Store) (lengths : Lengths p v) (d
       let below : y < length (v .memory) = omega (arith, ltb-true y (memoryWords p) s, lengths .memory-length) in
       works p sound v lengths d on z k i still b j x mine h (Effect.Read a y) e (j + 1) _ leads
       (λ g. pick-true _ _ s ∙ ap (λ (m : ℕ). walk g p (number p b) (j + 1) (set (d .regs) a m) (overlay (v .memory) (v .log) (d .count))) (sym (shown-is v (d .count) y (h .distinct) below))))
-      (λ s. refused-kept p v d z k Step Refusal.Address i)
+      (λ s. refused-kept p v d z k Step Refusal.Address refl i)
   act-kept c (Effect.Write y w) e leads t =
       pick-case (λ (o : Out). Kept p v z k Step o) (λ s. save-kept p sound v lengths d on z k i still b j x mine h y w e leads (ltb-true _ _ s) (find (v .log) (d .count) y) refl)
-      (λ s. refused-kept p v d z k Step Refusal.Address i)
+      (λ s. refused-kept p v d z k Step Refusal.Address refl i)
   act-kept c (Effect.EndTask a) e leads t = task-end-kept a e leads c t
   act-kept c Effect.EndEvent e leads t = event-end-kept e leads c t
   act-kept c Effect.Unknown e leads t = absurd leads

@@ -6,4 +6,7 @@ pub mod StoreLaws
 pub mod Invariant
 pub mod Kept
 pub mod KeptBody
+pub mod Checks
+pub mod KeptCalls
+pub mod KeptWords
 pub mod Starred

@@ -12,7 +12,7 @@ use lib.ListN.{length, take, drop, set, getD, length-set, length-take, length-dr
 use lib.Seq.{getD-set-other, getD-set-same, drop-set-lt, drop-set-add, take-set-le, take-set-lt}
 use borrow.Author.Tests.{eqb-false, ltb-true}
 use Rattle.model.specs.Program.{word}
-use Rattle.model.specs.Store.{Store, view, memoryAt, logAt, queueAt, storeLength, Word, Phase, Task, Open, Count, Pending, PendingOpen, Head, Tail, Memory, Address, Value, Event, Datum, index, Write, none, to, settled}
+use Rattle.model.specs.Store.{Store, view, memoryAt, logAt, queueAt, storeLength, Word, Phase, Task, Open, Count, Pending, PendingOpen, Head, Tail, Memory, Address, Value, Event, Datum, index, Write, none, to, settled, storeRule}
 
 -- the store by its parts, of m memory words, l log pairs and q queue records
 abbrev pub viewAt : ℕ → ℕ → ℕ → List ℕ → Store
@@ -101,6 +101,23 @@ Inside m l q (Value j) = j < l
 Inside m l q (Event i) = i ≤ q
 Inside m l q (Datum i) = i ≤ q
 
+-- every store falls behind the contents
+behind : (w : Word) (s : List ℕ) → 8 ≤ index s w
+unfolding index
+behind Phase s = omega arith
+behind Task s = omega arith
+behind Open s = omega arith
+behind Count s = omega arith
+behind Pending s = omega arith
+behind PendingOpen s = omega arith
+behind Head s = omega arith
+behind Tail s = omega arith
+behind (Memory a) s = omega arith
+behind (Address a) s = omega arith
+behind (Value a) s = omega arith
+behind (Event a) s = omega arith
+behind (Datum a) s = omega arith
+
 module _ (m l q : ℕ) (s : List ℕ) (z : Sized m l q s) where
   pub view-is : view s ≡ viewAt m l q s
   view-is = rw (z .memory-is, z .pairs-is, z .records-is)
@@ -133,22 +150,6 @@ module _ (m l q : ℕ) (s : List ℕ) (z : Sized m l q s) where
       , part-behind (2 * l) (logAt m) s i x (omega arith)
       , part-in (2 * (q + 1)) (queueAt m l) s j x h)
 
-  behind : (w : Word) → 8 ≤ index s w
-  unfolding index
-  behind Phase = omega arith
-  behind Task = omega arith
-  behind Open = omega arith
-  behind Count = omega arith
-  behind Pending = omega arith
-  behind PendingOpen = omega arith
-  behind Head = omega arith
-  behind Tail = omega arith
-  behind (Memory a) = omega arith
-  behind (Address a) = omega arith
-  behind (Value a) = omega arith
-  behind (Event a) = omega arith
-  behind (Datum a) = omega arith
-
   pub view-settled : (w : Word) (x : ℕ) → Inside m l q w → viewAt m l q (settled s (to w x)) ≡ apply (viewAt m l q s) (to w x)
   unfolding settled index apply
   view-settled Phase x h = simp (word-other s 8 x, word-same 8 x, control 8 x refl .0, control 8 x refl .1, control 8 x refl .2)
@@ -176,10 +177,28 @@ module _ (m l q : ℕ) (s : List ℕ) (z : Sized m l q s) where
   unfolding settled
   settled-sized w x h =
       let i = index s w in
-      let low : (j : ℕ) → j < 8 → word (set s i x) j ≡ word s j = λ j k. getD-set-other s i j x 0 (let b : 8 ≤ index s w = behind w in omega arith) in
+      let low : (j : ℕ) → j < 8 → word (set s i x) j ≡ word s j = λ j k. getD-set-other s i j x 0 (let b : 8 ≤ index s w = behind w s in omega arith) in
       record {
         length-is = length-set s i x ∙ z .length-is;
         memory-is = low 1 (omega arith) ∙ z .memory-is;
         pairs-is = low 2 (omega arith) ∙ z .pairs-is;
         records-is = low 3 (omega arith) ∙ z .records-is
       }
+
+-- the parts have their lengths
+pub lengths-are : (m l q : ℕ) (s : List ℕ) → Sized m l q s
+    → (length (viewAt m l q s .memory) ≡ m) × (length (viewAt m l q s .log) ≡ 2 * l) × (length (viewAt m l q s .queue) ≡ 2 * (q + 1))
+lengths-are m l q s z =
+    (simp (length-take, length-drop) (omega (arith, z .length-is))
+    , simp (length-take, length-drop) (omega (arith, z .length-is))
+    , simp (length-take, length-drop) (omega (arith, z .length-is)))
+
+-- 6 doesn't meet a store that had sound contents
+pub rule-kept : (p s : List ℕ) (w : Word) (x : ℕ) → storeRule p (settled s (to w x)) ≡ storeRule p s
+unfolding storeRule settled
+rule-kept p s w x =
+    let i = index s w in
+    let b : 8 ≤ i = behind w s in
+    let low : (j : ℕ) → ltb j 8 ≡ true → word (set s i x) j ≡ word s j =
+        λ j e. getD-set-other s i j x 0 (let h : j < 8 = ltb-true _ _ e in omega arith) in
+    simp (low, length-set)

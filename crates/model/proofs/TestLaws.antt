@@ -86,6 +86,10 @@ pub then-passed : {a b : Checked} → a ≡ Checked.Accepted → b ≡ Checked.A
 unfolding _then_
 then-passed e f = rw (e, f)
 
+pub then-skip : {a : Checked} (b : Checked) → a ≡ Checked.Accepted → (a then b) ≡ b
+unfolding _then_
+then-skip b e = rw e
+
 pub then-first : (a b : Checked) → (a then b) ≡ Checked.Accepted → a ≡ Checked.Accepted
 unfolding _then_
 then-first Checked.Accepted b e = refl

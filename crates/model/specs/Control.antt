@@ -107,9 +107,9 @@ recordRule p v x =
 
 -- ---- 7 whole, as boot has it, and its early part: "without the parts of 7 .. that need a row, .. a log pair or a record"
 
-unfoldable pub rules : List ℕ → Store → List Rule
-rules p v =
-    (phaseRule v
+unfoldable pub controlRules : List ℕ → Store → List Rule
+controlRules p v =
+    phaseRule v
     ∷ taskRule p v
     ∷ openRule p v
     ∷ openServing v
@@ -119,9 +119,10 @@ rules p v =
     ∷ pendingOpenRule p v
     ∷ headRule v
     ∷ tailRule v
-    ∷ [])
-    ++ upTo (addressRule p v) (v .pairs)
-    ++ upTo (recordRule p v) (v .records + 1)
+    ∷ []
+
+unfoldable pub rules : List ℕ → Store → List Rule
+rules p v = controlRules p v ++ upTo (addressRule p v) (v .pairs) ++ upTo (recordRule p v) (v .records + 1)
 
 unfoldable pub earlyRules : List ℕ → Store → List Rule
 earlyRules p v =

@@ -8,4 +8,5 @@ pub mod Device
 pub mod Answer
 pub mod Calls
 pub mod Serial
+pub mod Claims
 pub mod Counting

@@ -1,0 +1,353 @@
+-- The checks that a call makes pass where the invariant holds: rule 7, early and whole, 25, and what a step checks of a body.
+-- Assumes nothing.
+use Prim.Native.Nat.{ℕ, zero, suc, _+_, _-_, _*_, _≤_, _<_}
+use mathlib.Core.Path.{_≡_, refl, sym, ap, _∙_}
+use mathlib.Core.Logic.{_⊎_, inl, inr, ⊎-elim, _≢_}
+use mathlib.Core.Bool.{Bool, true, false, not}
+use mathlib.Core.List.{List, [], _∷_, _++_}
+use native.Mathlib.Omega.{arith}
+use borrow.Author.Tests.{lt-ltb, le-ltb, le-leb, eq-eqb, ne-eqb, ltb-true}
+use lib.Dec.{ltb, leb, eqb}
+use lib.ListN.{length}
+use Rattle.model.proofs.Invariant.{Lengths, Tasked, Waiting, AtWork, Handles, StillAt, CopyingAt, TaskCommitAt, EventCommitAt, Mine, Running, EndingAt, HalfSaved, BodyAt, Placed, Inv}
+use Rattle.model.proofs.Kept.{first-head, first-pending, task-last-is, event-last-is}
+use Rattle.model.proofs.LogLaws.{addr}
+use Rattle.model.proofs.ProgramLaws.{Contents, Leads, Sound}
+use Rattle.model.proofs.RingLaws.{Between, between-is, between-first, after-le}
+use Rattle.model.proofs.TestLaws.{pick-case, pick-true, pick-false, clash, below-or, and-true, and-left, and-right, or-true-left, or-true-right, not-false, must-true, then-passed, then-first, then-rest}
+use Rattle.model.specs.Check.{rowsInside, rowUsed, instructionRule, check}
+use Rattle.model.specs.Control.{Rule, broken, obey, obeyAll, upTo, phaseRule, taskRule, openRule, openServing, countRule, pendingTaskRule, headRule, tailRule, pendingHeadRule, pendingOpenRule, addressRule, between, recordRule, controlRules, rules, earlyRules}
+use Rattle.model.specs.Device.{lastStores, mayRun, endStores, placeSound, handlerSound, deviceSound, recordSound, headSound, namedRow, openSound, headIs, ends, saves, placeFits, bodySound}
+use Rattle.model.specs.Program.{word, tasks, events, memoryWords, instructions, transaction, number, effectAt}
+use Rattle.model.specs.Serial.{Serial}
+use Rattle.model.specs.Store.{Store, event, after, empty, full, firstWaiting, Task, Open, Phase, Head, to, Write}
+use Rattle.model.specs.Test.{pick, _and_, _or_, must, _then_}
+use Rattle.model.specs.Types.{Answer, Body, Checked, Device, Effect, Free, Half, Handler, Place, Refusal, Resting, Run, Storing}
+
+-- ---- a rule that is kept, or doesn't speak
+
+and-false : (a b : Bool) → b ≡ false → (a and b) ≡ false
+unfolding _and_
+and-false true b e = e
+and-false false b e = refl
+
+obey-kept : (r : Rule) → r .kept ≡ true → obey r ≡ Checked.Accepted
+unfolding obey
+obey-kept r e = must-true _ (not-false (and-false (r .asked) (not (r .kept)) (ap not e)))
+
+obey-unasked : (r : Rule) → r .asked ≡ false → obey r ≡ Checked.Accepted
+unfolding obey _and_
+obey-unasked r e = must-true _ (rw e)
+
+obey-append : (rs ss : List Rule) → obeyAll rs ≡ Checked.Accepted → obeyAll ss ≡ Checked.Accepted → obeyAll (rs ++ ss) ≡ Checked.Accepted
+unfolding obeyAll
+obey-append [] ss e f = f
+obey-append (r ∷ rs) ss e f = then-passed (then-first _ _ e) (obey-append rs ss (then-rest _ _ e) f)
+
+obey-upTo : (f : ℕ → Rule) (n : ℕ) → ((j : ℕ) → j < n → obey (f j) ≡ Checked.Accepted) → obeyAll (upTo f n) ≡ Checked.Accepted
+unfolding upTo obeyAll
+obey-upTo f zero h = refl
+obey-upTo f (suc n) h =
+    obey-append (upTo f n) (f n ∷ []) (obey-upTo f n (λ j l. h j (omega arith))) (then-passed (h n (omega arith)) refl)
+
+-- ---- what the invariant says of the control words
+
+abbrev pub OpenIn : List ℕ → ℕ → ℕ → Type 0
+OpenIn p o t = (o ≡ 0) ⊎ (o ≡ transaction p t)
+
+pub record Copies (p : List ℕ) (v : Store) : Type 0 where
+  pub count-in : v .count ≤ v .pairs
+  pub addresses : (j : ℕ) → j < v .count → addr (v .log) j < memoryWords p
+
+pub data Phases (p : List ℕ) (v : Store) : Type 0 where
+  runs : v .phase ≡ 0 → OpenIn p (v .openNumber) (v .task) → Phases p v
+  ends-task : v .phase ≡ 1 → Copies p v → v .pending < tasks p → OpenIn p (v .pendingOpen) (v .pending) → Phases p v
+  ends-event : v .phase ≡ 2 → Copies p v → v .openNumber ≡ 0 → v .pending ≤ v .records
+      → (v .pending ≡ v .head) ⊎ ((v .pending ≡ after (v .records) (v .head)) × (v .head ≢ v .tail)) → Phases p v
+
+module _ (p : List ℕ) (v : Store) (d : Device) (z : Serial) (k : ℕ) (i : Inv p v d z k) where
+  runs-still : StillAt v z → Phases p v
+  runs-still s = runs (s .phase-is) (rw (s .open-is, s .task-is) (i .tasked .open-in))
+
+  copies : (c : ℕ) → CopyingAt p v z c → Copies p v
+  copies c m = record { count-in = m .count-in; addresses = m .addresses }
+
+  phases : (x : Place) → Placed p v d z k x → Phases p v
+  phases (Free c) (inl (s, e)) = runs-still s
+  phases (Free c) (inr (m, inl t)) =
+      ends-task (t .phase-is) (copies c m) (rw (t .pending-is) (i .tasked .task-in)) (rw (t .pendingOpen-is, t .pending-is) (i .tasked .open-in))
+  phases (Free c) (inr (m, inr t)) =
+      ends-event (t .phase-is) (copies c m) (t .open-none) (rw (first-pending v (t .phase-is)) at (i .waits .first-in)) (t .pending-is)
+  phases (Run b j c) ((s, r), e) = runs-still s
+  phases (Half b j) ((s, r), e) = runs-still s
+
+  task-below : (x : Place) → Placed p v d z k x → v .task < tasks p
+  task-below (Free c) (inl (s, e)) = rw (s .task-is) (i .tasked .task-in)
+  task-below (Free c) (inr (m, inl t)) = t .task-in
+  task-below (Free c) (inr (m, inr t)) = rw (t .task-is) (i .tasked .task-in)
+  task-below (Run b j c) ((s, r), e) = rw (s .task-is) (i .tasked .task-in)
+  task-below (Half b j) ((s, r), e) = rw (s .task-is) (i .tasked .task-in)
+
+-- ---- rule 7
+
+open-test : (p : List ℕ) (o t : ℕ) → OpenIn p o t → (eqb o 0 or eqb o (transaction p t)) ≡ true
+open-test p o t (inl e) = or-true-left _ _ (eq-eqb _ _ e)
+open-test p o t (inr e) = or-true-right _ _ (eq-eqb _ _ e)
+
+module _ (p : List ℕ) (v : Store) where
+  in-phase : (n m : ℕ) → v .phase ≡ n → eqb n m ≡ false → eqb (v .phase) m ≡ false
+  in-phase n m e f = ap (λ (x : ℕ). eqb x m) e ∙ f
+
+  phase-obeyed : Phases p v → obey (phaseRule v) ≡ Checked.Accepted
+  unfolding phaseRule
+  phase-obeyed (runs e o) = obey-kept (phaseRule v) (ap (λ (x : ℕ). leb x 2) e)
+  phase-obeyed (ends-task e c t o) = obey-kept (phaseRule v) (ap (λ (x : ℕ). leb x 2) e)
+  phase-obeyed (ends-event e c o l h) = obey-kept (phaseRule v) (ap (λ (x : ℕ). leb x 2) e)
+
+  task-obeyed : v .task < tasks p → obey (taskRule p v) ≡ Checked.Accepted
+  unfolding taskRule
+  task-obeyed l = obey-kept (taskRule p v) (lt-ltb _ _ l)
+
+  pub open-obeyed : Phases p v → obey (openRule p v) ≡ Checked.Accepted
+  unfolding openRule _and_
+  open-obeyed (runs e o) = obey-kept (openRule p v) (open-test p (v .openNumber) (v .task) o)
+  open-obeyed (ends-task e c t o) = obey-unasked (openRule p v) (rw (in-phase 1 0 e refl))
+  open-obeyed (ends-event e c o l h) = obey-unasked (openRule p v) (rw (in-phase 2 0 e refl))
+
+  serving-obeyed : Phases p v → obey (openServing v) ≡ Checked.Accepted
+  unfolding openServing
+  serving-obeyed (runs e o) = obey-unasked (openServing v) (in-phase 0 2 e refl)
+  serving-obeyed (ends-task e c t o) = obey-unasked (openServing v) (in-phase 1 2 e refl)
+  serving-obeyed (ends-event e c o l h) = obey-kept (openServing v) (eq-eqb _ _ o)
+
+  count-obeyed : Phases p v → obey (countRule v) ≡ Checked.Accepted
+  unfolding countRule _or_
+  count-obeyed (runs e o) = obey-unasked (countRule v) (rw (in-phase 0 1 e refl, in-phase 0 2 e refl))
+  count-obeyed (ends-task e c t o) = obey-kept (countRule v) (le-leb _ _ (c .count-in))
+  count-obeyed (ends-event e c o l h) = obey-kept (countRule v) (le-leb _ _ (c .count-in))
+
+  pending-obeyed : Phases p v → obey (pendingTaskRule p v) ≡ Checked.Accepted
+  unfolding pendingTaskRule
+  pending-obeyed (runs e o) = obey-unasked (pendingTaskRule p v) (in-phase 0 1 e refl)
+  pending-obeyed (ends-task e c t o) = obey-kept (pendingTaskRule p v) (lt-ltb _ _ t)
+  pending-obeyed (ends-event e c o l h) = obey-unasked (pendingTaskRule p v) (in-phase 2 1 e refl)
+
+  pendingOpen-obeyed : Phases p v → obey (pendingOpenRule p v) ≡ Checked.Accepted
+  unfolding pendingOpenRule _and_
+  pendingOpen-obeyed (runs e o) = obey-unasked (pendingOpenRule p v) (rw (in-phase 0 1 e refl))
+  pendingOpen-obeyed (ends-task e c t o) = obey-kept (pendingOpenRule p v) (open-test p (v .pendingOpen) (v .pending) o)
+  pendingOpen-obeyed (ends-event e c o l h) = obey-unasked (pendingOpenRule p v) (rw (in-phase 2 1 e refl))
+
+  head-obeyed : v .head ≤ v .records → obey (headRule v) ≡ Checked.Accepted
+  unfolding headRule
+  head-obeyed l = obey-kept (headRule v) (le-leb _ _ l)
+
+  tail-obeyed : v .tail ≤ v .records → obey (tailRule v) ≡ Checked.Accepted
+  unfolding tailRule
+  tail-obeyed l = obey-kept (tailRule v) (le-leb _ _ l)
+
+  pendingHead-obeyed : Phases p v → obey (pendingHeadRule v) ≡ Checked.Accepted
+  unfolding pendingHeadRule _and_
+  pendingHead-obeyed (runs e o) = obey-unasked (pendingHeadRule v) (rw (in-phase 0 2 e refl))
+  pendingHead-obeyed (ends-task e c t o) = obey-unasked (pendingHeadRule v) (rw (in-phase 1 2 e refl))
+  pendingHead-obeyed (ends-event e c o l (inl h)) =
+      obey-kept (pendingHeadRule v) (and-true (le-leb _ _ l) (or-true-left _ _ (eq-eqb _ _ h)))
+  pendingHead-obeyed (ends-event e c o l (inr (h, ne))) =
+      obey-kept (pendingHeadRule v) (and-true (le-leb _ _ l) (or-true-right _ _ (and-true (eq-eqb _ _ h) (not-false (ne-eqb _ _ ne)))))
+
+  address-in : Copies p v → (j : ℕ) → obey (addressRule p v j) ≡ Checked.Accepted
+  unfolding addressRule
+  address-in c j =
+      below-or j (v .count) (λ l. obey-kept (addressRule p v j) (lt-ltb _ _ (c .addresses j l)))
+      (λ l. obey-unasked (addressRule p v j) (and-false _ _ (and-false _ _ (le-ltb _ _ l))))
+
+  address-obeyed : Phases p v → (j : ℕ) → obey (addressRule p v j) ≡ Checked.Accepted
+  unfolding addressRule _and_ _or_
+  address-obeyed (runs e o) j = obey-unasked (addressRule p v j) (rw (in-phase 0 1 e refl, in-phase 0 2 e refl))
+  address-obeyed (ends-task e c t o) j = address-in c j
+  address-obeyed (ends-event e c o l h) j = address-in c j
+
+  record-obeyed : ((x : ℕ) → x ≤ v .records → Between (firstWaiting v) (v .tail) x → event v x < events p)
+      → (x : ℕ) → x ≤ v .records → obey (recordRule p v x) ≡ Checked.Accepted
+  unfolding recordRule
+  record-obeyed known x l = go (between (firstWaiting v) (v .tail) x) refl
+    where
+      go : (b : Bool) → between (firstWaiting v) (v .tail) x ≡ b → obey (recordRule p v x) ≡ Checked.Accepted
+      go true e = obey-kept (recordRule p v x) (lt-ltb _ _ (known x l (between-is _ _ _ e)))
+      go false e = obey-unasked (recordRule p v x) (and-false _ _ (and-false _ _ (and-false _ _ (and-false _ _ e))))
+
+-- 7 whole, as boot has it, and what step and post look at early
+module _ (p : List ℕ) (v : Store) (d : Device) (z : Serial) (k : ℕ) (i : Inv p v d z k) where
+  ph : Phases p v
+  ph = phases p v d z k i (d .place) (i .placed)
+
+  task-ok : obey (taskRule p v) ≡ Checked.Accepted
+  task-ok = task-obeyed p v (task-below p v d z k i (d .place) (i .placed))
+
+  control-obeyed : obeyAll (controlRules p v) ≡ Checked.Accepted
+  unfolding controlRules obeyAll
+  control-obeyed =
+      then-passed (phase-obeyed p v ph)
+      (then-passed task-ok
+      (then-passed (open-obeyed p v ph)
+      (then-passed (serving-obeyed p v ph)
+      (then-passed (count-obeyed p v ph)
+      (then-passed (pending-obeyed p v ph)
+      (then-passed (pendingHead-obeyed p v ph)
+      (then-passed (pendingOpen-obeyed p v ph)
+      (then-passed (head-obeyed p v (i .head-in)) (then-passed (tail-obeyed p v (i .waits .tail-in)) refl)))))))))
+
+  pub rules-obeyed : obeyAll (rules p v) ≡ Checked.Accepted
+  unfolding rules
+  rules-obeyed =
+      obey-append (controlRules p v ++ upTo (addressRule p v) (v .pairs)) (upTo (recordRule p v) (v .records + 1))
+      (obey-append (controlRules p v) (upTo (addressRule p v) (v .pairs)) control-obeyed
+      (obey-upTo (addressRule p v) (v .pairs) (λ j l. address-obeyed p v ph j)))
+      (obey-upTo (recordRule p v) (v .records + 1) (λ x l. record-obeyed p v (i .waits .known) x (omega arith)))
+
+  pub early-obeyed : obeyAll (earlyRules p v) ≡ Checked.Accepted
+  unfolding earlyRules obeyAll
+  early-obeyed =
+      then-passed (phase-obeyed p v ph)
+      (then-passed task-ok
+      (then-passed (serving-obeyed p v ph)
+      (then-passed (count-obeyed p v ph)
+      (then-passed (pending-obeyed p v ph)
+      (then-passed (pendingHead-obeyed p v ph)
+      (then-passed (head-obeyed p v (i .head-in)) (then-passed (tail-obeyed p v (i .waits .tail-in)) refl)))))))
+
+  -- ---- 25
+
+  may-run : (b : Body) (x : ℕ) → Mine (v .task) (v .openNumber) (v .head) (v .tail) (v .queue) x b → number p b < tasks p + events p → mayRun p v b ≡ true
+  unfolding mayRun number
+  may-run (Body.Task t) x m l = eq-eqb _ _ (m .0)
+  may-run (Body.Event e) x m l =
+      let below : e < events p = omega arith in
+      and-true (lt-ltb _ _ below) (and-true (eq-eqb _ _ (m .0)) (not-false (ne-eqb _ _ (m .1 .0))))
+
+  -- stores of a body's end that are made
+  ends-four : (b : Body) (c : ℕ) (f : Effect) → EndingAt p v d b c f → c < 4
+  ends-four b c (Effect.Compute a x) t = omega arith
+  ends-four b c (Effect.Jump a) t = omega arith
+  ends-four b c (Effect.Read a x) t = omega arith
+  ends-four b c (Effect.Write x y) t = omega arith
+  ends-four b c (Effect.EndTask a) t = t .0
+  ends-four b c Effect.EndEvent t = omega (arith, t .0)
+  ends-four b c Effect.Unknown t = absurd t
+
+  ends-three : (b : Body) (e j c : ℕ) (f : Effect) → Leads p (tasks p + e) j f → EndingAt p v d b c f → c < 3
+  ends-three b e j c (Effect.Compute a x) l t = omega arith
+  ends-three b e j c (Effect.Jump a) l t = omega arith
+  ends-three b e j c (Effect.Read a x) l t = omega arith
+  ends-three b e j c (Effect.Write x y) l t = omega arith
+  ends-three b e j c (Effect.EndTask a) l t = let s : tasks p + e < tasks p = ltb-true _ _ (l .0) in absurd (omega arith)
+  ends-three b e j c Effect.EndEvent l t = t .0
+  ends-three b e j c Effect.Unknown l t = absurd t
+
+  ends-in : (b : Body) (j c : ℕ) (f : Effect) → Leads p (number p b) j f → EndingAt p v d b c f → c < endStores b
+  unfolding endStores number
+  ends-in (Body.Task t) j c f l s = ends-four (Body.Task t) c f s
+  ends-in (Body.Event e) j c f l s = ends-three (Body.Event e) e j c f l s
+
+  half-in : (l : ℕ) (f : Effect) → HalfSaved p (v .log) (v .pairs) l f → l < v .pairs
+  half-in l (Effect.Compute a x) h = absurd h
+  half-in l (Effect.Jump a) h = absurd h
+  half-in l (Effect.Read a x) h = absurd h
+  half-in l (Effect.Write x y) h = h .1 .0
+  half-in l (Effect.EndTask a) h = absurd h
+  half-in l Effect.EndEvent h = absurd h
+  half-in l Effect.Unknown h = absurd h
+
+  place-sound : Sound p → (x : Place) → Placed p v d z k x → placeSound p v (d .count) x ≡ true
+  unfolding placeSound
+  place-sound sound (Free c) (inl (s, e)) = pick-true _ _ (eq-eqb _ _ (s .phase-is)) ∙ eq-eqb _ _ e
+  place-sound sound (Free c) (inr (m, inl t)) =
+      pick-false _ _ (in-phase p v 1 0 (t .phase-is) refl)
+      ∙ ap (λ (ws : List Write). ltb c (v .count + length ws)) (task-last-is v (t .phase-is))
+      ∙ lt-ltb _ _ (t .place)
+  place-sound sound (Free c) (inr (m, inr t)) =
+      pick-false _ _ (in-phase p v 2 0 (t .phase-is) refl)
+      ∙ ap (λ (ws : List Write). ltb c (v .count + length ws)) (event-last-is v (t .phase-is))
+      ∙ lt-ltb _ _ (t .place)
+  place-sound sound (Run b j c) ((s, (x, m, r)), e) =
+      and-true (eq-eqb _ _ (s .phase-is))
+      (and-true (may-run b x m (r .body-in))
+      (lt-ltb _ _ (ends-in b j c (effectAt p (number p b) j (d .regs)) (sound .leads (number p b) j (d .regs) (r .body-in) (r .place-in)) e)))
+  place-sound sound (Half b j) ((s, (x, m, r)), e) =
+      and-true (eq-eqb _ _ (s .phase-is)) (and-true (may-run b x m (r .body-in)) (lt-ltb _ _ (half-in (d .count) (effectAt p (number p b) j (d .regs)) e)))
+
+  handler-sound : (h : Handler) → Handles p (v .queue) (v .records) (v .head) (v .tail) (z .posted) h → handlerSound p v h ≡ true
+  unfolding handlerSound
+  handler-sound Resting a = refl
+  handler-sound (Storing n e x) a = and-true (lt-ltb _ _ (a .event-in)) (not-false (ne-eqb _ _ (a .room)))
+
+  pub device-sound : Sound p → d .on ≡ true → deviceSound p v d ≡ true
+  unfolding deviceSound
+  device-sound sound on =
+      pick-true _ _ on
+      ∙ and-true (le-leb _ _ (i .count-in)) (and-true (place-sound sound (d .place) (i .placed)) (handler-sound (d .handler) (i .handles)))
+
+  -- ---- what a step checks of a body
+
+  head-sound : (b : Body) (x : ℕ) → StillAt v z → Mine (v .task) (v .openNumber) (v .head) (v .tail) (v .queue) x b → headSound p v b ≡ Checked.Accepted
+  unfolding headSound recordSound
+  head-sound (Body.Task t) x s m = refl
+  head-sound (Body.Event e) x s m =
+      must-true _
+      (lt-ltb _ _
+      (i .waits .known (v .head) (i .head-in) (rw (first-head v 0 (s .phase-is) refl) (between-first (v .head) (v .tail) (m .1 .0)))))
+
+  open-sound : (b : Body) → openSound p v b ≡ Checked.Accepted
+  unfolding openSound
+  open-sound (Body.Task t) = open-obeyed p v ph
+  open-sound (Body.Event e) = refl
+
+  head-is : (b : Body) (x : ℕ) → Mine (v .task) (v .openNumber) (v .head) (v .tail) (v .queue) x b → headIs v b ≡ true
+  unfolding headIs
+  head-is (Body.Task t) x m = refl
+  head-is (Body.Event e) x m = eq-eqb _ _ (m .1 .1 .0)
+
+  named-row : Sound p → (n j : ℕ) (f : Effect) → Leads p n j f → namedRow p f ≡ Checked.Accepted
+  unfolding namedRow
+  named-row sound n j (Effect.Compute a x) l = refl
+  named-row sound n j (Effect.Jump a) l = refl
+  named-row sound n j (Effect.Read a x) l = refl
+  named-row sound n j (Effect.Write x y) l = refl
+  named-row sound n j (Effect.EndTask a) l = sound .row a (omega (arith, l .1))
+  named-row sound n j Effect.EndEvent l = refl
+  named-row sound n j Effect.Unknown l = refl
+
+  pub body-sound : Sound p → (y : Place) (b : Body) (j : ℕ) → BodyAt p v d z k b j → placeFits y (effectAt p (number p b) j (d .regs)) ≡ true
+      → bodySound p v y b j (effectAt p (number p b) j (d .regs)) ≡ Checked.Accepted
+  unfolding bodySound
+  body-sound sound y b j (s, (x, m, r)) fits =
+      let n = number p b in
+      let there : ltb j (instructions p n) ≡ true = lt-ltb _ _ (r .place-in) in
+      then-passed (head-sound b x s m)
+      (then-passed (sound .inside)
+      (then-passed (sound .row n (r .body-in))
+      (then-passed
+      (pick-true _ _ there
+      ∙ then-passed (sound .rule n j (r .body-in) (r .place-in))
+      (named-row sound n j _ (sound .leads n j (d .regs) (r .body-in) (r .place-in))))
+      (then-passed (open-sound b) (must-true _ (and-true there (and-true (head-is b x m) fits)))))))
+
+  pub run-fits : (b : Body) (j c : ℕ) (f : Effect) → EndingAt p v d b c f → placeFits (Run b j c) f ≡ true
+  unfolding placeFits ends
+  run-fits b j c (Effect.Compute a x) t = pick-true _ _ (eq-eqb _ _ t)
+  run-fits b j c (Effect.Jump a) t = pick-true _ _ (eq-eqb _ _ t)
+  run-fits b j c (Effect.Read a x) t = pick-true _ _ (eq-eqb _ _ t)
+  run-fits b j c (Effect.Write x y) t = pick-true _ _ (eq-eqb _ _ t)
+  run-fits b j c (Effect.EndTask a) t = pick-case (λ (o : Bool). o ≡ true) (λ e. refl) (λ e. refl)
+  run-fits b j c Effect.EndEvent t = pick-case (λ (o : Bool). o ≡ true) (λ e. refl) (λ e. refl)
+  run-fits b j c Effect.Unknown t = absurd t
+
+  pub half-fits : (b : Body) (j l : ℕ) (f : Effect) → HalfSaved p (v .log) (v .pairs) l f → placeFits (Half b j) f ≡ true
+  unfolding placeFits saves
+  half-fits b j l (Effect.Compute a x) h = absurd h
+  half-fits b j l (Effect.Jump a) h = absurd h
+  half-fits b j l (Effect.Read a x) h = absurd h
+  half-fits b j l (Effect.Write x y) h = refl
+  half-fits b j l (Effect.EndTask a) h = absurd h
+  half-fits b j l Effect.EndEvent h = absurd h
+  half-fits b j l Effect.Unknown h = absurd h

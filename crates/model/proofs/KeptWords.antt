@@ -1,0 +1,153 @@
+-- The invariant over the words of a store: every call keeps it, meets no refusal but the expected ones, and the serial run follows.
+-- Assumes nothing.
+use Prim.Native.Nat.{ℕ, zero, suc, _+_, _-_, _*_, _≤_, _<_}
+use mathlib.Core.Path.{_≡_, refl, sym, ap, _∙_}
+use mathlib.Core.Logic.{_⊎_, inl, inr, _≢_}
+use mathlib.Core.Bool.{Bool, true, false, not}
+use mathlib.Core.List.{List, [], _∷_}
+use mathlib.Core.Option.{Option, some}
+use native.Mathlib.Omega.{arith}
+use borrow.Author.Tests.{ltb-true, eqb-false, not-true}
+use lib.Dec.{ltb, eqb}
+use Rattle.model.proofs.Checks.{rules-obeyed, early-obeyed, device-sound}
+use Rattle.model.proofs.Invariant.{Lengths, Inv}
+use Rattle.model.proofs.Kept.{Kept, refused-kept, InsideOf}
+use Rattle.model.proofs.KeptCalls.{next-kept, fresh-kept, posted-kept}
+use Rattle.model.proofs.ProgramLaws.{Sound}
+use Rattle.model.proofs.StoreLaws.{viewAt, apply, Sized, view-is, view-settled, settled-sized, lengths-are, rule-kept}
+use Rattle.model.proofs.TestLaws.{pick-false, clash, must-true, then-skip, not-false}
+use Rattle.model.specs.Answer.{refusal}
+use Rattle.model.specs.Calls.{Call, Boot, Step, Cut, Post, call}
+use Rattle.model.specs.Check.{contentsRule, check}
+use Rattle.model.specs.Claims.{isIn, mayMeet, Expected}
+use Rattle.model.specs.Control.{obeyAll, rules, earlyRules}
+use Rattle.model.specs.Device.{Out, out, refuse, judged, fresh, off, handled, atRest, zeros, isFresh, deviceSound, look, bootCheck, boot, cut, postCheck, post, nextStep, step}
+use Rattle.model.specs.Program.{events, memoryWords}
+use Rattle.model.specs.Serial.{Serial, tell, afterDone}
+use Rattle.model.specs.Store.{Store, view, Write, none, to, settled, full, after, storeRule}
+use Rattle.model.specs.Test.{pick, _and_, _or_, must, _then_}
+use Rattle.model.specs.Types.{Answer, Checked, Device, Handler, Next, Refusal, Resting, Storing}
+
+-- the invariant of a store of l log pairs and q queue records
+pub record InvWords (p : List ℕ) (l q : ℕ) (s : List ℕ) (d : Device) (z : Serial) (k : ℕ) : Type 0 where
+  pub sized : Sized (memoryWords p) l q s
+  pub contents : storeRule p s ≡ Checked.Accepted
+  pub inv : Inv p (viewAt (memoryWords p) l q s) d z k
+
+pub record KeptWords (p : List ℕ) (l q : ℕ) (s : List ℕ) (z : Serial) (k : ℕ) (c : Call) (o : Out) : Type 0 where
+  pub after : Serial
+  pub tells : (fuel : ℕ) → k < fuel → tell fuel p z c (o .answer) ≡ some after
+  pub expected : Expected c (o .answer)
+  pub inv : InvWords p l q (settled s (o .write)) (o .device) after (suc k)
+
+judged-then : (a b : Checked) (d : Device) (o : Out) → judged (a then b) d o ≡ judged a d (judged b d o)
+unfolding judged _then_
+judged-then Checked.Accepted b d o = refl
+judged-then (Checked.Refused r) b d o = refl
+
+module _ (p : List ℕ) (sound : Sound p) (l q : ℕ) (s : List ℕ) (d : Device) (z : Serial) (k : ℕ) (i : InvWords p l q s d z k) where
+  abbrev v : Store
+  v = viewAt (memoryWords p) l q s
+
+  -- from the parts to the words
+  by-write : (e : Device) (y : Serial) (w : Write) → InsideOf p v w → Inv p (apply v w) e y (suc k) → InvWords p l q (settled s w) e y (suc k)
+  unfolding settled apply
+  by-write e y none inside j = record { sized = i .sized; contents = i .contents; inv = j }
+  by-write e y (to w x) inside j =
+      record {
+        sized = settled-sized (memoryWords p) l q s (i .sized) w x inside;
+        contents = rule-kept p s w x ∙ i .contents;
+        inv = rw (view-settled (memoryWords p) l q s (i .sized) w x inside) j
+      }
+
+  to-words : (c : Call) (o : Out) → Kept p v z k c o → KeptWords p l q s z k c o
+  to-words c o h =
+      record { after = h .after; tells = h .tells; expected = h .expected; inv = by-write (o .device) (h .after) (o .write) (h .inside) (h .inv) }
+
+  lengths : Lengths p v
+  lengths = let e = lengths-are (memoryWords p) l q s (i .sized) in record { memory-length = e .0; log-length = e .1; queue-length = e .2 }
+
+  view-at : view s ≡ v
+  view-at = view-is (memoryWords p) l q s (i .sized)
+
+  -- ---- the checks come down to the last
+
+  sound-device : deviceSound p (view s) d ≡ true
+  unfolding deviceSound zeros isFresh fresh pick _and_
+  sound-device = by-power (d .on) refl
+    where
+      by-power : (b : Bool) → d .on ≡ b → deviceSound p (view s) d ≡ true
+      by-power true e = ap (λ (u : Store). deviceSound p u d) view-at ∙ device-sound p v d z k (i .inv) sound e
+      by-power false e = ap (deviceSound p (view s)) (i .inv .off-is e)
+
+  look-is : look p s d ≡ must (d .on) Refusal.PowerOff
+  unfolding look
+  look-is =
+      then-skip _ (sound .head)
+      ∙ then-skip _ (i .contents)
+      ∙ then-skip _ (ap (λ (u : Store). obeyAll (earlyRules p u)) view-at ∙ early-obeyed p v d z k (i .inv))
+      ∙ then-skip _ (must-true _ sound-device)
+
+  boot-is : bootCheck p s d ≡ must (not (d .on)) Refusal.PowerOn
+  unfolding bootCheck
+  boot-is =
+      then-skip _ (sound .passed)
+      ∙ then-skip _ (i .contents)
+      ∙ then-skip _ (ap (λ (u : Store). obeyAll (rules p u)) view-at ∙ rules-obeyed p v d z k (i .inv))
+
+  -- ---- the calls
+
+  refused-words : (c : Call) (r : Refusal) → Expected c (Answer.Refused r) → KeptWords p l q s z k c (refuse d r)
+  refused-words c r e = to-words c (refuse d r) (refused-kept p v d z k c r e (i .inv))
+
+  judged-words : (c : Call) (b : Bool) (r : Refusal) (o : Out) (x : Checked) → x ≡ must b r → Expected c (Answer.Refused r)
+      → (b ≡ true → KeptWords p l q s z k c o) → KeptWords p l q s z k c (judged x d o)
+  unfolding judged must
+  judged-words c true r o x e f h = rw e (h refl)
+  judged-words c false r o x e f h = rw e (refused-words c r f)
+
+  boot-kept : KeptWords p l q s z k Boot (boot p s d)
+  unfolding boot refusal isIn mayMeet _or_ afterDone
+  boot-kept =
+      judged-words Boot (not (d .on)) Refusal.PowerOn (out none (fresh true) Answer.Done) (bootCheck p s d) boot-is refl
+      (λ e. to-words Boot _ (fresh-kept p v d z k (i .inv) Boot refl true))
+
+  cut-kept : KeptWords p l q s z k Cut cut
+  unfolding cut afterDone
+  cut-kept = to-words Cut _ (fresh-kept p v d z k (i .inv) Cut refl false)
+
+  step-kept : KeptWords p l q s z k Step (step p s d)
+  unfolding step refusal isIn mayMeet _or_
+  step-kept =
+      judged-words Step (d .on) Refusal.PowerOff (nextStep p (view s) d (d .handler)) (look p s d) look-is refl
+      (λ e.
+      rw view-at
+      (to-words Step (nextStep p v d (d .handler)) (next-kept p sound v lengths d e z k (i .inv) (d .handler) refl (i .inv .handles))))
+
+  post-kept : (e x : ℕ) → KeptWords p l q s z k (Post e x) (post p s d e x)
+  unfolding post postCheck refusal isIn mayMeet _or_
+  post-kept e x =
+      let o = out none (handled d (Storing Next.Event e x)) Answer.Done in
+      let known = ltb e (events p) in
+      let rests = atRest (d .handler) in
+      let room = not (full (view s)) in
+      rw (judged-then (look p s d) (must known Refusal.NoEvent then must rests Refusal.HandlerBusy then must room Refusal.QueueFull) d o)
+      (judged-words (Post e x) (d .on) Refusal.PowerOff _ (look p s d) look-is refl
+      (λ on.
+      rw (judged-then (must known Refusal.NoEvent) (must rests Refusal.HandlerBusy then must room Refusal.QueueFull) d o)
+      (judged-words (Post e x) known Refusal.NoEvent _ _ refl refl
+      (λ below.
+      rw (judged-then (must rests Refusal.HandlerBusy) (must room Refusal.QueueFull) d o)
+      (judged-words (Post e x) rests Refusal.HandlerBusy _ _ refl refl
+      (λ rest.
+      judged-words (Post e x) room Refusal.QueueFull _ _ refl refl
+      (λ free.
+      let not-full : after (v .records) (v .tail) ≢ v .head = eqb-false _ _ (not-true _ (ap (λ (u : Store). not (full u)) (sym view-at) ∙ free)) in
+      to-words (Post e x) o (posted-kept p v d z k (i .inv) on e x (ltb-true _ _ below) not-full))))))))
+
+  pub call-kept : (c : Call) → KeptWords p l q s z k c (call p s d c)
+  unfolding call
+  call-kept Boot = boot-kept
+  call-kept Step = step-kept
+  call-kept Cut = cut-kept
+  call-kept (Post e x) = post-kept e x
