@@ -291,6 +291,25 @@ event-later s h =
       head-done = λ l. absurd (omega arith)
     }
 
+-- r stores are left of a commit of which c are made
+abbrev pub Remaining : Store → ℕ → ℕ → Type 0
+Remaining v c r =
+    ((v .phase ≡ 0) × (r ≡ 0)) ⊎ (((v .phase ≡ 1) × (r + c ≡ v .count + 3)) ⊎ ((v .phase ≡ 2) × (r + c ≡ v .count + 2)))
+
+remaining-less : (v : Store) (c r : ℕ) → Remaining v c (suc r) → Remaining v (c + 1) r
+remaining-less v c r (inl n) = absurd (omega arith)
+remaining-less v c r (inr (inl n)) = inr (inl (n .0, omega arith))
+remaining-less v c r (inr (inr n)) = inr (inr (n .0, omega arith))
+
+-- a commit's store, after which r are left
+pub record Turn (v : Store) (o : Out) (r : ℕ) : Type 0 where
+  pub answer-is : o .answer ≡ Answer.Stored
+  pub on : o .device .on ≡ true
+  pub rests : o .device .handler ≡ Resting
+  pub place : ℕ
+  pub place-is : o .device .place ≡ Free place
+  pub remaining : Remaining (apply v (o .write)) place r
+
 pub task-last-is : (v : Store) → v .phase ≡ 1 → lastStores v ≡ to Task (v .pending) ∷ to Open (v .pendingOpen) ∷ to Phase 0 ∷ []
 unfolding lastStores
 task-last-is v e = pick-true _ _ (ap (λ (x : ℕ). eqb x 1) e)
@@ -523,3 +542,48 @@ module _ (p : List ℕ) (v : Store) (d : Device) (on : d .on ≡ true) (rest : d
       rw (last-is (c - v .count) e)
       (⊎-elim (λ s. rw (task-last-is v (s .phase-is)) (task-last-kept s (c - v .count) e))
       (λ s. rw (event-last-is v (s .phase-is)) (event-last-kept s (c - v .count) e)) t))
+
+  -- ---- how many stores are left
+
+  turn-copy : (r : ℕ) → Remaining v c (suc r) → c < v .count → Turn v (copyStep p v d c) r
+  unfolding apply moved
+  turn-copy r n h =
+      rw (copy-is h)
+      (record { answer-is = refl; on = on; rests = rest; place = c + 1; place-is = refl; remaining = remaining-less v c r n })
+
+  turn-last : (TaskCommitAt p v z c ⊎ EventCommitAt v z c) → (r : ℕ) → Remaining v c (suc r) → v .count ≤ c → Turn v (copyStep p v d c) r
+  unfolding apply moved storing pick fresh
+  turn-last t r n h =
+      let e : c ≡ v .count + (c - v .count) = omega arith in
+      rw (last-is (c - v .count) e)
+      (⊎-elim (λ s. rw (task-last-is v (s .phase-is)) (by-task s (c - v .count) e n))
+      (λ s. rw (event-last-is v (s .phase-is)) (by-event s (c - v .count) e n)) t)
+    where
+      ws : List Write
+      ws = to Task (v .pending) ∷ to Open (v .pendingOpen) ∷ to Phase 0 ∷ []
+      us : List Write
+      us = to Head (v .pending) ∷ to Phase 0 ∷ []
+      by-task : TaskCommitAt p v z c → (j : ℕ) → c ≡ v .count + j → Remaining v c (suc r) → Turn v (storing ws j further Answer.Stored) r
+      by-task s zero e n = record { answer-is = refl; on = on; rests = rest; place = c + 1; place-is = refl; remaining = remaining-less v c r n }
+      by-task s (suc zero) e n = record { answer-is = refl; on = on; rests = rest; place = c + 1; place-is = refl; remaining = remaining-less v c r n }
+      by-task s (suc (suc zero)) e n =
+          record { answer-is = refl; on = refl; rests = refl; place = 0; place-is = refl; remaining = inl (refl, none-left (s .phase-is) n) }
+        where
+          none-left : v .phase ≡ 1 → Remaining v c (suc r) → r ≡ 0
+          none-left f (inl x) = omega arith
+          none-left f (inr (inl x)) = omega arith
+          none-left f (inr (inr x)) = omega arith
+      by-task s (suc (suc (suc j))) e n = absurd (omega (arith, s .place))
+      by-event : EventCommitAt v z c → (j : ℕ) → c ≡ v .count + j → Remaining v c (suc r) → Turn v (storing us j further Answer.Stored) r
+      by-event s zero e n = record { answer-is = refl; on = on; rests = rest; place = c + 1; place-is = refl; remaining = remaining-less v c r n }
+      by-event s (suc zero) e n =
+          record { answer-is = refl; on = refl; rests = refl; place = 0; place-is = refl; remaining = inl (refl, none-left (s .phase-is) n) }
+        where
+          none-left : v .phase ≡ 2 → Remaining v c (suc r) → r ≡ 0
+          none-left f (inl x) = omega arith
+          none-left f (inr (inl x)) = omega arith
+          none-left f (inr (inr x)) = omega arith
+      by-event s (suc (suc j)) e n = absurd (omega (arith, s .place))
+
+  pub turn : (TaskCommitAt p v z c ⊎ EventCommitAt v z c) → (r : ℕ) → Remaining v c (suc r) → Turn v (copyStep p v d c) r
+  turn t r n = below-or c (v .count) (turn-copy r n) (turn-last t r n)

@@ -99,7 +99,7 @@ module _ (p : List ℕ) (v : Store) (d : Device) (z : Serial) (k : ℕ) (i : Inv
   placed-again on (Run b j c) ((s, r), e) = inl (s, refl)
   placed-again on (Half b j) ((s, r), e) = inl (s, refl)
 
-  fresh-inv : (on : Bool) → Inv p v (fresh on) z (suc k)
+  pub fresh-inv : (on : Bool) → Inv p v (fresh on) z (suc k)
   unfolding fresh
   fresh-inv on =
       record {

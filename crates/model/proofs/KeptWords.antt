@@ -39,6 +39,7 @@ pub record KeptWords (p : List ℕ) (l q : ℕ) (s : List ℕ) (z : Serial) (k :
   pub tells : (fuel : ℕ) → k < fuel → tell fuel p z c (o .answer) ≡ some after
   pub expected : Expected c (o .answer)
   pub inv : InvWords p l q (settled s (o .write)) (o .device) after (suc k)
+  pub parts : viewAt (memoryWords p) l q (settled s (o .write)) ≡ apply (viewAt (memoryWords p) l q s) (o .write)
 
 judged-then : (a b : Checked) (d : Device) (o : Out) → judged (a then b) d o ≡ judged a d (judged b d o)
 unfolding judged _then_
@@ -46,7 +47,7 @@ judged-then Checked.Accepted b d o = refl
 judged-then (Checked.Refused r) b d o = refl
 
 module _ (p : List ℕ) (sound : Sound p) (l q : ℕ) (s : List ℕ) (d : Device) (z : Serial) (k : ℕ) (i : InvWords p l q s d z k) where
-  abbrev v : Store
+  abbrev pub v : Store
   v = viewAt (memoryWords p) l q s
 
   -- from the parts to the words
@@ -60,14 +61,25 @@ module _ (p : List ℕ) (sound : Sound p) (l q : ℕ) (s : List ℕ) (d : Device
         inv = rw (view-settled (memoryWords p) l q s (i .sized) w x inside) j
       }
 
+  parts-are : (w : Write) → InsideOf p v w → viewAt (memoryWords p) l q (settled s w) ≡ apply v w
+  unfolding settled apply
+  parts-are none inside = refl
+  parts-are (to w x) inside = view-settled (memoryWords p) l q s (i .sized) w x inside
+
   to-words : (c : Call) (o : Out) → Kept p v z k c o → KeptWords p l q s z k c o
   to-words c o h =
-      record { after = h .after; tells = h .tells; expected = h .expected; inv = by-write (o .device) (h .after) (o .write) (h .inside) (h .inv) }
+      record {
+        after = h .after;
+        tells = h .tells;
+        expected = h .expected;
+        inv = by-write (o .device) (h .after) (o .write) (h .inside) (h .inv);
+        parts = parts-are (o .write) (h .inside)
+      }
 
   lengths : Lengths p v
   lengths = let e = lengths-are (memoryWords p) l q s (i .sized) in record { memory-length = e .0; log-length = e .1; queue-length = e .2 }
 
-  view-at : view s ≡ v
+  pub view-at : view s ≡ v
   view-at = view-is (memoryWords p) l q s (i .sized)
 
   -- ---- the checks come down to the last
@@ -80,7 +92,7 @@ module _ (p : List ℕ) (sound : Sound p) (l q : ℕ) (s : List ℕ) (d : Device
       by-power true e = ap (λ (u : Store). deviceSound p u d) view-at ∙ device-sound p v d z k (i .inv) sound e
       by-power false e = ap (deviceSound p (view s)) (i .inv .off-is e)
 
-  look-is : look p s d ≡ must (d .on) Refusal.PowerOff
+  pub look-is : look p s d ≡ must (d .on) Refusal.PowerOff
   unfolding look
   look-is =
       then-skip _ (sound .head)
@@ -88,7 +100,7 @@ module _ (p : List ℕ) (sound : Sound p) (l q : ℕ) (s : List ℕ) (d : Device
       ∙ then-skip _ (ap (λ (u : Store). obeyAll (earlyRules p u)) view-at ∙ early-obeyed p v d z k (i .inv))
       ∙ then-skip _ (must-true _ sound-device)
 
-  boot-is : bootCheck p s d ≡ must (not (d .on)) Refusal.PowerOn
+  pub boot-is : bootCheck p s d ≡ must (not (d .on)) Refusal.PowerOn
   unfolding bootCheck
   boot-is =
       then-skip _ (sound .passed)
@@ -106,17 +118,17 @@ module _ (p : List ℕ) (sound : Sound p) (l q : ℕ) (s : List ℕ) (d : Device
   judged-words c true r o x e f h = rw e (h refl)
   judged-words c false r o x e f h = rw e (refused-words c r f)
 
-  boot-kept : KeptWords p l q s z k Boot (boot p s d)
+  pub boot-kept : KeptWords p l q s z k Boot (boot p s d)
   unfolding boot refusal isIn mayMeet _or_ afterDone
   boot-kept =
       judged-words Boot (not (d .on)) Refusal.PowerOn (out none (fresh true) Answer.Done) (bootCheck p s d) boot-is refl
       (λ e. to-words Boot _ (fresh-kept p v d z k (i .inv) Boot refl true))
 
-  cut-kept : KeptWords p l q s z k Cut cut
+  pub cut-kept : KeptWords p l q s z k Cut cut
   unfolding cut afterDone
   cut-kept = to-words Cut _ (fresh-kept p v d z k (i .inv) Cut refl false)
 
-  step-kept : KeptWords p l q s z k Step (step p s d)
+  pub step-kept : KeptWords p l q s z k Step (step p s d)
   unfolding step refusal isIn mayMeet _or_
   step-kept =
       judged-words Step (d .on) Refusal.PowerOff (nextStep p (view s) d (d .handler)) (look p s d) look-is refl

@@ -9,4 +9,8 @@ pub mod KeptBody
 pub mod Checks
 pub mod KeptCalls
 pub mod KeptWords
+pub mod SerialLaws
+pub mod Fresh
+pub mod Recovery
+pub mod Demand3
 pub mod Starred

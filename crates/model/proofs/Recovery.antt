@@ -1,0 +1,193 @@
+-- Uncut recovery where the invariant holds: it isn't refused, takes just the steps that document 01 says, and leaves what the serial
+-- run has. Assumes nothing.
+use Prim.Native.Nat.{ℕ, zero, suc, _+_, _-_, _*_, _≤_, _<_}
+use mathlib.Core.Path.{_≡_, refl, sym, ap, _∙_, subst}
+use mathlib.Core.Logic.{_⊎_, inl, inr, _≢_}
+use mathlib.Core.Bool.{Bool, true, false, not}
+use mathlib.Core.List.{List, [], _∷_}
+use mathlib.Core.Option.{Option, some}
+use native.Mathlib.Nat.{not-suc-le-zero, add-zero, zero-add, add-assoc, add-comm}
+use native.Mathlib.Omega.{arith}
+use lib.Dec.{eqb}
+use Rattle.model.proofs.Invariant.{Inv, Waiting, StillAt, Placed}
+use Rattle.model.proofs.Kept.{Remaining, Turn, turn, first-head}
+use Rattle.model.proofs.KeptWords.{InvWords, KeptWords, step-kept, cut-kept, boot-kept, view-at, look-is, boot-is}
+use Rattle.model.proofs.KeptCalls.{fresh-inv}
+use Rattle.model.proofs.ProgramLaws.{Sound}
+use Rattle.model.proofs.StoreLaws.{viewAt}
+use Rattle.model.proofs.TestLaws.{pick-true, pick-false, must-true}
+use Rattle.model.specs.Calls.{Call, Boot, Step, Cut, unlessRefused, Recovery, recovered, refused, unfinished, finish, recovery}
+use Rattle.model.specs.Claims.{Left, recoverySteps, Recovers}
+use Rattle.model.specs.Device.{Out, out, judged, fresh, off, look, bootCheck, boot, cut, copyStep, placeStep, nextStep, step}
+use Rattle.model.specs.Program.{memoryWords}
+use Rattle.model.specs.Serial.{Serial, tell}
+use Rattle.model.specs.Store.{Store, view, Write, none, settled, waiting, firstWaiting}
+use Rattle.model.specs.Test.{pick, must}
+use Rattle.model.specs.Types.{Answer, Checked, Device, Free, Half, Handler, Place, Refusal, Resting, Run}
+
+pub waiting-is : (p : List ℕ) (v : Store) (d : Device) (z : Serial) (k : ℕ) → Inv p v d z k → waiting v ≡ z .records
+unfolding waiting
+waiting-is p v d z k i = i .waits .same
+
+-- in phase 0 the store has what the serial run has
+module _ (p : List ℕ) (v : Store) (d : Device) (z : Serial) (k : ℕ) (i : Inv p v d z k) (e : v .phase ≡ 0) where
+  still-at : (x : Place) → Placed p v d z k x → StillAt v z
+  still-at (Free c) (inl (s, f)) = s
+  still-at (Free c) (inr (m, inl t)) = absurd (omega (arith, t .phase-is))
+  still-at (Free c) (inr (m, inr t)) = absurd (omega (arith, t .phase-is))
+  still-at (Run b j c) ((s, r), f) = s
+  still-at (Half b j) ((s, r), f) = s
+
+  left-at : Left v z
+  left-at =
+      let s = still-at (d .place) (i .placed) in
+      record { memory = s .memory-is; task = s .task-is; openNumber = s .open-is; records = waiting-is p v d z k i }
+
+
+-- ---- one step of recovery
+
+module _ (p : List ℕ) (sound : Sound p) (l q : ℕ) (s : List ℕ) (d : Device) (z : Serial) (k : ℕ) (i : InvWords p l q s d z k) where
+  abbrev v : Store
+  v = viewAt (memoryWords p) l q s
+
+  step-is : d .on ≡ true → step p s d ≡ nextStep p v d (d .handler)
+  unfolding step judged
+  step-is on =
+      ap (λ (x : Checked). judged x d (nextStep p (view s) d (d .handler))) (look-is p sound l q s d z k i ∙ must-true _ on)
+      ∙ ap (λ (u : Store). nextStep p u d (d .handler)) (view-at p sound l q s d z k i)
+
+  commit-is : d .on ≡ true → d .handler ≡ Resting → (c : ℕ) → d .place ≡ Free c → eqb (v .phase) 0 ≡ false → step p s d ≡ copyStep p v d c
+  unfolding nextStep placeStep
+  commit-is on rest c at busy =
+      step-is on
+      ∙ ap (nextStep p v d) rest
+      ∙ ap (placeStep p v d) at
+      ∙ pick-false _ _ busy
+
+  -- nothing is left to store: the phase is 0
+  all-done : (c : ℕ) → d .place ≡ Free c → Remaining v c 0 → v .phase ≡ 0
+  all-done c at (inl n) = n .0
+  all-done c at (inr n) = by-commit (rw at at (i .inv .placed)) n
+    where
+      by-commit : Placed p v d z k (Free c) → ((v .phase ≡ 1) × (0 + c ≡ v .count + 3)) ⊎ ((v .phase ≡ 2) × (0 + c ≡ v .count + 2)) → v .phase ≡ 0
+      by-commit (inl (s, e)) n = s .phase-is
+      by-commit (inr (m, inl t)) (inl n) = absurd (omega (arith, t .place))
+      by-commit (inr (m, inl t)) (inr n) = absurd (omega (arith, t .phase-is))
+      by-commit (inr (m, inr t)) (inl n) = absurd (omega (arith, t .phase-is))
+      by-commit (inr (m, inr t)) (inr n) = absurd (omega (arith, t .place))
+
+  -- something is left: a commit is at work, and makes its next store
+  next-turn : (c r : ℕ) → d .on ≡ true → d .handler ≡ Resting → d .place ≡ Free c → Remaining v c (suc r) → Turn v (step p s d) r
+  next-turn c r on rest at n = by-commit (rw at at (i .inv .placed)) n
+    where
+      busy : (m : ℕ) → v .phase ≡ m → eqb m 0 ≡ false → eqb (v .phase) 0 ≡ false
+      busy m e f = ap (λ (x : ℕ). eqb x 0) e ∙ f
+      by-commit : Placed p v d z k (Free c) → Remaining v c (suc r) → Turn v (step p s d) r
+      by-commit (inl (s, e)) (inl n) = absurd (omega arith)
+      by-commit (inl (s, e)) (inr (inl n)) = absurd (omega (arith, s .phase-is))
+      by-commit (inl (s, e)) (inr (inr n)) = absurd (omega (arith, s .phase-is))
+      by-commit (inr (m, inl t)) n =
+          rw (commit-is on rest c at (busy 1 (t .phase-is) refl)) (turn p v d on rest z k (i .inv) c m (inl t) r n)
+      by-commit (inr (m, inr t)) n =
+          rw (commit-is on rest c at (busy 2 (t .phase-is) refl)) (turn p v d on rest z k (i .inv) c m (inr t) r n)
+
+  some-left : (c r : ℕ) → Remaining v c (suc r) → eqb (v .phase) 0 ≡ false
+  some-left c r (inl n) = absurd (omega arith)
+  some-left c r (inr (inl n)) = ap (λ (x : ℕ). eqb x 0) (n .0)
+  some-left c r (inr (inr n)) = ap (λ (x : ℕ). eqb x 0) (n .0)
+
+  -- a step that stored leaves the serial run where it was
+  stored-same : (h : KeptWords p l q s z k Step (step p s d)) → step p s d .answer ≡ Answer.Stored → h .after ≡ z
+  unfolding tell
+  stored-same h e =
+      let t : tell (suc k) p z Step Answer.Stored ≡ some (h .after) = rw e at (h .tells (suc k) (omega arith)) in
+      let u : some z ≡ some (h .after) = t in
+      cc
+
+-- ---- recovery
+
+pub record Finishes (p s : List ℕ) (d : Device) (z : Serial) (fuel n r : ℕ) : Type 0 where
+  pub store : List ℕ
+  pub ends : finish p fuel n s d ≡ recovered (n + r) store
+  pub left : Left (view store) z
+
+finish-none : (p : List ℕ) (fuel n : ℕ) (s : List ℕ) (d : Device) → view s .phase ≡ 0 → finish p fuel n s d ≡ recovered n s
+unfolding finish
+finish-none p zero n s d e = pick-true _ _ (ap (λ (x : ℕ). eqb x 0) e)
+finish-none p (suc fuel) n s d e = pick-true _ _ (ap (λ (x : ℕ). eqb x 0) e)
+
+finish-step : (p : List ℕ) (fuel n : ℕ) (s : List ℕ) (d : Device) → eqb (view s .phase) 0 ≡ false → step p s d .answer ≡ Answer.Stored
+    → finish p (suc fuel) n s d ≡ finish p fuel (n + 1) (settled s (step p s d .write)) (step p s d .device)
+unfolding finish unlessRefused
+finish-step p fuel n s d e f =
+    pick-false _ _ e
+    ∙ ap (λ (a : Answer). unlessRefused a refused (finish p fuel (n + 1) (settled s (step p s d .write)) (step p s d .device))) f
+
+finishes : (p : List ℕ) (sound : Sound p) (l q r fuel n : ℕ) (s : List ℕ) (d : Device) (z : Serial) (k c : ℕ) → InvWords p l q s d z k
+    → d .on ≡ true → d .handler ≡ Resting → d .place ≡ Free c → Remaining (viewAt (memoryWords p) l q s) c r → r ≤ fuel
+    → Finishes p s d z fuel n r
+finishes p sound l q zero fuel n s d z k c i on rest at m h =
+    let done = all-done p sound l q s d z k i c at m in
+    record {
+      store = s;
+      ends = finish-none p fuel n s d done ∙ ap (λ (x : ℕ). recovered x s) (sym (add-zero n));
+      left = rw (view-at p sound l q s d z k i) (left-at p (viewAt (memoryWords p) l q s) d z k (i .inv) done)
+    }
+finishes p sound l q (suc r) zero n s d z k c i on rest at m h = absurd (not-suc-le-zero h)
+finishes p sound l q (suc r) (suc fuel) n s d z k c i on rest at m h =
+    let t = next-turn p sound l q s d z k i c r on rest at m in
+    let w = step-kept p sound l q s d z k i in
+    let same = stored-same p sound l q s d z k i w (t .answer-is) in
+    let rest′ =
+        finishes p sound l q r fuel (n + 1) (settled s (step p s d .write)) (step p s d .device) z (suc k) (t .place) (rw same at (w .inv)) (t .on) (t .rests)
+        (t .place-is) (subst (λ (u : Store). Remaining u (t .place) r) (sym (w .parts)) (t .remaining)) (omega arith) in
+    record {
+      store = rest′ .store;
+      ends =
+          finish-step p fuel n s d (some-left p sound l q s d z k i c r m) (t .answer-is)
+          ∙ rest′ .ends
+          ∙ ap (λ (x : ℕ). recovered x (rest′ .store)) (let e : n + 1 + r ≡ n + suc r = omega arith in e);
+      left = rest′ .left
+    }
+
+-- the stores that a boot finds unmade
+steps-remain : (p : List ℕ) (v : Store) (z : Serial) (k : ℕ) → Placed p v (fresh true) z k (Free 0) → Remaining v 0 (recoverySteps v)
+unfolding recoverySteps
+steps-remain p v z k (inl (s, e)) =
+    inl
+    (s .phase-is
+    , pick-false _ _ (ap (λ (x : ℕ). eqb x 1) (s .phase-is)) ∙ pick-false _ _ (ap (λ (x : ℕ). eqb x 2) (s .phase-is)))
+steps-remain p v z k (inr (m, inl t)) =
+    inr
+    (inl
+    (t .phase-is
+    , ap (λ (x : ℕ). x + 0) (pick-true _ _ (ap (λ (x : ℕ). eqb x 1) (t .phase-is))) ∙ add-zero (v .count + 3)))
+steps-remain p v z k (inr (m, inr t)) =
+    inr
+    (inr
+    (t .phase-is
+    , ap (λ (x : ℕ). x + 0)
+    (pick-false _ _ (ap (λ (x : ℕ). eqb x 1) (t .phase-is)) ∙ pick-true _ _ (ap (λ (x : ℕ). eqb x 2) (t .phase-is)))
+    ∙ add-zero (v .count + 2)))
+
+pub recovers : (p : List ℕ) (sound : Sound p) (l q : ℕ) (s : List ℕ) (d : Device) (z : Serial) (k : ℕ) → InvWords p l q s d z k → (fuel : ℕ)
+    → recoverySteps (view s) ≤ fuel → Recovers p s z fuel
+unfolding recovery cut boot judged unlessRefused fresh must
+recovers p sound l q s d z k i fuel h =
+    let v = viewAt (memoryWords p) l q s in
+    let powered : (on : Bool) → InvWords p l q s (fresh on) z (suc k) =
+        λ on. record { sized = i .sized; contents = i .contents; inv = fresh-inv p v d z k (i .inv) on } in
+    let booted : boot p s off ≡ out none (fresh true) Answer.Done =
+        ap (λ (x : Checked). judged x off (out none (fresh true) Answer.Done)) (boot-is p sound l q s off z (suc k) (powered false)) in
+    let n = steps-remain p v z (suc k) (powered true .inv .placed) in
+    let f =
+        finishes p sound l q (recoverySteps v) fuel 0 s (fresh true) z (suc k) 0 (powered true) refl refl refl n
+        (subst (λ (u : Store). recoverySteps u ≤ fuel) (view-at p sound l q s d z k i) h) in
+    record {
+      store = f .store;
+      ends =
+          ap (λ (o : Out). unlessRefused (o .answer) refused (finish p fuel 0 s (o .device))) booted
+          ∙ f .ends
+          ∙ ap (λ (x : ℕ). recovered x (f .store)) (zero-add (recoverySteps v) ∙ ap recoverySteps (sym (view-at p sound l q s d z k i)));
+      left = f .left
+    }

@@ -1,0 +1,243 @@
+-- Laws of the serial run (specs/Serial.antt): what it needs at a body, the balance of records, and that fuel doesn't change it.
+-- Assumes nothing.
+use Prim.Native.Nat.{ℕ, zero, suc, _+_, _-_, _*_, _≤_, _<_}
+use mathlib.Core.Path.{_≡_, refl, sym, ap, _∙_}
+use mathlib.Core.Logic.{_⊎_, inl, inr}
+use mathlib.Core.Bool.{Bool, true, false}
+use mathlib.Core.List.{List, [], _∷_, _++_}
+use mathlib.Core.Option.{Option, none, some}
+use native.Mathlib.Nat.{not-suc-le-zero, le-of-suc-le-suc}
+use native.Mathlib.Omega.{arith}
+use borrow.Author.Tests.{eqb-true}
+use lib.Dec.{ltb, eqb}
+use lib.ListN.{length, length-append, set, replicate}
+use Rattle.model.proofs.TestLaws.{pick-case, pick-true, pick-false, clash, below-or, and-left, and-right}
+use Rattle.model.specs.Calls.{Call, Boot, Step, Cut, Post, Line, isAccept}
+use Rattle.model.specs.Claims.{isCompletion, countBy, RunsTask, RunsEvent, Runs}
+use Rattle.model.specs.Program.{word, memoryWords, instructions, number, effectAt}
+use Rattle.model.specs.Serial.{Serial, Walked, went, served, lost, advance, walk, walkBody, afterTask, afterEvent, serveOldest, runBody, afterDone, accept, tell, andThen, serialFrom, serial, serialStart}
+use Rattle.model.specs.Store.{Record}
+use Rattle.model.specs.Test.{pick, _and_}
+use Rattle.model.specs.Types.{Answer, Body, Effect}
+
+-- ---- options
+
+not-some {ℓ} : {X : Type ℓ} {y : Serial} → none ≡ some y → X
+not-some e = let z : _≡_ {A = ℕ} 0 1 = cc in absurd (omega arith)
+
+some-same : {x y : Serial} → some x ≡ some y → x ≡ y
+some-same e = cc
+
+-- ---- a body that the serial run runs
+
+by-end : (fuel : ℕ) (p : List ℕ) (z y : Serial) (t : ℕ) (w : Walked) → walkBody fuel p (Body.Task t) 0 (z .memory) ≡ w → t ≡ z .task
+    → afterTask p z w ≡ some y → RunsTask p z fuel t
+unfolding afterTask
+by-end fuel p z y t (went k m) q n e = record { current = n; next = k; memory = m; ends = q }
+by-end fuel p z y t (served m) q n e = not-some e
+by-end fuel p z y t lost q n e = not-some e
+
+by-end′ : (fuel : ℕ) (p : List ℕ) (z y : Serial) (e : ℕ) (x : Record) (rest : List Record) → z .records ≡ x ∷ rest → x .event ≡ e → z .openNumber ≡ 0
+    → (w : Walked) → walkBody fuel p (Body.Event e) (x .datum) (z .memory) ≡ w → afterEvent z rest w ≡ some y → RunsEvent p z fuel e
+unfolding afterEvent
+by-end′ fuel p z y e x rest there named closed (went k m) q f = not-some f
+by-end′ fuel p z y e x rest there named closed (served m) q f =
+    record { oldest = x; rest = rest; there = there; named = named; closed = closed; memory = m; ends = q }
+by-end′ fuel p z y e x rest there named closed lost q f = not-some f
+
+-- a choice that is some is made
+chosen : (b : Bool) (x : Option Serial) (y : Serial) → pick b x none ≡ some y → (b ≡ true) × (x ≡ some y)
+unfolding pick
+chosen true x y e = (refl, e)
+chosen false x y e = not-some e
+
+pub runs-body : (fuel : ℕ) (p : List ℕ) (z y : Serial) (b : Body) → runBody fuel p z b ≡ some y → Runs p z fuel b
+unfolding runBody serveOldest
+runs-body fuel p z y (Body.Task t) e =
+    let c = chosen _ _ y e in
+    by-end fuel p z y t (walkBody fuel p (Body.Task t) 0 (z .memory)) refl (eqb-true _ _ (c .0)) (c .1)
+runs-body fuel p z y (Body.Event e) f = by-oldest (z .records) refl f
+  where
+    by-oldest : (rs : List Record) → z .records ≡ rs → serveOldest fuel p z e rs ≡ some y → RunsEvent p z fuel e
+    by-oldest [] q g = not-some g
+    by-oldest (x ∷ rest) q g =
+        let c = chosen _ _ y g in
+        by-end′ fuel p z y e x rest q (eqb-true _ _ (and-left _ _ (c .0))) (eqb-true _ _ (and-right _ _ (c .0)))
+        (walkBody fuel p (Body.Event e) (x .datum) (z .memory)) refl (c .1)
+
+-- ---- the balance: accepted and waiting before, completed and waiting after
+
+added : Bool → ℕ → ℕ
+added b n = pick b (suc n) n
+
+done-records : (z : Serial) (c : Call) → afterDone z c .records ≡ z .records
+unfolding afterDone
+done-records z Boot = refl
+done-records z Step = refl
+done-records z Cut = refl
+done-records z (Post e x) = refl
+
+task-records : (p : List ℕ) (z y : Serial) (w : Walked) → afterTask p z w ≡ some y → y .records ≡ z .records
+unfolding afterTask
+task-records p z y (went k m) e = ap (λ (x : Serial). x .records) (sym (some-same e))
+task-records p z y (served m) e = not-some e
+task-records p z y lost e = not-some e
+
+event-records : (z y : Serial) (rest : List Record) (w : Walked) → afterEvent z rest w ≡ some y → y .records ≡ rest
+unfolding afterEvent
+event-records z y rest (went k m) e = not-some e
+event-records z y rest (served m) e = ap (λ (x : Serial). x .records) (sym (some-same e))
+event-records z y rest lost e = not-some e
+
+body-balance : (fuel : ℕ) (p : List ℕ) (z y : Serial) (b : Body) → runBody fuel p z b ≡ some y
+    → length (z .records) ≡ added (isCompletion (Answer.Committed b)) (length (y .records))
+unfolding runBody serveOldest added isCompletion pick
+body-balance fuel p z y (Body.Task t) e =
+    ap length (sym (task-records p z y (walkBody fuel p (Body.Task t) 0 (z .memory)) (chosen (eqb t (z .task)) _ y e .1)))
+body-balance fuel p z y (Body.Event e) f = by-oldest (z .records) f
+  where
+    by-oldest : (rs : List Record) → serveOldest fuel p z e rs ≡ some y → length rs ≡ suc (length (y .records))
+    by-oldest [] g = not-some g
+    by-oldest (x ∷ rest) g =
+        ap (λ (r : List Record). suc (length r))
+        (sym
+        (event-records z y rest (walkBody fuel p (Body.Event e) (x .datum) (z .memory))
+        (chosen (eqb (x .event) e and eqb (z .openNumber) 0) _ y g .1)))
+
+tell-balance : (fuel : ℕ) (p : List ℕ) (z y : Serial) (c : Call) (a : Answer) → tell fuel p z c a ≡ some y
+    → added (isAccept a) (length (z .records)) ≡ added (isCompletion a) (length (y .records))
+unfolding tell added isAccept isCompletion pick accept
+tell-balance fuel p z y c Answer.Done e = ap length (sym (done-records z c) ∙ ap (λ (x : Serial). x .records) (some-same e))
+tell-balance fuel p z y c (Answer.Chosen b) e = ap (λ (x : Serial). length (x .records)) (some-same e)
+tell-balance fuel p z y c Answer.Worked e = ap (λ (x : Serial). length (x .records)) (some-same e)
+tell-balance fuel p z y c Answer.Stored e = ap (λ (x : Serial). length (x .records)) (some-same e)
+tell-balance fuel p z y c (Answer.Committed b) e = body-balance fuel p z y b e
+tell-balance fuel p z y c Answer.Accepted e =
+    let q : length (z .records ++ z .posted ∷ []) ≡ length (y .records) = ap (λ (x : Serial). length (x .records)) (some-same e) in
+    omega (arith, length-append (z .records) (z .posted ∷ []))
+tell-balance fuel p z y c (Answer.Refused r) e = ap (λ (x : Serial). length (x .records)) (some-same e)
+
+then-none : (f : Serial → Option Serial) → andThen none f ≡ none
+unfolding andThen
+then-none f = refl
+
+then-some : (w : Serial) (f : Serial → Option Serial) → andThen (some w) f ≡ f w
+unfolding andThen
+then-some w f = refl
+
+-- a serial run over a line and more
+line-some : (fuel : ℕ) (p : List ℕ) (z y : Serial) (x : Line) (xs : List Line) → serialFrom fuel p z (x ∷ xs) ≡ some y
+    → (w : Serial) × (tell fuel p z (x .called) (x .answered) ≡ some w) × (serialFrom fuel p w xs ≡ some y)
+unfolding serialFrom
+line-some fuel p z y x xs e = go (tell fuel p z (x .called) (x .answered)) refl e
+  where
+    go : (o : Option Serial) → tell fuel p z (x .called) (x .answered) ≡ o → andThen o (λ w. serialFrom fuel p w xs) ≡ some y
+        → (w : Serial) × (tell fuel p z (x .called) (x .answered) ≡ some w) × (serialFrom fuel p w xs ≡ some y)
+    go none q f = not-some (sym (then-none (λ w. serialFrom fuel p w xs)) ∙ f)
+    go (some w) q f = (w, q, sym (then-some w (λ u. serialFrom fuel p u xs)) ∙ f)
+
+join : (a c : Bool) (m n s t u : ℕ) → added a s ≡ added c t → m + t ≡ n + u → pick a (suc m) m + s ≡ pick c (suc n) n + u
+unfolding added pick
+join true true m n s t u e f = omega arith
+join true false m n s t u e f = omega arith
+join false true m n s t u e f = omega arith
+join false false m n s t u e f = omega arith
+
+pub serial-balance : (fuel : ℕ) (p : List ℕ) (z y : Serial) (xs : List Line) → serialFrom fuel p z xs ≡ some y
+    → countBy isAccept xs + length (z .records) ≡ countBy isCompletion xs + length (y .records)
+unfolding serialFrom countBy
+serial-balance fuel p z y [] e = ap (λ (x : Serial). 0 + length (x .records)) (some-same e)
+serial-balance fuel p z y (x ∷ xs) e =
+    let (w, q, f) = line-some fuel p z y x xs e in
+    join (isAccept (x .answered)) (isCompletion (x .answered)) (countBy isAccept xs) (countBy isCompletion xs) (length (z .records))
+    (length (w .records)) (length (y .records)) (tell-balance fuel p z w (x .called) (x .answered) q) (serial-balance fuel p w y xs f)
+
+-- ---- fuel: with more of it a body's run is the same, unless it was lost
+
+abbrev More : Walked → Walked → Type 0
+More u w = (u ≡ lost) ⊎ (w ≡ u)
+
+pick-either : (b : Bool) {x y : Walked} → More x y → More (pick b x lost) (pick b y lost)
+unfolding pick
+pick-either true h = h
+pick-either false h = inl refl
+
+advance-more : (p : List ℕ) (j : ℕ) (r m : List ℕ) (go on : ℕ → List ℕ → List ℕ → Walked) → ((k : ℕ) (s n : List ℕ) → More (go k s n) (on k s n))
+    → (f : Effect) → More (advance p j r m go f) (advance p j r m on f)
+unfolding advance
+advance-more p j r m go on h (Effect.Compute a x) = h (j + 1) (set r a x) m
+advance-more p j r m go on h (Effect.Jump k) = h k r m
+advance-more p j r m go on h (Effect.Read a x) =
+    pick-either (ltb x (memoryWords p)) (h (j + 1) (set r a (word m x)) m)
+advance-more p j r m go on h (Effect.Write x y) = pick-either (ltb x (memoryWords p)) (h (j + 1) r (set m x y))
+advance-more p j r m go on h (Effect.EndTask k) = inr refl
+advance-more p j r m go on h Effect.EndEvent = inr refl
+advance-more p j r m go on h Effect.Unknown = inl refl
+
+walk-more : (f g : ℕ) → f ≤ g → (p : List ℕ) (i j : ℕ) (r m : List ℕ) → More (walk f p i j r m) (walk g p i j r m)
+unfolding walk
+walk-more zero g l p i j r m = inl refl
+walk-more (suc f) zero l p i j r m = absurd (not-suc-le-zero l)
+walk-more (suc f) (suc g) l p i j r m =
+    pick-either (ltb j (instructions p i))
+    (advance-more p j r m (λ k s n. walk f p i k s n) (λ k s n. walk g p i k s n) (λ k s n. walk-more f g (le-of-suc-le-suc l) p i k s n) (effectAt p i j r))
+
+end-more : (f g : ℕ) → f ≤ g → (p : List ℕ) (b : Body) (x : ℕ) (m : List ℕ) → More (walkBody f p b x m) (walkBody g p b x m)
+unfolding walkBody
+end-more f g l p b x m = walk-more f g l p (number p b) 0 (x ∷ replicate 7 0) m
+
+task-more : (p : List ℕ) (z y : Serial) (u w : Walked) → More u w → afterTask p z u ≡ some y → afterTask p z w ≡ some y
+unfolding afterTask
+task-more p z y u w (inl e) h = not-some (sym (ap (afterTask p z) e) ∙ h)
+task-more p z y u w (inr e) h = ap (afterTask p z) e ∙ h
+
+event-more : (z y : Serial) (rest : List Record) (u w : Walked) → More u w → afterEvent z rest u ≡ some y → afterEvent z rest w ≡ some y
+unfolding afterEvent
+event-more z y rest u w (inl e) h = not-some (sym (ap (afterEvent z rest) e) ∙ h)
+event-more z y rest u w (inr e) h = ap (afterEvent z rest) e ∙ h
+
+pick-more : (b : Bool) (u w : Option Serial) (y : Serial) → (u ≡ some y → w ≡ some y) → pick b u none ≡ some y → pick b w none ≡ some y
+unfolding pick
+pick-more true u w y h e = h e
+pick-more false u w y h e = e
+
+oldest-more : (f g : ℕ) → f ≤ g → (p : List ℕ) (z y : Serial) (e : ℕ) (rs : List Record) → serveOldest f p z e rs ≡ some y → serveOldest g p z e rs ≡ some y
+unfolding serveOldest
+oldest-more f g l p z y e [] h = h
+oldest-more f g l p z y e (x ∷ rest) h =
+    pick-more (eqb (x .event) e and eqb (z .openNumber) 0) (afterEvent z rest (walkBody f p (Body.Event e) (x .datum) (z .memory)))
+    (afterEvent z rest (walkBody g p (Body.Event e) (x .datum) (z .memory))) y
+    (event-more z y rest _ _ (end-more f g l p (Body.Event e) (x .datum) (z .memory))) h
+
+body-more : (f g : ℕ) → f ≤ g → (p : List ℕ) (z y : Serial) (b : Body) → runBody f p z b ≡ some y → runBody g p z b ≡ some y
+unfolding runBody
+body-more f g l p z y (Body.Task t) h =
+    pick-more (eqb t (z .task)) (afterTask p z (walkBody f p (Body.Task t) 0 (z .memory))) (afterTask p z (walkBody g p (Body.Task t) 0 (z .memory))) y
+    (task-more p z y _ _ (end-more f g l p (Body.Task t) 0 (z .memory))) h
+body-more f g l p z y (Body.Event e) h = oldest-more f g l p z y e (z .records) h
+
+tell-more : (f g : ℕ) → f ≤ g → (p : List ℕ) (z y : Serial) (c : Call) (a : Answer) → tell f p z c a ≡ some y → tell g p z c a ≡ some y
+unfolding tell
+tell-more f g l p z y c Answer.Done h = h
+tell-more f g l p z y c (Answer.Chosen b) h = h
+tell-more f g l p z y c Answer.Worked h = h
+tell-more f g l p z y c Answer.Stored h = h
+tell-more f g l p z y c (Answer.Committed b) h = body-more f g l p z y b h
+tell-more f g l p z y c Answer.Accepted h = h
+tell-more f g l p z y c (Answer.Refused r) h = h
+
+serial-more : (f g : ℕ) → f ≤ g → (p : List ℕ) (z y : Serial) (xs : List Line) → serialFrom f p z xs ≡ some y → serialFrom g p z xs ≡ some y
+unfolding serialFrom
+serial-more f g l p z y [] e = e
+serial-more f g l p z y (x ∷ xs) e =
+    let (w, q, h) = line-some f p z y x xs e in
+    ap (λ (o : Option Serial). andThen o (λ u. serialFrom g p u xs)) (tell-more f g l p z w (x .called) (x .answered) q)
+    ∙ then-some w (λ u. serialFrom g p u xs)
+    ∙ serial-more f g l p w y xs h
+
+-- The serial run determines its state: whatever the fuel, if the run comes to an end, it comes to the same.
+pub serial-determined : (f g : ℕ) (p : List ℕ) (y w : Serial) (xs : List Line) → serial f p xs ≡ some y → serial g p xs ≡ some w → y ≡ w
+unfolding serial
+serial-determined f g p y w xs e h =
+    below-or f g (λ l. some-same (sym (serial-more f g (omega arith) p (serialStart p) y xs e) ∙ h))
+    (λ l. some-same (sym e ∙ serial-more g f l p (serialStart p) w xs h))
