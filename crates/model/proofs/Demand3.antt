@@ -41,7 +41,7 @@ calls-kept p sound l q (c ∷ cs) s d z k i =
           λ fuel b.
           ap (λ (x : Option Serial). andThen x (λ y. serialFrom fuel p y (history p (settled s (o .write)) (o .device) cs))) (h .tells fuel (omega arith))
           ∙ rest .ran fuel (omega arith);
-      inv = rw e at (rest .inv)
+      inv = rw e at (rest .inv);
     }
 
 from-formatted : (p : List ℕ) → Sound p → (l q : ℕ) (cs : List Call) → InvWords p l q (formatted p l q) off (serialStart p) 0 → Demand3 p (formatted p l q) cs
@@ -64,7 +64,7 @@ from-formatted p sound l q cs i =
       bodies =
           λ b e.
           let t : runBody (suc n) p (a .state) b ≡ some (next Step .after) = rw e at (next Step .tells (suc n) (omega arith)) in
-          runs-body (suc n) p (a .state) (next Step .after) b t
+          runs-body (suc n) p (a .state) (next Step .after) b t;
     }
 
 pub demand3 : (p : List ℕ) (l q : ℕ) (s : List ℕ) → formatCheck p l q s ≡ Checked.Accepted → (cs : List Call) → Demand3 p (format p l q s) cs

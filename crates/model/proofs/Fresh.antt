@@ -57,7 +57,7 @@ module _ (p : List ℕ) (sound : Sound p) (l q : ℕ) (sizes : sizesRule l q ≡
         length-is = simp length-replicate (omega arith);
         memory-is = refl;
         pairs-is = refl;
-        records-is = refl
+        records-is = refl;
       }
 
   contents : storeRule p s ≡ Checked.Accepted
@@ -92,7 +92,7 @@ module _ (p : List ℕ) (sound : Sound p) (l q : ℕ) (sizes : sizesRule l q ≡
         first-in = omega arith;
         tail-in = omega arith;
         same = refl;
-        known = λ x k b. absurd (none x b)
+        known = λ x k b. absurd (none x b);
       }
     where
       none : (x : ℕ) → Between 0 0 x → ⊥
@@ -109,7 +109,7 @@ module _ (p : List ℕ) (sound : Sound p) (l q : ℕ) (sizes : sizesRule l q ≡
         handles = tt;
         off-is = λ e. refl;
         count-in = omega arith;
-        placed = inl (record { phase-is = refl; memory-is = memory-is; task-is = refl; open-is = behind 0 }, refl)
+        placed = inl (record { phase-is = refl; memory-is = memory-is; task-is = refl; open-is = behind 0 }, refl);
       }
 
   pub fresh-words : InvWords p l q s off (serialStart p) 0
@@ -128,5 +128,5 @@ format-passed p l q s e =
     record {
       sound = check-passed p (then-first _ _ e);
       sizes = must-passed _ _ (then-first _ _ (then-rest _ _ e));
-      store-is = rw e
+      store-is = rw e;
     }

@@ -48,7 +48,7 @@ running-later h =
       distinct = h .distinct;
       ran = h .ran;
       ran-in = omega (arith, h .ran-in);
-      same = h .same
+      same = h .same;
     }
 
 placed-later : (p : List ℕ) (v : Store) (d : Device) (z : Serial) (k : ℕ) (x : Place) → Placed p v d z k x → Placed p v d z (suc k) x
@@ -65,7 +65,7 @@ inv-later p v d z k i =
       handles = i .handles;
       off-is = i .off-is;
       count-in = i .count-in;
-      placed = placed-later p v d z k (d .place) (i .placed)
+      placed = placed-later p v d z k (d .place) (i .placed);
     }
 
 -- a refused call
@@ -93,6 +93,7 @@ module _ (p : List ℕ) (v : Store) (d : Device) (z : Serial) (k : ℕ) (i : Inv
     where
       by-head : (n : ℕ) → v .phase ≡ n → eqb n 2 ≡ false → Room
       by-head n e f room = rw (first-head v n e f) room
+
       by-place : (x : Place) → Placed p v d z k x → Room
       by-place (Free c) (inl (s, e)) = by-head 0 (s .phase-is) refl
       by-place (Free c) (inr (y, inl t)) = by-head 1 (t .phase-is) refl
@@ -121,7 +122,7 @@ requeued v queue t =
       tail = t;
       memory = v .memory;
       log = v .log;
-      queue = queue
+      queue = queue;
     }
 
 -- other records and another latest post
@@ -138,18 +139,19 @@ module _ (p : List ℕ) (v : Store) (d : Device) (z : Serial) (k : ℕ) (queue :
   placed-requeued h rs y f g (Free c) (inl s) = inl s
   placed-requeued h rs y f g (Free c) (inr (m, inl s)) = inr (m, inl s)
   placed-requeued h rs y f g (Free c) (inr (m, inr s)) =
-      inr
-      (m
-      , inr
-      (record {
-        phase-is = s .phase-is;
-        task-is = s .task-is;
-        open-is = s .open-is;
-        open-none = s .open-none;
-        pending-is = ⊎-elim inl (λ q. inr (q .0, g (q .1))) (s .pending-is);
-        place = s .place;
-        head-done = s .head-done
-      }))
+      inr (
+        m,
+        inr
+            (record {
+              phase-is = s .phase-is;
+              task-is = s .task-is;
+              open-is = s .open-is;
+              open-none = s .open-none;
+              pending-is = ⊎-elim inl (λ q. inr (q .0, g (q .1))) (s .pending-is);
+              place = s .place;
+              head-done = s .head-done;
+            }),
+      )
   placed-requeued h rs y f g (Run b j c) ((s, (x, m, r)), e) = ((s, (x, f b x m, running-later r)), e)
   placed-requeued h rs y f g (Half b j) ((s, (x, m, r)), e) = ((s, (x, f b x m, running-later r)), e)
 
@@ -164,6 +166,7 @@ module _ (p : List ℕ) (v : Store) (lengths : Lengths p v) (d : Device) (on : d
       other : (y ≡ 2 * v .tail) ⊎ (y ≡ 2 * v .tail + 1) → 2 * v .head ≢ y
       other (inl e) = omega arith
       other (inr e) = omega arith
+
       other′ : (y ≡ 2 * v .tail) ⊎ (y ≡ 2 * v .tail + 1) → 2 * v .head + 1 ≢ y
       other′ (inl e) = omega arith
       other′ (inr e) = omega arith
@@ -175,7 +178,7 @@ module _ (p : List ℕ) (v : Store) (lengths : Lengths p v) (d : Device) (on : d
         first-in = q .first-in;
         tail-in = q .tail-in;
         same = records-free (v .queue) (v .records) (v .tail) y w _ (firstWaiting v) (q .first-in) (q .tail-in) refl at ∙ q .same;
-        known = λ x l b. rw (getD-set-other (v .queue) y (2 * x) w 0 (other x (between-free (firstWaiting v) (v .tail) x b) at)) (q .known x l b)
+        known = λ x l b. rw (getD-set-other (v .queue) y (2 * x) w 0 (other x (between-free (firstWaiting v) (v .tail) x b) at)) (q .known x l b);
       }
     where
       other : (x : ℕ) → x ≢ v .tail → (y ≡ 2 * v .tail) ⊎ (y ≡ 2 * v .tail + 1) → 2 * x ≢ y
@@ -193,7 +196,7 @@ module _ (p : List ℕ) (v : Store) (lengths : Lengths p v) (d : Device) (on : d
         handles = hs;
         off-is = λ e. clash on e;
         count-in = i .count-in;
-        placed = placed-requeued p v d z k (set (v .queue) y w) (v .tail) h (z .records) (z .posted) mine-free (λ ne. ne) (d .place) (i .placed)
+        placed = placed-requeued p v d z k (set (v .queue) y w) (v .tail) h (z .records) (z .posted) mine-free (λ ne. ne) (d .place) (i .placed);
       }
 
 module _ (p : List ℕ) (v : Store) (lengths : Lengths p v) (d : Device) (on : d .on ≡ true) (z : Serial) (k : ℕ) (i : Inv p v d z k) where
@@ -214,12 +217,12 @@ module _ (p : List ℕ) (v : Store) (lengths : Lengths p v) (d : Device) (on : d
               same =
                   rw (distance-tail (v .records) (firstWaiting v) (v .tail) (q .first-in) (q .tail-in) room)
                   (records-tail (v .queue) (v .records) (v .tail) _ (firstWaiting v) (q .first-in) (q .tail-in) refl ∙ rw (q .same, slot-is));
-              known = λ y l b. ⊎-elim (q .known y l) (λ (f : y ≡ v .tail). rw (f, a .so-far .0) (a .event-in)) (between-tail (v .records) (firstWaiting v) (v .tail) y (q .first-in) (q .tail-in) l room b)
+              known = λ y l b. ⊎-elim (q .known y l) (λ (f : y ≡ v .tail). rw (f, a .so-far .0) (a .event-in)) (between-tail (v .records) (firstWaiting v) (v .tail) y (q .first-in) (q .tail-in) l room b);
             };
         handles = tt;
         off-is = λ f. clash on f;
         count-in = i .count-in;
-        placed = placed-requeued p v d z k (v .queue) (after (v .records) (v .tail)) Resting (z .records ++ z .posted ∷ []) (z .posted) mine (λ _ f. a .room (sym f)) (d .place) (i .placed)
+        placed = placed-requeued p v d z k (v .queue) (after (v .records) (v .tail)) Resting (z .records ++ z .posted ∷ []) (z .posted) mine (λ _ f. a .room (sym f)) (d .place) (i .placed);
       }
     where
       mine : MineStays p v d z k (v .queue) (after (v .records) (v .tail))
@@ -240,8 +243,8 @@ module _ (p : List ℕ) (v : Store) (lengths : Lengths p v) (d : Device) (on : d
               event-in = a .event-in;
               room = a .room;
               posted-is = a .posted-is;
-              so-far = getD-set-same (v .queue) (2 * v .tail) e 0 (omega (arith, i .waits .tail-in, lengths .queue-length))
-            })
+              so-far = getD-set-same (v .queue) (2 * v .tail) e 0 (omega (arith, i .waits .tail-in, lengths .queue-length));
+            });
       }
   handler-kept Next.Data e x a =
       record {
@@ -255,10 +258,11 @@ module _ (p : List ℕ) (v : Store) (lengths : Lengths p v) (d : Device) (on : d
               event-in = a .event-in;
               room = a .room;
               posted-is = a .posted-is;
-              so-far =
-                  (getD-set-other (v .queue) (2 * v .tail + 1) (2 * v .tail) x 0 (omega arith) ∙ a .so-far
-                  , getD-set-same (v .queue) (2 * v .tail + 1) x 0 (omega (arith, i .waits .tail-in, lengths .queue-length)))
-            })
+              so-far = (
+                getD-set-other (v .queue) (2 * v .tail + 1) (2 * v .tail) x 0 (omega arith) ∙ a .so-far,
+                getD-set-same (v .queue) (2 * v .tail + 1) x 0 (omega (arith, i .waits .tail-in, lengths .queue-length)),
+              );
+            });
       }
   handler-kept Next.Tail e x a = record { inside = tt; after = accept z; tells = λ fuel l. refl; expected = tt; inv = tail-stored e x a }
 
@@ -275,7 +279,7 @@ task-later s h =
       pendingOpen-is = s .pendingOpen-is;
       place = omega arith;
       task-done = λ l. absurd (omega arith);
-      open-done = λ l. absurd (omega arith)
+      open-done = λ l. absurd (omega arith);
     }
 
 event-later : {phase task open′ n pending q h t c y o : ℕ} → EventCommit phase task open′ n pending q h t c y o → c < n
@@ -288,7 +292,7 @@ event-later s h =
       open-none = s .open-none;
       pending-is = s .pending-is;
       place = omega arith;
-      head-done = λ l. absurd (omega arith)
+      head-done = λ l. absurd (omega arith);
     }
 
 -- r stores are left of a commit of which c are made
@@ -349,21 +353,22 @@ module _ (p : List ℕ) (v : Store) (d : Device) (on : d .on ≡ true) (rest : d
               off-is = λ e. clash on e;
               count-in = i .count-in;
               placed =
-                  inr
-                  (record {
-                    count-in = m .count-in;
-                    addresses = m .addresses;
-                    base = m .base;
-                    copied =
-                        let now : min c (v .count) ≡ c = omega arith in
-                        let then′ : suc c ≡ min (c + 1) (v .count) = omega arith in
-                        ap (λ (l : List ℕ). set l (address v c) (value v c)) (m .copied ∙ ap (overlay (m .base) (v .log)) now)
-                        ∙ sym (overlay-suc (m .base) (v .log) c)
-                        ∙ ap (overlay (m .base) (v .log)) then′;
-                    whole = m .whole
-                  }
-                  , ⊎-elim (λ s. inl (task-later s h)) (λ s. inr (event-later s h)) t)
-            }
+                  inr (
+                    record {
+                      count-in = m .count-in;
+                      addresses = m .addresses;
+                      base = m .base;
+                      copied =
+                          let now : min c (v .count) ≡ c = omega arith in
+                          let then′ : suc c ≡ min (c + 1) (v .count) = omega arith in
+                          ap (λ (l : List ℕ). set l (address v c) (value v c)) (m .copied ∙ ap (overlay (m .base) (v .log)) now)
+                          ∙ sym (overlay-suc (m .base) (v .log) c)
+                          ∙ ap (overlay (m .base) (v .log)) then′;
+                      whole = m .whole;
+                    },
+                    ⊎-elim (λ s. inl (task-later s h)) (λ s. inr (event-later s h)) t,
+                  );
+            };
       })
 
   -- all pairs are copied
@@ -377,7 +382,7 @@ module _ (p : List ℕ) (v : Store) (d : Device) (on : d .on ≡ true) (rest : d
         addresses = m .addresses;
         base = m .base;
         copied = let e : min c (v .count) ≡ min (c + 1) (v .count) = omega arith in m .copied ∙ ap (overlay (m .base) (v .log)) e;
-        whole = m .whole
+        whole = m .whole;
       }
 
   last-is : (j : ℕ) → c ≡ v .count + j → copyStep p v d c ≡ storing (lastStores v) j further Answer.Stored
@@ -405,19 +410,20 @@ module _ (p : List ℕ) (v : Store) (d : Device) (on : d .on ≡ true) (rest : d
               off-is = λ f. clash on f;
               count-in = i .count-in;
               placed =
-                  inr
-                  (copied-further (omega arith)
-                  , inl
-                  (record {
-                    phase-is = s .phase-is;
-                    task-in = rw (s .pending-is) (i .tasked .task-in);
-                    pending-is = s .pending-is;
-                    pendingOpen-is = s .pendingOpen-is;
-                    place = omega arith;
-                    task-done = λ l. refl;
-                    open-done = λ l. absurd (omega arith)
-                  }))
-            }
+                  inr (
+                    copied-further (omega arith),
+                    inl
+                        (record {
+                          phase-is = s .phase-is;
+                          task-in = rw (s .pending-is) (i .tasked .task-in);
+                          pending-is = s .pending-is;
+                          pendingOpen-is = s .pendingOpen-is;
+                          place = omega arith;
+                          task-done = λ l. refl;
+                          open-done = λ l. absurd (omega arith);
+                        }),
+                  );
+            };
       }
   task-last-kept s (suc zero) e =
       record {
@@ -434,19 +440,20 @@ module _ (p : List ℕ) (v : Store) (d : Device) (on : d .on ≡ true) (rest : d
               off-is = λ f. clash on f;
               count-in = i .count-in;
               placed =
-                  inr
-                  (copied-further (omega arith)
-                  , inl
-                  (record {
-                    phase-is = s .phase-is;
-                    task-in = s .task-in;
-                    pending-is = s .pending-is;
-                    pendingOpen-is = s .pendingOpen-is;
-                    place = omega arith;
-                    task-done = λ l. s .task-done (omega arith);
-                    open-done = λ l. refl
-                  }))
-            }
+                  inr (
+                    copied-further (omega arith),
+                    inl
+                        (record {
+                          phase-is = s .phase-is;
+                          task-in = s .task-in;
+                          pending-is = s .pending-is;
+                          pendingOpen-is = s .pendingOpen-is;
+                          place = omega arith;
+                          task-done = λ l. s .task-done (omega arith);
+                          open-done = λ l. refl;
+                        }),
+                  );
+            };
       }
   task-last-kept s (suc (suc zero)) e =
       record {
@@ -463,15 +470,16 @@ module _ (p : List ℕ) (v : Store) (d : Device) (on : d .on ≡ true) (rest : d
               off-is = λ f. clash refl f;
               count-in = omega arith;
               placed =
-                  inl
-                  (record {
-                    phase-is = refl;
-                    memory-is = memory-whole (omega arith);
-                    task-is = s .task-done (omega arith) ∙ s .pending-is;
-                    open-is = s .open-done (omega arith) ∙ s .pendingOpen-is
-                  }
-                  , refl)
-            }
+                  inl (
+                    record {
+                      phase-is = refl;
+                      memory-is = memory-whole (omega arith);
+                      task-is = s .task-done (omega arith) ∙ s .pending-is;
+                      open-is = s .open-done (omega arith) ∙ s .pendingOpen-is;
+                    },
+                    refl,
+                  );
+            };
       }
   task-last-kept s (suc (suc (suc j))) e = absurd (omega (arith, s .place))
 
@@ -493,19 +501,20 @@ module _ (p : List ℕ) (v : Store) (d : Device) (on : d .on ≡ true) (rest : d
               off-is = λ f. clash on f;
               count-in = i .count-in;
               placed =
-                  inr
-                  (copied-further (omega arith)
-                  , inr
-                  (record {
-                    phase-is = s .phase-is;
-                    task-is = s .task-is;
-                    open-is = s .open-is;
-                    open-none = s .open-none;
-                    pending-is = inl refl;
-                    place = omega arith;
-                    head-done = λ l. refl
-                  }))
-            }
+                  inr (
+                    copied-further (omega arith),
+                    inr
+                        (record {
+                          phase-is = s .phase-is;
+                          task-is = s .task-is;
+                          open-is = s .open-is;
+                          open-none = s .open-none;
+                          pending-is = inl refl;
+                          place = omega arith;
+                          head-done = λ l. refl;
+                        }),
+                  );
+            };
       }
   event-last-kept s (suc zero) e =
       record {
@@ -522,15 +531,16 @@ module _ (p : List ℕ) (v : Store) (d : Device) (on : d .on ≡ true) (rest : d
               off-is = λ f. clash refl f;
               count-in = omega arith;
               placed =
-                  inl
-                  (record {
-                    phase-is = refl;
-                    memory-is = memory-whole (omega arith);
-                    task-is = s .task-is;
-                    open-is = s .open-is
-                  }
-                  , refl)
-            }
+                  inl (
+                    record {
+                      phase-is = refl;
+                      memory-is = memory-whole (omega arith);
+                      task-is = s .task-is;
+                      open-is = s .open-is;
+                    },
+                    refl,
+                  );
+            };
       }
   event-last-kept s (suc (suc j)) e = absurd (omega (arith, s .place))
 
@@ -561,8 +571,10 @@ module _ (p : List ℕ) (v : Store) (d : Device) (on : d .on ≡ true) (rest : d
     where
       ws : List Write
       ws = to Task (v .pending) ∷ to Open (v .pendingOpen) ∷ to Phase 0 ∷ []
+
       us : List Write
       us = to Head (v .pending) ∷ to Phase 0 ∷ []
+
       by-task : TaskCommitAt p v z c → (j : ℕ) → c ≡ v .count + j → Remaining v c (suc r) → Turn v (storing ws j further Answer.Stored) r
       by-task s zero e n = record { answer-is = refl; on = on; rests = rest; place = c + 1; place-is = refl; remaining = remaining-less v c r n }
       by-task s (suc zero) e n = record { answer-is = refl; on = on; rests = rest; place = c + 1; place-is = refl; remaining = remaining-less v c r n }
@@ -574,6 +586,7 @@ module _ (p : List ℕ) (v : Store) (d : Device) (on : d .on ≡ true) (rest : d
           none-left f (inr (inl x)) = omega arith
           none-left f (inr (inr x)) = omega arith
       by-task s (suc (suc (suc j))) e n = absurd (omega (arith, s .place))
+
       by-event : EventCommitAt v z c → (j : ℕ) → c ≡ v .count + j → Remaining v c (suc r) → Turn v (storing us j further Answer.Stored) r
       by-event s zero e n = record { answer-is = refl; on = on; rests = rest; place = c + 1; place-is = refl; remaining = remaining-less v c r n }
       by-event s (suc zero) e n =

@@ -56,7 +56,7 @@ recommitted v n y o =
       tail = v .tail;
       memory = v .memory;
       log = v .log;
-      queue = v .queue
+      queue = v .queue;
     }
 
 -- another log
@@ -75,7 +75,7 @@ relogged v log =
       tail = v .tail;
       memory = v .memory;
       log = log;
-      queue = v .queue
+      queue = v .queue;
     }
 
 module _ (p : List ℕ) (sound : Sound p) (v : Store) (lengths : Lengths p v) (d : Device) (on : d .on ≡ true) (z : Serial) (k : ℕ)
@@ -95,9 +95,10 @@ module _ (p : List ℕ) (sound : Sound p) (v : Store) (lengths : Lengths p v) (d
         handles = i .handles;
         off-is = λ e. clash on e;
         count-in = s;
-        placed =
-            ((still, (x, mine, h))
-            , ending-none p (relogged v log) (moved d r (Run b j 0) l) b (number p b) j (effectAt p (number p b) j r) (sound .leads (number p b) j r (h .body-in) (h .place-in)))
+        placed = (
+          (still, (x, mine, h)),
+          ending-none p (relogged v log) (moved d r (Run b j 0) l) b (number p b) j (effectAt p (number p b) j r) (sound .leads (number p b) j r (h .body-in) (h .place-in)),
+        );
       }
 
   -- ---- choosing
@@ -120,8 +121,8 @@ module _ (p : List ℕ) (sound : Sound p) (v : Store) (lengths : Lengths p v) (d
               distinct = record { apart = λ n m l s. absurd (omega arith) };
               ran = 0;
               ran-in = omega arith;
-              same = λ f. rw (zero-add, overlay-zero, still .memory-is)
-            }) (omega arith)
+              same = λ f. rw (zero-add, overlay-zero, still .memory-is);
+            }) (omega arith);
       }
 
   pub choose-kept : Kept p v z k Step (chooseStep p v d)
@@ -132,8 +133,8 @@ module _ (p : List ℕ) (sound : Sound p) (v : Store) (lengths : Lengths p v) (d
       let open′ : v .openNumber ≡ 0 = eqb-true _ _ (and-left _ _ e) in
       let some-record : v .head ≢ v .tail = eqb-false _ _ (not-true _ (and-right _ _ e)) in
       let known : event v (v .head) < events p =
-          i .waits .known (v .head) (i .head-in)
-          (rw (first-head v 0 (still .phase-is) refl) (between-first (v .head) (v .tail) some-record)) in
+      i .waits .known (v .head) (i .head-in)
+      (rw (first-head v 0 (still .phase-is) refl) (between-first (v .head) (v .tail) some-record)) in
       let passed : recordSound p v ≡ Checked.Accepted = must-true _ (lt-ltb _ _ known) in
       rw passed
       (begins (Body.Event (event v (v .head))) (datum v (v .head)) (open′, (some-record, (refl, refl))) (omega arith)))
@@ -190,7 +191,7 @@ module _ (p : List ℕ) (sound : Sound p) (v : Store) (lengths : Lengths p v) (d
         distinct = apart;
         ran = suc (h .ran);
         ran-in = omega (arith, h .ran-in);
-        same = λ g. walked f e g ∙ same g
+        same = λ g. walked f e g ∙ same g;
       }) count
 
   -- without a store
@@ -204,7 +205,7 @@ module _ (p : List ℕ) (sound : Sound p) (v : Store) (lengths : Lengths p v) (d
         after = z;
         tells = λ fuel l. refl;
         expected = tt;
-        inv = goes-on f e (v .log) a r (d .count) place (h .addresses) (h .distinct) (i .count-in) same
+        inv = goes-on f e (v .log) a r (d .count) place (h .addresses) (h .distinct) (i .count-in) same;
       }
 
   -- the address is stored behind the pairs
@@ -229,24 +230,32 @@ module _ (p : List ℕ) (sound : Sound p) (v : Store) (lengths : Lengths p v) (d
               handles = i .handles;
               off-is = λ f. clash on f;
               count-in = i .count-in;
-              placed =
-                  ((still
-                  , (x
-                  , mine
-                  , record {
-                    body-in = h .body-in;
-                    place-in = h .place-in;
-                    addresses = λ m s. rw (keeps m s) (h .addresses m s);
-                    distinct = record { apart = λ m o s t. rw (keeps m (omega arith), keeps o t) (h .distinct .apart m o s t) };
-                    ran = h .ran;
-                    ran-in = omega (arith, h .ran-in);
-                    same = λ g. rw (overlay-other (v .memory) (v .log) (2 * l) y l (omega arith)) (h .same g)
-                  }))
-                  , rw e
-                  (below
-                  , (room
-                  , (getD-set-same (v .log) (2 * l) y 0 (omega (arith, lengths .log-length)), λ m s. rw (keeps m s) (new m s)))))
-            }
+              placed = (
+                (
+                  still,
+                  (
+                    x,
+                    mine,
+                    record {
+                      body-in = h .body-in;
+                      place-in = h .place-in;
+                      addresses = λ m s. rw (keeps m s) (h .addresses m s);
+                      distinct = record { apart = λ m o s t. rw (keeps m (omega arith), keeps o t) (h .distinct .apart m o s t) };
+                      ran = h .ran;
+                      ran-in = omega (arith, h .ran-in);
+                      same = λ g. rw (overlay-other (v .memory) (v .log) (2 * l) y l (omega arith)) (h .same g);
+                    },
+                  ),
+                ),
+                rw e (
+                  below,
+                  (
+                    room,
+                    (getD-set-same (v .log) (2 * l) y 0 (omega (arith, lengths .log-length)), λ m s. rw (keeps m s) (new m s)),
+                  ),
+                ),
+              );
+            };
       }
 
   save-kept : (y w : ℕ) → effectAt p n j (d .regs) ≡ Effect.Write y w → j + 1 < instructions p n → y < memoryWords p
@@ -268,7 +277,7 @@ module _ (p : List ℕ) (sound : Sound p) (v : Store) (lengths : Lengths p v) (d
             pick-true _ _ (lt-ltb _ _ below)
             ∙ ap (λ (m : List ℕ). walk g p n (j + 1) (d .regs) m)
             (sym (overlay-overwrite (v .memory) (v .log) (d .count) a w (h .distinct) (omega (arith, i .count-in, lengths .log-length)) (pair .0)
-            ∙ ap (λ (c : ℕ). set seen c w) (pair .1))))
+            ∙ ap (λ (c : ℕ). set seen c w) (pair .1))));
       }
   save-kept y w e place below Found.Nothing q =
       pick-case (λ (o : Out). Kept p v z k Step o) (λ s. half-saved y w e below (find-nothing (v .log) (d .count) y q) (ltb-true _ _ s))
@@ -295,12 +304,12 @@ module _ (p : List ℕ) (sound : Sound p) (v : Store) (lengths : Lengths p v) (d
               apart =
                   λ m o s t.
                   rw (keeps m, keeps o)
-                  (below-or o l (h .distinct .apart m o s) (λ u. let f : o ≡ l = omega arith in rw (f, stored) (new m (omega arith))))
+                  (below-or o l (h .distinct .apart m o s) (λ u. let f : o ≡ l = omega arith in rw (f, stored) (new m (omega arith))));
             }) (omega arith)
             (λ g.
             pick-true _ _ (lt-ltb _ _ below)
             ∙ ap (λ (m : List ℕ). walk g p n (j + 1) (d .regs) m)
-            (sym (ap (overlay (v .memory) log) (add-one l) ∙ overlay-append (v .memory) (v .log) l y w (omega (arith, lengths .log-length)) stored)))
+            (sym (ap (overlay (v .memory) log) (add-one l) ∙ overlay-append (v .memory) (v .log) l y w (omega (arith, lengths .log-length)) stored)));
       }
   rest-kept (Effect.EndTask a) e leads t = absurd t
   rest-kept Effect.EndEvent e leads t = absurd t
@@ -338,8 +347,8 @@ module _ (p : List ℕ) (sound : Sound p) (v : Store) (lengths : Lengths p v) (d
               handles = i .handles;
               off-is = λ g. clash on g;
               count-in = i .count-in;
-              placed = ((still, (x, mine, running-later h)), rw e t)
-            })
+              placed = ((still, (x, mine, running-later h)), rw e t);
+            });
       }
 
 -- "8 becomes 1 (the commit store)"
@@ -360,7 +369,7 @@ task-commits p sound v lengths d on z k i still t j x mine h a e below count pen
     let is : t ≡ z .task = mine .0 ∙ still .task-is in
     let w = overlay (v .memory) (v .log) (d .count) in
     let ends : (fuel : ℕ) → k < fuel → walk fuel p t 0 (0 ∷ replicate 7 0) (z .memory) ≡ went a w =
-        λ fuel l. ap (λ (y : ℕ). walk fuel p t 0 (y ∷ replicate 7 0) (z .memory)) (sym (mine .1)) ∙ walk-ends p sound v lengths d on z k i still (Body.Task t) j x mine h (Effect.EndTask a) e fuel l in
+    λ fuel l. ap (λ (y : ℕ). walk fuel p t 0 (y ∷ replicate 7 0) (z .memory)) (sym (mine .1)) ∙ walk-ends p sound v lengths d on z k i still (Body.Task t) j x mine h (Effect.EndTask a) e fuel l in
     record {
       inside = tt;
       after =
@@ -369,7 +378,7 @@ task-commits p sound v lengths d on z k i still t j x mine h a e below count pen
             task = a;
             openNumber = newOpen (transaction p (z .task)) (transaction p a);
             records = z .records;
-            posted = z .posted
+            posted = z .posted;
           };
       tells = λ fuel l. pick-true _ _ (eq-eqb _ _ is) ∙ ap (afterTask p z) (ends fuel l);
       expected = tt;
@@ -384,25 +393,26 @@ task-commits p sound v lengths d on z k i still t j x mine h a e below count pen
             off-is = λ g. clash refl g;
             count-in = omega arith;
             placed =
-                inr
-                (record {
-                  count-in = omega (arith, i .count-in);
-                  addresses = λ y l. h .addresses y (omega arith);
-                  base = v .memory;
-                  copied = let q : min 0 (v .count) ≡ 0 = omega arith in sym (ap (overlay (v .memory) (v .log)) q ∙ overlay-zero (v .memory) (v .log));
-                  whole = ap (overlay (v .memory) (v .log)) count
-                }
-                , inl
-                (record {
-                  phase-is = refl;
-                  task-in = omega (arith, still .task-is, i .tasked .task-in);
-                  pending-is = pending;
-                  pendingOpen-is = pendingOpen ∙ ap (λ (y : ℕ). newOpen (transaction p y) (transaction p a)) is;
-                  place = omega arith;
-                  task-done = λ l. absurd (omega arith);
-                  open-done = λ l. absurd (omega arith)
-                }))
-          }
+                inr (
+                  record {
+                    count-in = omega (arith, i .count-in);
+                    addresses = λ y l. h .addresses y (omega arith);
+                    base = v .memory;
+                    copied = let q : min 0 (v .count) ≡ 0 = omega arith in sym (ap (overlay (v .memory) (v .log)) q ∙ overlay-zero (v .memory) (v .log));
+                    whole = ap (overlay (v .memory) (v .log)) count;
+                  },
+                  inl
+                      (record {
+                        phase-is = refl;
+                        task-in = omega (arith, still .task-is, i .tasked .task-in);
+                        pending-is = pending;
+                        pendingOpen-is = pendingOpen ∙ ap (λ (y : ℕ). newOpen (transaction p y) (transaction p a)) is;
+                        place = omega arith;
+                        task-done = λ l. absurd (omega arith);
+                        open-done = λ l. absurd (omega arith);
+                      }),
+                );
+          };
     }
 
 -- "8 becomes 2"
@@ -420,7 +430,7 @@ event-commits p sound v lengths d on z k i still e j x mine h ends count pending
     let some-record = mine .1 .0 in
     let rest = recordsFrom (v .queue) q (after q (v .head)) (distance q (after q (v .head)) (v .tail)) in
     let records-are : z .records ≡ slot (v .queue) (v .head) ∷ rest =
-        sym (waits .same) ∙ records-head (v .queue) q (v .head) (v .tail) (i .head-in) (waits .tail-in) some-record in
+    sym (waits .same) ∙ records-head (v .queue) q (v .head) (v .tail) (i .head-in) (waits .tail-in) some-record in
     record {
       inside = tt;
       after = record { memory = w; task = z .task; openNumber = z .openNumber; records = rest; posted = z .posted };
@@ -442,31 +452,32 @@ event-commits p sound v lengths d on z k i still e j x mine h ends count pending
                   first-in = after-le q (v .head) (i .head-in);
                   tail-in = waits .tail-in;
                   same = refl;
-                  known = λ y l s. waits .known y l (between-head q (v .head) (v .tail) y (i .head-in) (waits .tail-in) l some-record s)
+                  known = λ y l s. waits .known y l (between-head q (v .head) (v .tail) y (i .head-in) (waits .tail-in) l some-record s);
                 });
             handles = tt;
             off-is = λ g. clash refl g;
             count-in = omega arith;
             placed =
-                inr
-                (record {
-                  count-in = omega (arith, i .count-in);
-                  addresses = λ y l. h .addresses y (omega arith);
-                  base = v .memory;
-                  copied = let o : min 0 (v .count) ≡ 0 = omega arith in sym (ap (overlay (v .memory) (v .log)) o ∙ overlay-zero (v .memory) (v .log));
-                  whole = ap (overlay (v .memory) (v .log)) count
-                }
-                , inr
-                (record {
-                  phase-is = refl;
-                  task-is = still .task-is;
-                  open-is = still .open-is;
-                  open-none = mine .0;
-                  pending-is = inr (pending, some-record);
-                  place = omega arith;
-                  head-done = λ l. absurd (omega arith)
-                }))
-          }
+                inr (
+                  record {
+                    count-in = omega (arith, i .count-in);
+                    addresses = λ y l. h .addresses y (omega arith);
+                    base = v .memory;
+                    copied = let o : min 0 (v .count) ≡ 0 = omega arith in sym (ap (overlay (v .memory) (v .log)) o ∙ overlay-zero (v .memory) (v .log));
+                    whole = ap (overlay (v .memory) (v .log)) count;
+                  },
+                  inr
+                      (record {
+                        phase-is = refl;
+                        task-is = still .task-is;
+                        open-is = still .open-is;
+                        open-none = mine .0;
+                        pending-is = inr (pending, some-record);
+                        place = omega arith;
+                        head-done = λ l. absurd (omega arith);
+                      }),
+                );
+          };
     }
 
 -- GO stands in a task, DONE in an event

@@ -65,37 +65,39 @@ module _ (p : List ℕ) (v : Store) (d : Device) (z : Serial) (k : ℕ) (i : Inv
         addresses = m .addresses;
         base = v .memory;
         copied = sym (ap (overlay (v .memory) (v .log)) none-copied ∙ overlay-zero (v .memory) (v .log));
-        whole = ap (λ (s : List ℕ). overlay s (v .log) n) (m .copied) ∙ overlay-again (m .base) (v .log) (min c n) n some-copied ∙ m .whole
+        whole = ap (λ (s : List ℕ). overlay s (v .log) n) (m .copied) ∙ overlay-again (m .base) (v .log) (min c n) n some-copied ∙ m .whole;
       }
 
   placed-again : (on : Bool) (x : Place) → Placed p v d z k x → Placed p v (fresh on) z (suc k) (Free 0)
   placed-again on (Free c) (inl (s, e)) = inl (s, refl)
   placed-again on (Free c) (inr (m, inl t)) =
-      inr
-      (copying-again c m
-      , inl
-      (record {
-        phase-is = t .phase-is;
-        task-in = t .task-in;
-        pending-is = t .pending-is;
-        pendingOpen-is = t .pendingOpen-is;
-        place = omega arith;
-        task-done = λ l. absurd (omega arith);
-        open-done = λ l. absurd (omega arith)
-      }))
+      inr (
+        copying-again c m,
+        inl
+            (record {
+              phase-is = t .phase-is;
+              task-in = t .task-in;
+              pending-is = t .pending-is;
+              pendingOpen-is = t .pendingOpen-is;
+              place = omega arith;
+              task-done = λ l. absurd (omega arith);
+              open-done = λ l. absurd (omega arith);
+            }),
+      )
   placed-again on (Free c) (inr (m, inr t)) =
-      inr
-      (copying-again c m
-      , inr
-      (record {
-        phase-is = t .phase-is;
-        task-is = t .task-is;
-        open-is = t .open-is;
-        open-none = t .open-none;
-        pending-is = t .pending-is;
-        place = omega arith;
-        head-done = λ l. absurd (omega arith)
-      }))
+      inr (
+        copying-again c m,
+        inr
+            (record {
+              phase-is = t .phase-is;
+              task-is = t .task-is;
+              open-is = t .open-is;
+              open-none = t .open-none;
+              pending-is = t .pending-is;
+              place = omega arith;
+              head-done = λ l. absurd (omega arith);
+            }),
+      )
   placed-again on (Run b j c) ((s, r), e) = inl (s, refl)
   placed-again on (Half b j) ((s, r), e) = inl (s, refl)
 
@@ -109,7 +111,7 @@ module _ (p : List ℕ) (v : Store) (d : Device) (z : Serial) (k : ℕ) (i : Inv
         handles = tt;
         off-is = λ e. ap fresh e;
         count-in = omega arith;
-        placed = placed-again on (d .place) (i .placed)
+        placed = placed-again on (d .place) (i .placed);
       }
 
   pub fresh-kept : (c : Call) → afterDone z c ≡ z → (on : Bool) → Kept p v z k c (out none (fresh on) Answer.Done)
@@ -135,6 +137,6 @@ module _ (p : List ℕ) (v : Store) (d : Device) (z : Serial) (k : ℕ) (i : Inv
               handles = record { event-in = below; room = room; posted-is = refl; so-far = tt };
               off-is = λ f. clash on f;
               count-in = i .count-in;
-              placed = placed-requeued p v d z k (v .queue) (v .tail) (Storing Next.Event e x) (z .records) (record { event = e; datum = x }) (λ b y m. m) (λ ne. ne) (d .place) (i .placed)
-            }
+              placed = placed-requeued p v d z k (v .queue) (v .tail) (Storing Next.Event e x) (z .records) (record { event = e; datum = x }) (λ b y m. m) (λ ne. ne) (d .place) (i .placed);
+            };
       }

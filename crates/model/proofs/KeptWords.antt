@@ -58,7 +58,7 @@ module _ (p : List ℕ) (sound : Sound p) (l q : ℕ) (s : List ℕ) (d : Device
       record {
         sized = settled-sized (memoryWords p) l q s (i .sized) w x inside;
         contents = rule-kept p s w x ∙ i .contents;
-        inv = rw (view-settled (memoryWords p) l q s (i .sized) w x inside) j
+        inv = rw (view-settled (memoryWords p) l q s (i .sized) w x inside) j;
       }
 
   parts-are : (w : Write) → InsideOf p v w → viewAt (memoryWords p) l q (settled s w) ≡ apply v w
@@ -73,7 +73,7 @@ module _ (p : List ℕ) (sound : Sound p) (l q : ℕ) (s : List ℕ) (d : Device
         tells = h .tells;
         expected = h .expected;
         inv = by-write (o .device) (h .after) (o .write) (h .inside) (h .inv);
-        parts = parts-are (o .write) (h .inside)
+        parts = parts-are (o .write) (h .inside);
       }
 
   lengths : Lengths p v

@@ -42,6 +42,7 @@ find-from log a j (suc k) = step (eqb (addr log j) a) refl (findFrom log a (suc 
         apart : (i : ℕ) → j ≤ i → i < j + suc k → (b : Bool) → eqb i j ≡ b → addr log i ≢ a
         apart i l m true q = rw (eqb-true i j q) (eqb-false _ _ e)
         apart i l m false q = let ne : i ≢ j = eqb-false _ _ q in s i (omega arith) (omega arith)
+
     step : (b : Bool) → eqb (addr log j) a ≡ b → (f : Found) → Says log a (suc j) k f → Says log a j (suc k) (pick b (Found.Pair j) f)
     step true e f s = rw pick-true (omega arith, (omega arith, eqb-true _ _ e))
     step false e f s = rw pick-false (later f e s)

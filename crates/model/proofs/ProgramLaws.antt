@@ -45,7 +45,7 @@ contents-passed p e0 =
       most-events = leb-true _ _ (must-passed _ _ (then-first _ _ e5));
       some-memory = leb-true _ _ (must-passed _ _ (then-first _ _ e6));
       most-memory = leb-true _ _ (must-passed _ _ (then-first _ _ e7));
-      entry-is = ltb-true _ _ (must-passed _ _ e8)
+      entry-is = ltb-true _ _ (must-passed _ _ e8);
     }
 
 -- ---- the rows
@@ -84,7 +84,7 @@ module _ (p : List ℕ) (passed : rows p ≡ Checked.Accepted) where
   row-used i h =
       let lo : firstBody p ≤ start p i = omega (arith, due-first i (omega arith), start-due i h) in
       let hi : start p i + 2 * instructions p i ≤ total p =
-          omega (arith, start-due i h, due-suc i h, due-last (bodies p - suc i) (suc i) (omega arith)) in
+      omega (arith, start-due i h, due-suc i h, due-last (bodies p - suc i) (suc i) (omega arith)) in
       then-passed (limits-passed i h) (then-passed (must-true _ (le-leb _ _ lo)) (must-true _ (le-leb _ _ hi)))
 
 -- ---- the instructions
@@ -143,25 +143,58 @@ module _ (p : List ℕ) (i j a b k : ℕ) (r : List ℕ) (h : j < instructions p
   unfolding bounds decode effect mayBeLast pick
   leads op =
       rw (zero-add op)
-      at (in-tables Row op 0 (boundsTable (memoryWords p) (tasks p) (instructions p i) (ltb i (tasks p))) (instructionTable a b k) (record { a = 0; b = 0; k = 0 }) Instruction.Unknown
-      ((λ x y z l. inner 0 refl l)
-      , ((λ x y z l. inner 1 refl l)
-      , ((λ x y z l. inner 2 refl l)
-      , ((λ x y z l. inner 3 refl l)
-      , ((λ x y z l. inner 4 refl l)
-      , ((λ x y z l. inner 5 refl l)
-      , ((λ x y z l. inner 6 refl l)
-      , ((λ x y z l. inner 7 refl l)
-      , ((λ x y z l. inner 8 refl l)
-      , ((λ x y z l. inner 9 refl l)
-      , ((λ x y z l. inner 10 refl l)
-      , ((λ x y z l. inner 11 refl l)
-      , ((λ x y z l. z)
-      , ((λ x y z l. either (eqb (reg r a) 0) z (inner 13 refl l))
-      , ((λ x y z l. either (less (reg r a) (reg r b)) z (inner 14 refl l))
-      , ((λ x y z l. by-task _ k _ z)
-      , ((λ x y z l. by-event k _ z)
-      , tt)))))))))))))))))
+      at (in-tables Row op 0 (boundsTable (memoryWords p) (tasks p) (instructions p i) (ltb i (tasks p))) (instructionTable a b k) (record { a = 0; b = 0; k = 0 }) Instruction.Unknown (
+        (λ x y z l. inner 0 refl l),
+        (
+          (λ x y z l. inner 1 refl l),
+          (
+            (λ x y z l. inner 2 refl l),
+            (
+              (λ x y z l. inner 3 refl l),
+              (
+                (λ x y z l. inner 4 refl l),
+                (
+                  (λ x y z l. inner 5 refl l),
+                  (
+                    (λ x y z l. inner 6 refl l),
+                    (
+                      (λ x y z l. inner 7 refl l),
+                      (
+                        (λ x y z l. inner 8 refl l),
+                        (
+                          (λ x y z l. inner 9 refl l),
+                          (
+                            (λ x y z l. inner 10 refl l),
+                            (
+                              (λ x y z l. inner 11 refl l),
+                              (
+                                (λ x y z l. z),
+                                (
+                                  (λ x y z l. either (eqb (reg r a) 0) z (inner 13 refl l)),
+                                  (
+                                    (λ x y z l. either (less (reg r a) (reg r b)) z (inner 14 refl l)),
+                                    (
+                                      (λ x y z l. by-task _ k _ z),
+                                      (
+                                        (λ x y z l. by-event k _ z),
+                                        tt,
+                                      ),
+                                    ),
+                                  ),
+                                ),
+                              ),
+                            ),
+                          ),
+                        ),
+                      ),
+                    ),
+                  ),
+                ),
+              ),
+            ),
+          ),
+        ),
+      )
       (λ m x y z l. absurd (not-suc-le-zero x)))
 
 pub instruction-leads : (p : List ℕ) (i j : ℕ) (r : List ℕ) → j < instructions p i → instructionRule p i j ≡ Checked.Accepted → Leads p i j (effectAt p i j r)
@@ -191,9 +224,9 @@ check-passed p e =
     let c = then-first _ _ e in
     let rs = then-first _ _ (then-rest _ _ e) in
     let body : (i : ℕ) → i < bodies p → bodyRule p i ≡ Checked.Accepted =
-        λ i h. rw zero-add at (each-passed (bodyRule p) 0 (bodies p) i (then-rest _ _ (then-rest _ _ e)) h) in
+    λ i h. rw zero-add at (each-passed (bodyRule p) 0 (bodies p) i (then-rest _ _ (then-rest _ _ e)) h) in
     let ins : (i j : ℕ) → i < bodies p → j < instructions p i → instructionRule p i j ≡ Checked.Accepted =
-        λ i j h l. rw zero-add at (each-passed (instructionRule p i) 0 (instructions p i) j (body i h) l) in
+    λ i j h l. rw zero-add at (each-passed (instructionRule p i) 0 (instructions p i) j (body i h) l) in
     record {
       passed = e;
       head = c;
@@ -202,5 +235,5 @@ check-passed p e =
       row = row-used p rs;
       some-instruction = λ i h. leb-true _ _ (must-passed _ _ (then-first _ _ (limits-passed p rs i h)));
       rule = ins;
-      leads = λ i j r h l. instruction-leads p i j r l (ins i j h l)
+      leads = λ i j r h l. instruction-leads p i j r l (ins i j h l);
     }

@@ -43,7 +43,6 @@ module _ (p : List ℕ) (v : Store) (d : Device) (z : Serial) (k : ℕ) (i : Inv
       let s = still-at (d .place) (i .placed) in
       record { memory = s .memory-is; task = s .task-is; openNumber = s .open-is; records = waiting-is p v d z k i }
 
-
 -- ---- one step of recovery
 
 module _ (p : List ℕ) (sound : Sound p) (l q : ℕ) (s : List ℕ) (d : Device) (z : Serial) (k : ℕ) (i : InvWords p l q s d z k) where
@@ -82,6 +81,7 @@ module _ (p : List ℕ) (sound : Sound p) (l q : ℕ) (s : List ℕ) (d : Device
     where
       busy : (m : ℕ) → v .phase ≡ m → eqb m 0 ≡ false → eqb (v .phase) 0 ≡ false
       busy m e f = ap (λ (x : ℕ). eqb x 0) e ∙ f
+
       by-commit : Placed p v d z k (Free c) → Remaining v c (suc r) → Turn v (step p s d) r
       by-commit (inl (s, e)) (inl n) = absurd (omega arith)
       by-commit (inl (s, e)) (inr (inl n)) = absurd (omega (arith, s .phase-is))
@@ -131,7 +131,7 @@ finishes p sound l q zero fuel n s d z k c i on rest at m h =
     record {
       store = s;
       ends = finish-none p fuel n s d done ∙ ap (λ (x : ℕ). recovered x s) (sym (add-zero n));
-      left = rw (view-at p sound l q s d z k i) (left-at p (viewAt (memoryWords p) l q s) d z k (i .inv) done)
+      left = rw (view-at p sound l q s d z k i) (left-at p (viewAt (memoryWords p) l q s) d z k (i .inv) done);
     }
 finishes p sound l q (suc r) zero n s d z k c i on rest at m h = absurd (not-suc-le-zero h)
 finishes p sound l q (suc r) (suc fuel) n s d z k c i on rest at m h =
@@ -139,36 +139,39 @@ finishes p sound l q (suc r) (suc fuel) n s d z k c i on rest at m h =
     let w = step-kept p sound l q s d z k i in
     let same = stored-same p sound l q s d z k i w (t .answer-is) in
     let rest′ =
-        finishes p sound l q r fuel (n + 1) (settled s (step p s d .write)) (step p s d .device) z (suc k) (t .place) (rw same at (w .inv)) (t .on) (t .rests)
-        (t .place-is) (subst (λ (u : Store). Remaining u (t .place) r) (sym (w .parts)) (t .remaining)) (omega arith) in
+    finishes p sound l q r fuel (n + 1) (settled s (step p s d .write)) (step p s d .device) z (suc k) (t .place) (rw same at (w .inv)) (t .on) (t .rests)
+    (t .place-is) (subst (λ (u : Store). Remaining u (t .place) r) (sym (w .parts)) (t .remaining)) (omega arith) in
     record {
       store = rest′ .store;
       ends =
           finish-step p fuel n s d (some-left p sound l q s d z k i c r m) (t .answer-is)
           ∙ rest′ .ends
           ∙ ap (λ (x : ℕ). recovered x (rest′ .store)) (let e : n + 1 + r ≡ n + suc r = omega arith in e);
-      left = rest′ .left
+      left = rest′ .left;
     }
 
 -- the stores that a boot finds unmade
 steps-remain : (p : List ℕ) (v : Store) (z : Serial) (k : ℕ) → Placed p v (fresh true) z k (Free 0) → Remaining v 0 (recoverySteps v)
 unfolding recoverySteps
 steps-remain p v z k (inl (s, e)) =
-    inl
-    (s .phase-is
-    , pick-false _ _ (ap (λ (x : ℕ). eqb x 1) (s .phase-is)) ∙ pick-false _ _ (ap (λ (x : ℕ). eqb x 2) (s .phase-is)))
+    inl (
+      s .phase-is,
+      pick-false _ _ (ap (λ (x : ℕ). eqb x 1) (s .phase-is)) ∙ pick-false _ _ (ap (λ (x : ℕ). eqb x 2) (s .phase-is)),
+    )
 steps-remain p v z k (inr (m, inl t)) =
     inr
-    (inl
-    (t .phase-is
-    , ap (λ (x : ℕ). x + 0) (pick-true _ _ (ap (λ (x : ℕ). eqb x 1) (t .phase-is))) ∙ add-zero (v .count + 3)))
+    (inl (
+      t .phase-is,
+      ap (λ (x : ℕ). x + 0) (pick-true _ _ (ap (λ (x : ℕ). eqb x 1) (t .phase-is))) ∙ add-zero (v .count + 3),
+    ))
 steps-remain p v z k (inr (m, inr t)) =
     inr
-    (inr
-    (t .phase-is
-    , ap (λ (x : ℕ). x + 0)
-    (pick-false _ _ (ap (λ (x : ℕ). eqb x 1) (t .phase-is)) ∙ pick-true _ _ (ap (λ (x : ℕ). eqb x 2) (t .phase-is)))
-    ∙ add-zero (v .count + 2)))
+    (inr (
+      t .phase-is,
+      ap (λ (x : ℕ). x + 0)
+          (pick-false _ _ (ap (λ (x : ℕ). eqb x 1) (t .phase-is)) ∙ pick-true _ _ (ap (λ (x : ℕ). eqb x 2) (t .phase-is)))
+          ∙ add-zero (v .count + 2),
+    ))
 
 pub recovers : (p : List ℕ) (sound : Sound p) (l q : ℕ) (s : List ℕ) (d : Device) (z : Serial) (k : ℕ) → InvWords p l q s d z k → (fuel : ℕ)
     → recoverySteps (view s) ≤ fuel → Recovers p s z fuel
@@ -176,18 +179,18 @@ unfolding recovery cut boot judged unlessRefused fresh must
 recovers p sound l q s d z k i fuel h =
     let v = viewAt (memoryWords p) l q s in
     let powered : (on : Bool) → InvWords p l q s (fresh on) z (suc k) =
-        λ on. record { sized = i .sized; contents = i .contents; inv = fresh-inv p v d z k (i .inv) on } in
+    λ on. record { sized = i .sized; contents = i .contents; inv = fresh-inv p v d z k (i .inv) on } in
     let booted : boot p s off ≡ out none (fresh true) Answer.Done =
-        ap (λ (x : Checked). judged x off (out none (fresh true) Answer.Done)) (boot-is p sound l q s off z (suc k) (powered false)) in
+    ap (λ (x : Checked). judged x off (out none (fresh true) Answer.Done)) (boot-is p sound l q s off z (suc k) (powered false)) in
     let n = steps-remain p v z (suc k) (powered true .inv .placed) in
     let f =
-        finishes p sound l q (recoverySteps v) fuel 0 s (fresh true) z (suc k) 0 (powered true) refl refl refl n
-        (subst (λ (u : Store). recoverySteps u ≤ fuel) (view-at p sound l q s d z k i) h) in
+    finishes p sound l q (recoverySteps v) fuel 0 s (fresh true) z (suc k) 0 (powered true) refl refl refl n
+    (subst (λ (u : Store). recoverySteps u ≤ fuel) (view-at p sound l q s d z k i) h) in
     record {
       store = f .store;
       ends =
           ap (λ (o : Out). unlessRefused (o .answer) refused (finish p fuel 0 s (o .device))) booted
           ∙ f .ends
           ∙ ap (λ (x : ℕ). recovered x (f .store)) (zero-add (recoverySteps v) ∙ ap recoverySteps (sym (view-at p sound l q s d z k i)));
-      left = f .left
+      left = f .left;
     }

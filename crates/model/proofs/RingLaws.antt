@@ -128,6 +128,7 @@ records-free queue q t y x (suc k) h l m e at =
     other : (y ≡ 2 * t) ⊎ (y ≡ 2 * t + 1) → h ≢ t → 2 * h ≢ y
     other (inl e) ne = omega arith
     other (inr e) ne = omega arith
+
     other′ : (y ≡ 2 * t) ⊎ (y ≡ 2 * t + 1) → h ≢ t → 2 * h + 1 ≢ y
     other′ (inl e) ne = omega arith
     other′ (inr e) ne = omega arith

@@ -30,7 +30,7 @@ viewAt m l q s =
       tail = word s 15;
       memory = take m (drop memoryAt s);
       log = take (2 * l) (drop (logAt m) s);
-      queue = take (2 * (q + 1)) (drop (queueAt m l) s)
+      queue = take (2 * (q + 1)) (drop (queueAt m l) s);
     }
 
 -- a store from its parts, in the order of the record
@@ -135,20 +135,22 @@ module _ (m l q : ℕ) (s : List ℕ) (z : Sized m l q s) where
   in-log : (j x : ℕ) → j < 2 * l → viewAt m l q (set s (logAt m + j) x) ≡ parts l q (word s 8) (word s 9) (word s 10) (word s 11) (word s 12) (word s 13) (word s 14) (word s 15) (take m (drop memoryAt s)) (set (take (2 * l) (drop (logAt m) s)) j x) (take (2 * (q + 1)) (drop (queueAt m l) s))
   in-log j x h =
       let i = logAt m + j in
-      simp
-      (word-low s i x (omega arith)
-      , part-behind m memoryAt s i x (omega arith)
-      , part-in (2 * l) (logAt m) s j x h
-      , part-before (2 * (q + 1)) (queueAt m l) s i x (omega arith))
+      simp (
+        word-low s i x (omega arith),
+        part-behind m memoryAt s i x (omega arith),
+        part-in (2 * l) (logAt m) s j x h,
+        part-before (2 * (q + 1)) (queueAt m l) s i x (omega arith),
+      )
 
   in-queue : (j x : ℕ) → j < 2 * (q + 1) → viewAt m l q (set s (queueAt m l + j) x) ≡ parts l q (word s 8) (word s 9) (word s 10) (word s 11) (word s 12) (word s 13) (word s 14) (word s 15) (take m (drop memoryAt s)) (take (2 * l) (drop (logAt m) s)) (set (take (2 * (q + 1)) (drop (queueAt m l) s)) j x)
   in-queue j x h =
       let i = queueAt m l + j in
-      simp
-      (word-low s i x (omega arith)
-      , part-behind m memoryAt s i x (omega arith)
-      , part-behind (2 * l) (logAt m) s i x (omega arith)
-      , part-in (2 * (q + 1)) (queueAt m l) s j x h)
+      simp (
+        word-low s i x (omega arith),
+        part-behind m memoryAt s i x (omega arith),
+        part-behind (2 * l) (logAt m) s i x (omega arith),
+        part-in (2 * (q + 1)) (queueAt m l) s j x h,
+      )
 
   pub view-settled : (w : Word) (x : ℕ) → Inside m l q w → viewAt m l q (settled s (to w x)) ≡ apply (viewAt m l q s) (to w x)
   unfolding settled index apply
@@ -162,11 +164,12 @@ module _ (m l q : ℕ) (s : List ℕ) (z : Sized m l q s) where
   view-settled Tail x h = simp (word-other s 15 x, word-same 15 x, control 15 x refl .0, control 15 x refl .1, control 15 x refl .2)
   view-settled (Memory a) x h =
       let i = memoryAt + a in
-      simp
-      (word-low s i x (omega arith)
-      , part-in m memoryAt s a x h
-      , part-before (2 * l) (logAt m) s i x (omega arith)
-      , part-before (2 * (q + 1)) (queueAt m l) s i x (omega arith))
+      simp (
+        word-low s i x (omega arith),
+        part-in m memoryAt s a x h,
+        part-before (2 * l) (logAt m) s i x (omega arith),
+        part-before (2 * (q + 1)) (queueAt m l) s i x (omega arith),
+      )
   view-settled (Address j) x h = rw (z .memory-is) (in-log (2 * j) x (omega arith))
   view-settled (Value j) x h = rw (z .memory-is) (in-log (2 * j + 1) x (omega arith))
   view-settled (Event i) x h = rw (z .memory-is, z .pairs-is) (in-queue (2 * i) x (omega arith))
@@ -182,16 +185,17 @@ module _ (m l q : ℕ) (s : List ℕ) (z : Sized m l q s) where
         length-is = length-set s i x ∙ z .length-is;
         memory-is = low 1 (omega arith) ∙ z .memory-is;
         pairs-is = low 2 (omega arith) ∙ z .pairs-is;
-        records-is = low 3 (omega arith) ∙ z .records-is
+        records-is = low 3 (omega arith) ∙ z .records-is;
       }
 
 -- the parts have their lengths
 pub lengths-are : (m l q : ℕ) (s : List ℕ) → Sized m l q s
     → (length (viewAt m l q s .memory) ≡ m) × (length (viewAt m l q s .log) ≡ 2 * l) × (length (viewAt m l q s .queue) ≡ 2 * (q + 1))
-lengths-are m l q s z =
-    (simp (length-take, length-drop) (omega (arith, z .length-is))
-    , simp (length-take, length-drop) (omega (arith, z .length-is))
-    , simp (length-take, length-drop) (omega (arith, z .length-is)))
+lengths-are m l q s z = (
+  simp (length-take, length-drop) (omega (arith, z .length-is)),
+  simp (length-take, length-drop) (omega (arith, z .length-is)),
+  simp (length-take, length-drop) (omega (arith, z .length-is)),
+)
 
 -- 6 doesn't meet a store that had sound contents
 pub rule-kept : (p s : List ℕ) (w : Word) (x : ℕ) → storeRule p (settled s (to w x)) ≡ storeRule p s
@@ -200,5 +204,5 @@ rule-kept p s w x =
     let i = index s w in
     let b : 8 ≤ i = behind w s in
     let low : (j : ℕ) → ltb j 8 ≡ true → word (set s i x) j ≡ word s j =
-        λ j e. getD-set-other s i j x 0 (let h : j < 8 = ltb-true _ _ e in omega arith) in
+    λ j e. getD-set-other s i j x 0 (let h : j < 8 = ltb-true _ _ e in omega arith) in
     simp (low, length-set)

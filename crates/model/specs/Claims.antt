@@ -1,5 +1,5 @@
 -- What is claimed of the definitions, as statements; proofs/ proves each. docs/CLAIMS.md says which sentence is which.
-use Prim.Native.Nat.{ℕ, zero, suc, _+_, _≤_, _<_}
+use Prim.Native.Nat.{ℕ, zero, suc, _+_, _^_, _≤_, _<_}
 use mathlib.Core.Path.{_≡_}
 use mathlib.Core.Bool.{Bool, true, false}
 use mathlib.Core.List.{List, [], _∷_}
@@ -7,12 +7,13 @@ use mathlib.Core.Option.{Option, some}
 use lib.Dec.{eqb}
 use lib.ListN.{length}
 use Rattle.model.specs.Answer.{refusal}
-use Rattle.model.specs.Calls.{Call, Boot, Step, Cut, Post, Line, Now, call, history, afterCalls, isAccept, Recovery, recovered, recovery}
+use Rattle.model.specs.Calls.{Call, Boot, Step, Cut, Post, Line, Now, call, history, afterCalls, isAccept, counted, Recovery, recovered, recovery}
 use Rattle.model.specs.Device.{off}
+use Rattle.model.specs.Program.{word}
 use Rattle.model.specs.Serial.{Serial, Walked, went, served, walkBody, serial}
-use Rattle.model.specs.Store.{Store, Record, view, waiting}
+use Rattle.model.specs.Store.{Store, Record, view, waiting, settled}
 use Rattle.model.specs.Test.{pick, _or_}
-use Rattle.model.specs.Types.{Answer, Body, Device, Refusal}
+use Rattle.model.specs.Types.{Answer, Body, Device, Free, Half, Handler, Place, Refusal, Resting, Run, Storing, Totals}
 
 -- ---- The refusals that a list of calls on a fresh store can meet
 
@@ -103,3 +104,56 @@ pub record Demand3 (p s : List ℕ) (cs : List Call) : Type 0 where
   pub refusals : (c : Call) → Expected c (call p (afterCalls p s off cs .store) (afterCalls p s off cs .device) c .answer)
   pub bodies : (b : Body) → call p (afterCalls p s off cs .store) (afterCalls p s off cs .device) Step .answer ≡ Answer.Committed b
       → Runs p state (suc (length cs)) b
+
+-- ---- For all words and all device states
+
+-- "A refusal .. changes no word, state or total."
+pub record Unchanged (p s : List ℕ) (d : Device) (c : Call) (t : Totals) : Type 0 where
+  pub store : settled s (call p s d c .write) ≡ s
+  pub device : call p s d c .device ≡ d
+  pub totals : counted t (call p s d c) ≡ t
+
+abbrev pub RefusedChangesNothing : Type 0
+RefusedChangesNothing =
+    (p s : List ℕ) (d : Device) (c : Call) (t : Totals) (r : Refusal) → call p s d c .answer ≡ Answer.Refused r → Unchanged p s d c t
+
+-- "a word is 16 bits, unsigned"
+abbrev pub Words : List ℕ → Type 0
+Words s = (i : ℕ) → word s i < 2 ^ 16
+
+abbrev pub BodyWords : Body → Type 0
+BodyWords (Body.Task t) = t < 2 ^ 16
+BodyWords (Body.Event e) = e < 2 ^ 16
+
+abbrev pub PlaceWords : Place → Type 0
+PlaceWords (Free c) = c < 2 ^ 16
+PlaceWords (Run b j c) = BodyWords b × ((j < 2 ^ 16) × (c < 2 ^ 16))
+PlaceWords (Half b j) = BodyWords b × (j < 2 ^ 16)
+
+abbrev pub HandlerWords : Handler → Type 0
+HandlerWords Resting = Unit {0}
+HandlerWords (Storing n e x) = (e < 2 ^ 16) × (x < 2 ^ 16)
+
+-- a device state that the types allow
+pub record DeviceWords (d : Device) : Type 0 where
+  pub regs-length : length (d .regs) ≡ 8
+  pub regs : Words (d .regs)
+  pub place : PlaceWords (d .place)
+  pub count : d .count < 2 ^ 16
+  pub handler : HandlerWords (d .handler)
+
+abbrev pub CallWords : Call → Type 0
+CallWords Boot = Unit {0}
+CallWords Step = Unit {0}
+CallWords Cut = Unit {0}
+CallWords (Post e x) = (e < 2 ^ 16) × (x < 2 ^ 16)
+
+-- a call's result is one that the types allow
+pub record StaysWords (p s : List ℕ) (d : Device) (c : Call) : Type 0 where
+  pub length-is : length (settled s (call p s d c .write)) ≡ length s
+  pub store : Words (settled s (call p s d c .write))
+  pub device : DeviceWords (call p s d c .device)
+
+abbrev pub WordsStayWords : Type 0
+WordsStayWords =
+    (p s : List ℕ) (d : Device) (c : Call) → Words p → Words s → DeviceWords d → CallWords c → StaysWords p s d c

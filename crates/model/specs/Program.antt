@@ -117,23 +117,23 @@ below a b k = record { a = a; b = b; k = k }
 -- by opcode, for a program of m memory words and t tasks and a body of n instructions
 abbrev pub boundsTable : (m t n : ℕ) (isTask : Bool) → List Bounds
 boundsTable m t n isTask =
-    below 8 1 65536 -- SET
-    ∷ below 8 8 1 -- MOV
-    ∷ below 8 8 1 -- ADD
-    ∷ below 8 8 1 -- SUB
-    ∷ below 8 8 1 -- AND
-    ∷ below 8 8 1 -- OR
-    ∷ below 8 8 1 -- XOR
-    ∷ below 8 1 16 -- SHR
-    ∷ below 8 1 m -- LOAD
-    ∷ below 8 1 m -- SAVE
-    ∷ below 8 8 m -- LOADX
-    ∷ below 8 8 m -- SAVEX
-    ∷ below 1 1 n -- JUMP
-    ∷ below 8 1 n -- JZ
-    ∷ below 8 8 n -- JLT
-    ∷ below 1 1 (pick isTask t 0) -- GO
-    ∷ below 1 1 (pick isTask 0 1) -- DONE
+    below 8 1 65536  -- SET
+    ∷ below 8 8 1  -- MOV
+    ∷ below 8 8 1  -- ADD
+    ∷ below 8 8 1  -- SUB
+    ∷ below 8 8 1  -- AND
+    ∷ below 8 8 1  -- OR
+    ∷ below 8 8 1  -- XOR
+    ∷ below 8 1 16  -- SHR
+    ∷ below 8 1 m  -- LOAD
+    ∷ below 8 1 m  -- SAVE
+    ∷ below 8 8 m  -- LOADX
+    ∷ below 8 8 m  -- SAVEX
+    ∷ below 1 1 n  -- JUMP
+    ∷ below 8 1 n  -- JZ
+    ∷ below 8 8 n  -- JLT
+    ∷ below 1 1 (pick isTask t 0)  -- GO
+    ∷ below 1 1 (pick isTask 0 1)  -- DONE
     ∷ []
 
 unfoldable pub bounds : (m t n : ℕ) (isTask : Bool) → ℕ → Bounds
