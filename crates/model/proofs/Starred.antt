@@ -1,11 +1,6 @@
--- trial
-use Prim.Native.Nat.{ℕ, zero, suc, _+_}
-use mathlib.Core.Path.{_≡_, refl}
-use mathlib.Core.Bool.{Bool, true, false, not}
-use mathlib.Core.List.{List, [], _∷_, _++_}
-use lib.ListN.{set, take, replicate, length}
+-- The starred cases of document 01: one theorem, whose rows the checker computes from the definitions. Assumes nothing.
+use mathlib.Core.Path.{refl}
 use Rattle.model.specs.Answer.{refusal}
-use Rattle.model.specs.Types.{Answer, Body, Checked, Refusal, Device}
 use Rattle.model.specs.Test.{pick, _and_, _or_, must, _then_, each}
 use Rattle.model.specs.Program.{programMark, decode, bounds, mayBeLast, signed, unsigned, shifted, less, effect, effectAt, newOpen, number}
 use Rattle.model.specs.Check.{contentsRule, rowsInside, limits, due, rowRule, rows, rowUsed, fieldsFit, lastFits, instructionRule, bodyRule, check}
@@ -13,25 +8,51 @@ use Rattle.model.specs.Store.{Store, view, storeMark, storeContents, ind
 use Rattle.model.specs.Control.{obey, obeyAll, upTo, phaseRule, taskRule, openRule, openServing, countRule, pendingTaskRule, headRule, tailRule, pendingHeadRule, pendingOpenRule, addressRule, between, recordRule, controlRules, rules, earlyRules}
 use Rattle.model.specs.Device.{Out, fresh, off, moved, handled, judged, storing, taskStores, eventStores, lastStores, mayRun, endStores, placeSound, handlerSound, isFresh, zeros, deviceSound, look, bootCheck, boot, cut, atRest, postCheck, post, handlerStep, pairSound, copyStep, begun, recordSound, chooseStep, headSound, namedRow, openSound, headIs, ends, saves, placeFits, bodySound, shown, saveStep, act, saveRest, placeStep, nextStep, step}
 use Rattle.model.specs.Calls.{Call, Boot, Step, Cut, Post, call, history, afterCalls, unlessRefused, Recovery, recovered, finish, recovery}
-use Rattle.model.specs.Counting.{counting, countingStore}
+use Rattle.model.specs.Starred.{counting, withTask, steps, answer, stepsOf, storeOf, Starred}
 
-answers : List ℕ → List ℕ → Device → List Call → List Answer
-answers p s d [] = []
-answers p s d (c ∷ cs) = let o = call p s d c in o .answer ∷ answers p (settled s (o .write)) (o .device) cs
-
-steps : ℕ → List Call
-steps zero = []
-steps (suc n) = Step ∷ steps n
-
-memoryAfter : Recovery → List ℕ
-memoryAfter (recovered k s) = k ∷ view s .memory
-memoryAfter (Recovery.refused r) = []
-memoryAfter Recovery.unfinished = []
-
-t1 : check counting ≡ Checked.Accepted
-unfolding counting check contentsRule rows rowsInside rowRule limits due bodyRule instructionRule fieldsFit lastFits bounds mayBeLast must _then_ each pick _and_ programMark
-t1 = refl
-
-t2 : memoryAfter (recovery counting 10 (afterCalls counting countingStore off (Boot ∷ steps 10) .store)) ≡ 4 ∷ 1 ∷ 0 ∷ []
-unfolding counting check contentsRule rows rowsInside rowRule limits due bodyRule instructionRule fieldsFit lastFits bounds mayBeLast must _then_ each pick _and_ _or_ programMark decode signed unsigned shifted less effect effectAt newOpen number rowUsed storeMark storeContents index settled findFrom find after firstWaiting distance slot recordsFrom waiting formatted sizesRule storeRule obey obeyAll upTo phaseRule taskRule openRule openServing countRule pendingTaskRule headRule tailRule pendingHeadRule pendingOpenRule addressRule between recordRule controlRules rules earlyRules fresh moved handled judged storing taskStores eventStores lastStores mayRun endStores placeSound handlerSound isFresh zeros deviceSound look bootCheck boot cut atRest postCheck post handlerStep pairSound copyStep begun recordSound chooseStep headSound namedRow openSound headIs ends saves placeFits bodySound shown saveStep act saveRest placeStep nextStep step call history afterCalls unlessRefused finish recovery countingStore memoryAfter steps
-t2 = refl
+pub starred : Starred
+unfolding counting check contentsRule rows rowsInside rowRule limits due bodyRule instructionRule fieldsFit lastFits bounds mayBeLast must _then_ each pick _and_ _or_ programMark decode signed unsigned shifted less effect effectAt newOpen number rowUsed storeMark storeContents index settled findFrom find after firstWaiting distance slot recordsFrom waiting formatted sizesRule storeRule obey obeyAll upTo phaseRule taskRule openRule openServing countRule pendingTaskRule headRule tailRule pendingHeadRule pendingOpenRule addressRule between recordRule controlRules rules earlyRules fresh moved handled judged storing taskStores eventStores lastStores mayRun endStores placeSound handlerSound isFresh zeros deviceSound look bootCheck boot cut atRest postCheck post handlerStep pairSound copyStep begun recordSound chooseStep headSound namedRow openSound headIs ends saves placeFits bodySound shown saveStep act saveRest placeStep nextStep step call history afterCalls unlessRefused finish recovery withTask steps answer stepsOf storeOf refusal
+starred =
+    record {
+      program-words = refl;
+      program-accepted = refl;
+      word-5-wrong = refl;
+      five-words = refl;
+      number-1 = refl;
+      thirty-three-tasks = refl;
+      number-3 = refl;
+      last-instruction = refl;
+      number-5 = refl;
+      load-1 = refl;
+      load-2 = refl;
+      nine-steps = refl;
+      ten-steps = refl;
+      four-recovery-steps = refl;
+      step-ten = refl;
+      step-thirteen = refl;
+      step-fourteen = refl;
+      three-steps = refl;
+      post-at-once = refl;
+      post-before-commit = refl;
+      commit = refl;
+      post-before-head = refl;
+      post-after-head = refl;
+      number-21 = refl;
+      post-again = refl;
+      number-20 = refl;
+      not-accepted = refl;
+      not-chosen = refl;
+      head-stored = refl;
+      not-last = refl;
+      one-slot = refl;
+      shr-lowest = refl;
+      shr-highest = refl;
+      shr-16 = refl;
+      jlt-lowest = refl;
+      jlt-highest = refl;
+      loadx = refl;
+      number-23 = refl;
+      save-twice = refl;
+      save-to-two = refl;
+      number-24 = refl;
+    }

@@ -9,4 +9,4 @@ pub mod Answer
 pub mod Calls
 pub mod Serial
 pub mod Claims
-pub mod Counting
+pub mod Starred
