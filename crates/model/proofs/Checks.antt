@@ -17,7 +17,7 @@ use Rattle.model.proofs.RingLaws.{Between, between-is, between-first, a
 use Rattle.model.proofs.TestLaws.{pick-case, pick-true, pick-false, clash, below-or, and-true, and-left, and-right, or-true-left, or-true-right, not-false, must-true, then-passed, then-first, then-rest}
 use Rattle.model.specs.Check.{rowsInside, rowUsed, instructionRule, check}
 use Rattle.model.specs.Control.{Rule, broken, obey, obeyAll, upTo, phaseRule, taskRule, openRule, openServing, countRule, pendingTaskRule, headRule, tailRule, pendingHeadRule, pendingOpenRule, addressRule, between, recordRule, controlRules, rules, earlyRules}
-use Rattle.model.specs.Device.{lastStores, mayRun, endStores, placeSound, handlerSound, deviceSound, recordSound, headSound, namedRow, openSound, headIs, ends, saves, placeFits, bodySound}
+use Rattle.model.specs.Device.{taskLastStores, eventLastStores, lastStores, mayRun, endStores, placeSound, handlerSound, deviceSound, recordSound, headSound, namedRow, openSound, headIs, ends, saves, placeFits, bodySound}
 use Rattle.model.specs.Program.{word, tasks, events, memoryWords, instructions, transaction, number, effectAt}
 use Rattle.model.specs.Serial.{Serial}
 use Rattle.model.specs.Store.{Store, event, after, empty, full, firstWaiting, Task, Open, Phase, Head, to, Write}
@@ -259,7 +259,7 @@ module _ (p : List ℕ) (v : Store) (d : Device) (z : Serial) (k : ℕ) (i : Inv
   half-in l Effect.Unknown h = absurd h
 
   place-sound : Sound p → (x : Place) → Placed p v d z k x → placeSound p v (d .count) x ≡ true
-  unfolding placeSound
+  unfolding placeSound taskLastStores eventLastStores
   place-sound sound (Free c) (inl (s, e)) = pick-true _ _ (eq-eqb _ _ (s .phase-is)) ∙ eq-eqb _ _ e
   place-sound sound (Free c) (inr (m, inl t)) =
       pick-false _ _ (in-phase p v 1 0 (t .phase-is) refl)

@@ -18,7 +18,7 @@ use Rattle.model.proofs.TestLaws.{pick-case, pick-true, pick-false, cla
 use Rattle.model.specs.Answer.{refusal}
 use Rattle.model.specs.Claims.{Expected}
 use Rattle.model.specs.Calls.{Call, Boot, Step, Cut, Post}
-use Rattle.model.specs.Device.{Out, out, refuse, judged, off, fresh, handled, moved, handlerStep, storing, lastStores, pairSound, copyStep}
+use Rattle.model.specs.Device.{Out, out, refuse, judged, off, fresh, handled, moved, handlerStep, storing, taskLastStores, eventLastStores, lastStores, pairSound, copyStep}
 use Rattle.model.specs.Program.{word, tasks, events, memoryWords, instructions, transaction, number, effectAt, newOpen}
 use Rattle.model.specs.Serial.{Serial, walk, tell, accept, afterDone}
 use Rattle.model.specs.Store.{Store, address, value, logAt, Record, after, firstWaiting, slot, recordsFrom, distance, Word, Phase, Task, Open, Count, Pending, PendingOpen, Head, Tail, Memory, Address, Value, Event, Datum, Write, none, to}
@@ -314,11 +314,11 @@ pub record Turn (v : Store) (o : Out) (r : ℕ) : Type 0 where
   pub place-is : o .device .place ≡ Free place
   pub remaining : Remaining (apply v (o .write)) place r
 
-pub task-last-is : (v : Store) → v .phase ≡ 1 → lastStores v ≡ to Task (v .pending) ∷ to Open (v .pendingOpen) ∷ to Phase 0 ∷ []
+pub task-last-is : (v : Store) → v .phase ≡ 1 → lastStores v ≡ taskLastStores v
 unfolding lastStores
 task-last-is v e = pick-true _ _ (ap (λ (x : ℕ). eqb x 1) e)
 
-pub event-last-is : (v : Store) → v .phase ≡ 2 → lastStores v ≡ to Head (v .pending) ∷ to Phase 0 ∷ []
+pub event-last-is : (v : Store) → v .phase ≡ 2 → lastStores v ≡ eventLastStores v
 unfolding lastStores
 event-last-is v e = pick-false _ _ (ap (λ (x : ℕ). eqb x 1) e)
 
@@ -393,8 +393,8 @@ module _ (p : List ℕ) (v : Store) (d : Device) (on : d .on ≡ true) (rest : d
       pick-false _ _ (le-ltb _ _ h) ∙ ap (λ (x : ℕ). storing (lastStores v) x further Answer.Stored) f
 
   task-last-kept : TaskCommitAt p v z c → (j : ℕ) → c ≡ v .count + j
-      → Kept p v z k Step (storing (to Task (v .pending) ∷ to Open (v .pendingOpen) ∷ to Phase 0 ∷ []) j further Answer.Stored)
-  unfolding storing pick apply tell moved firstWaiting fresh
+      → Kept p v z k Step (storing (taskLastStores v) j further Answer.Stored)
+  unfolding taskLastStores storing pick apply tell moved firstWaiting fresh
   task-last-kept s zero e =
       record {
         inside = tt;
@@ -484,8 +484,8 @@ module _ (p : List ℕ) (v : Store) (d : Device) (on : d .on ≡ true) (rest : d
   task-last-kept s (suc (suc (suc j))) e = absurd (omega (arith, s .place))
 
   event-last-kept : EventCommitAt v z c → (j : ℕ) → c ≡ v .count + j
-      → Kept p v z k Step (storing (to Head (v .pending) ∷ to Phase 0 ∷ []) j further Answer.Stored)
-  unfolding storing pick apply tell moved firstWaiting fresh
+      → Kept p v z k Step (storing (eventLastStores v) j further Answer.Stored)
+  unfolding eventLastStores storing pick apply tell moved firstWaiting fresh
   event-last-kept s zero e =
       record {
         inside = tt;
@@ -562,7 +562,7 @@ module _ (p : List ℕ) (v : Store) (d : Device) (on : d .on ≡ true) (rest : d
       (record { answer-is = refl; on = on; rests = rest; place = c + 1; place-is = refl; remaining = remaining-less v c r n })
 
   turn-last : (TaskCommitAt p v z c ⊎ EventCommitAt v z c) → (r : ℕ) → Remaining v c (suc r) → v .count ≤ c → Turn v (copyStep p v d c) r
-  unfolding apply moved storing pick fresh
+  unfolding taskLastStores eventLastStores apply moved storing pick fresh
   turn-last t r n h =
       let e : c ≡ v .count + (c - v .count) = omega arith in
       rw (last-is (c - v .count) e)
@@ -575,7 +575,7 @@ module _ (p : List ℕ) (v : Store) (d : Device) (on : d .on ≡ true) (rest : d
       us : List Write
       us = to Head (v .pending) ∷ to Phase 0 ∷ []
 
-      by-task : TaskCommitAt p v z c → (j : ℕ) → c ≡ v .count + j → Remaining v c (suc r) → Turn v (storing ws j further Answer.Stored) r
+      by-task : TaskCommitAt p v z c → (j : ℕ) → c ≡ v .count + j → Remaining v c (suc r) → Turn v (storing (taskLastStores v) j further Answer.Stored) r
       by-task s zero e n = record { answer-is = refl; on = on; rests = rest; place = c + 1; place-is = refl; remaining = remaining-less v c r n }
       by-task s (suc zero) e n = record { answer-is = refl; on = on; rests = rest; place = c + 1; place-is = refl; remaining = remaining-less v c r n }
       by-task s (suc (suc zero)) e n =
@@ -587,7 +587,7 @@ module _ (p : List ℕ) (v : Store) (d : Device) (on : d .on ≡ true) (rest : d
           none-left f (inr (inr x)) = omega arith
       by-task s (suc (suc (suc j))) e n = absurd (omega (arith, s .place))
 
-      by-event : EventCommitAt v z c → (j : ℕ) → c ≡ v .count + j → Remaining v c (suc r) → Turn v (storing us j further Answer.Stored) r
+      by-event : EventCommitAt v z c → (j : ℕ) → c ≡ v .count + j → Remaining v c (suc r) → Turn v (storing (eventLastStores v) j further Answer.Stored) r
       by-event s zero e n = record { answer-is = refl; on = on; rests = rest; place = c + 1; place-is = refl; remaining = remaining-less v c r n }
       by-event s (suc zero) e n =
           record { answer-is = refl; on = refl; rests = refl; place = 0; place-is = refl; remaining = inl (refl, none-left (s .phase-is) n) }

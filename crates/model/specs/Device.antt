@@ -62,10 +62,16 @@ taskStores p t k l = to Count l ∷ to Pending k ∷ to PendingOpen (newOpen (tr
 unfoldable pub eventStores : Store → ℕ → List Write
 eventStores v l = to Count l ∷ to Pending (after (v .records) (v .head)) ∷ to Phase 2 ∷ []
 
--- "then n copies, 9 from 12, 10 from 13, 8 becomes 0"; "n copies, 14 from 12, 8 becomes 0": the stores after the copies
+-- "then n copies, 9 from 12, 10 from 13, 8 becomes 0": the stores after the copies
+unfoldable pub taskLastStores : Store → List Write
+taskLastStores v = to Task (v .pending) ∷ to Open (v .pendingOpen) ∷ to Phase 0 ∷ []
+
+-- "n copies, 14 from 12, 8 becomes 0"
+unfoldable pub eventLastStores : Store → List Write
+eventLastStores v = to Head (v .pending) ∷ to Phase 0 ∷ []
+
 unfoldable pub lastStores : Store → List Write
-lastStores v =
-    pick (eqb (v .phase) 1) (to Task (v .pending) ∷ to Open (v .pendingOpen) ∷ to Phase 0 ∷ []) (to Head (v .pending) ∷ to Phase 0 ∷ [])
+lastStores v = pick (eqb (v .phase) 1) (taskLastStores v) (eventLastStores v)
 
 -- ---- 25, what needs no row, instruction, log pair or record
 
