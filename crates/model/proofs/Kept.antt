@@ -238,7 +238,7 @@ module _ (p : List ℕ) (v : Store) (lengths : Lengths p v) (d : Device) (on : d
         tells = λ fuel l. refl;
         expected = tt;
         inv =
-            stored-free p v lengths d on z k i (2 * v .tail) e (inl refl) (Storing Next.Data e x)
+            stored-free p v lengths d on z k i (2 * v .tail) e (inl refl) _
             (record {
               event-in = a .event-in;
               room = a .room;
@@ -253,7 +253,7 @@ module _ (p : List ℕ) (v : Store) (lengths : Lengths p v) (d : Device) (on : d
         tells = λ fuel l. refl;
         expected = tt;
         inv =
-            stored-free p v lengths d on z k i (2 * v .tail + 1) x (inr refl) (Storing Next.Tail e x)
+            stored-free p v lengths d on z k i (2 * v .tail + 1) x (inr refl) _
             (record {
               event-in = a .event-in;
               room = a .room;
