@@ -13,4 +13,7 @@ pub mod SerialLaws
 pub mod Fresh
 pub mod Recovery
 pub mod Demand3
+pub mod Early
+pub mod Refused
+pub mod Words
 pub mod Starred

@@ -1,0 +1,256 @@
+-- What passed checks give, for all words and device states: of what step and post look at, and of a body at an instruction.
+-- Assumes nothing.
+use Prim.Native.Nat.{ℕ, _+_, _*_, _≤_, _<_}
+use mathlib.Core.Path.{_≡_, refl, sym, _∙_}
+use mathlib.Core.Logic.{_⊎_, inl, inr, ⊎-elim, _≢_}
+use mathlib.Core.Bool.{Bool, true, false, not}
+use mathlib.Core.List.{List}
+use native.Mathlib.Omega.{arith}
+use borrow.Author.Tests.{ltb-true, leb-true, eqb-true, eqb-false, eq-eqb, ne-eqb, not-true}
+use lib.Dec.{ltb}
+use lib.ListN.{length}
+use Rattle.model.proofs.ProgramLaws.{Contents, contents-passed}
+use Rattle.model.proofs.StoreLaws.{Sized}
+use Rattle.model.proofs.TestLaws.{pick-case, pick-true, pick-false, clash, same-or, and-true, and-left, and-right, or-true-left, or-true-right, must-passed, then-first, then-rest}
+use Rattle.model.specs.Check.{rowsInside, limits, rowUsed, instructionRule}
+use Rattle.model.specs.Control.{Rule, obey, obeyAll, phaseRule, taskRule, openServing, countRule, pendingTaskRule, headRule, tailRule, pendingHeadRule, earlyRules}
+use Rattle.model.specs.Device.{lastStores, mayRun, endStores, placeSound, handlerSound, deviceSound, look, headSound, namedRow, openSound, headIs, placeFits, bodySound}
+use Rattle.model.specs.Program.{word, tasks, events, memoryWords, total, start, instructions, transaction, firstBody, number}
+use Rattle.model.specs.Store.{Store, view, after, storeRule, sizesRule, Write}
+use Rattle.model.specs.Test.{pick, _and_, _or_}
+use Rattle.model.specs.Types.{Body, Checked, Device, Effect, Free, Half, Handler, Place, Resting, Run, Storing}
+
+-- ---- 6: the store's contents
+
+pub record Shaped (p s : List ℕ) : Type 0 where
+  pub sized : Sized (memoryWords p) (word s 2) (word s 3) s
+  pub some-pairs : 1 ≤ word s 2
+  pub most-pairs : word s 2 ≤ 64
+  pub some-records : 1 ≤ word s 3
+  pub most-records : word s 3 ≤ 32
+
+pub store-passed : (p s : List ℕ) → storeRule p s ≡ Checked.Accepted → Shaped p s
+unfolding storeRule sizesRule
+store-passed p s e0 =
+    let e2 = then-rest _ _ (then-rest _ _ e0) in
+    let e3 = then-rest _ _ e2 in
+    let l1 = must-passed _ _ (then-first _ _ e3) in
+    let l2 = and-right _ _ l1 in
+    let l3 = and-right _ _ l2 in
+    let e8 = then-rest _ _ (then-rest _ _ (then-rest _ _ (then-rest _ _ (then-rest _ _ e3)))) in
+    record {
+      sized =
+          record {
+            length-is = eqb-true _ _ (must-passed _ _ e8);
+            memory-is = eqb-true _ _ (must-passed _ _ (then-first _ _ e2));
+            pairs-is = refl;
+            records-is = refl;
+          };
+      some-pairs = leb-true _ _ (and-left _ _ l1);
+      most-pairs = leb-true _ _ (and-left _ _ l2);
+      some-records = leb-true _ _ (and-left _ _ l3);
+      most-records = leb-true _ _ (and-right _ _ l3);
+    }
+
+-- ---- 7, early: the control words
+
+or-cases : (a b : Bool) → (a or b) ≡ true → (a ≡ true) ⊎ (b ≡ true)
+unfolding _or_
+or-cases true b e = inl refl
+or-cases false b e = inr e
+
+spoken : (a k : Bool) → not (a and not k) ≡ true → a ≡ true → k ≡ true
+unfolding _and_
+spoken true true e f = refl
+spoken true false e f = e
+spoken false k e f = clash f refl
+
+-- a rule that isn't broken is kept where it speaks
+pub obeyed : (r : Rule) → obey r ≡ Checked.Accepted → r .asked ≡ true → r .kept ≡ true
+unfolding obey
+obeyed r e = spoken (r .asked) (r .kept) (must-passed _ _ e)
+
+pub record Controlled (p : List ℕ) (v : Store) : Type 0 where
+  pub phase-in : v .phase ≤ 2
+  pub task-in : v .task < tasks p
+  pub head-in : v .head ≤ v .records
+  pub tail-in : v .tail ≤ v .records
+  pub count-in : v .phase ≢ 0 → v .count ≤ v .pairs
+  pub pending-task : v .phase ≡ 1 → v .pending < tasks p
+  pub pending-head : v .phase ≡ 2 → v .pending ≤ v .records
+  pub pending-is : v .phase ≡ 2 → (v .pending ≡ v .head) ⊎ ((v .pending ≡ after (v .records) (v .head)) × (v .head ≢ v .tail))
+  pub open-none : v .phase ≡ 2 → v .openNumber ≡ 0
+
+pub control-passed : (p : List ℕ) (v : Store) → obeyAll (earlyRules p v) ≡ Checked.Accepted → Controlled p v
+unfolding earlyRules obeyAll phaseRule taskRule openServing countRule pendingTaskRule pendingHeadRule headRule tailRule
+control-passed p v e0 =
+    let e1 = then-rest _ _ e0 in
+    let e2 = then-rest _ _ e1 in
+    let e3 = then-rest _ _ e2 in
+    let e4 = then-rest _ _ e3 in
+    let e5 = then-rest _ _ e4 in
+    let e6 = then-rest _ _ e5 in
+    let e7 = then-rest _ _ e6 in
+    let phase : v .phase ≤ 2 = leb-true _ _ (obeyed _ (then-first _ _ e0) refl) in
+    let head = obeyed _ (then-first _ _ e6) refl in
+    let tail = obeyed _ (then-first _ _ e7) refl in
+    let moves : v .phase ≡ 2 → _ = λ q. obeyed _ (then-first _ _ e5) (and-true (eq-eqb _ _ q) (and-true head tail)) in
+    record {
+      phase-in = phase;
+      task-in = ltb-true _ _ (obeyed _ (then-first _ _ e1) refl);
+      head-in = leb-true _ _ head;
+      tail-in = leb-true _ _ tail;
+      count-in =
+          λ ne.
+          leb-true _ _
+          (obeyed _ (then-first _ _ e3)
+          (same-or (v .phase) 1 (λ q. or-true-left _ _ (eq-eqb _ _ q)) (λ n. or-true-right _ _ (eq-eqb (v .phase) 2 (omega arith)))));
+      pending-task = λ q. ltb-true _ _ (obeyed _ (then-first _ _ e4) (eq-eqb _ _ q));
+      pending-head = λ q. leb-true _ _ (and-left _ _ (moves q));
+      pending-is =
+          λ q.
+          ⊎-elim (λ a. inl (eqb-true _ _ a)) (λ a. inr (eqb-true _ _ (and-left _ _ a), eqb-false _ _ (not-true _ (and-right _ _ a))))
+          (or-cases _ _ (and-right _ _ (moves q)));
+      open-none = λ q. eqb-true _ _ (obeyed _ (then-first _ _ e2) (eq-eqb _ _ q));
+    }
+
+-- ---- 25, early: the device
+
+abbrev pub MayRun : List ℕ → Store → Body → Type 0
+MayRun p v (Body.Task t) = t ≡ v .task
+MayRun p v (Body.Event e) = (e < events p) × (v .openNumber ≡ 0) × (v .head ≢ v .tail)
+
+-- with a log count of l
+abbrev pub Stands : List ℕ → Store → ℕ → Place → Type 0
+Stands p v l (Free c) = (v .phase ≡ 0 → c ≡ 0) × (v .phase ≢ 0 → c < v .count + length (lastStores v))
+Stands p v l (Run b j c) = (v .phase ≡ 0) × MayRun p v b × (c < endStores b)
+Stands p v l (Half b j) = (v .phase ≡ 0) × MayRun p v b × (l < v .pairs)
+
+abbrev pub Attends : List ℕ → Store → Handler → Type 0
+Attends p v Resting = Unit {0}
+Attends p v (Storing n e x) = (e < events p) × (after (v .records) (v .tail) ≢ v .head)
+
+may-run : (p : List ℕ) (v : Store) (b : Body) → mayRun p v b ≡ true → MayRun p v b
+unfolding mayRun
+may-run p v (Body.Task t) e = eqb-true _ _ e
+may-run p v (Body.Event n) e =
+    let f = and-right _ _ e in
+    (ltb-true _ _ (and-left _ _ e), eqb-true _ _ (and-left _ _ f), eqb-false _ _ (not-true _ (and-right _ _ f)))
+
+stands : (p : List ℕ) (v : Store) (l : ℕ) (x : Place) → placeSound p v l x ≡ true → Stands p v l x
+unfolding placeSound
+stands p v l (Free c) e = (
+  λ q. eqb-true _ _ (sym (pick-true _ _ (eq-eqb _ _ q)) ∙ e),
+  λ ne. ltb-true _ _ (sym (pick-false _ _ (ne-eqb _ _ ne)) ∙ e),
+)
+stands p v l (Run b j c) e =
+    let f = and-right _ _ e in
+    (eqb-true _ _ (and-left _ _ e), may-run p v b (and-left _ _ f), ltb-true _ _ (and-right _ _ f))
+stands p v l (Half b j) e =
+    let f = and-right _ _ e in
+    (eqb-true _ _ (and-left _ _ e), may-run p v b (and-left _ _ f), ltb-true _ _ (and-right _ _ f))
+
+attends : (p : List ℕ) (v : Store) (h : Handler) → handlerSound p v h ≡ true → Attends p v h
+unfolding handlerSound
+attends p v Resting e = tt
+attends p v (Storing n x y) e = (ltb-true _ _ (and-left _ _ e), eqb-false _ _ (not-true _ (and-right _ _ e)))
+
+-- the stores after the copies are few, and so are those of a body's end
+pub most-last : (v : Store) → length (lastStores v) ≤ 3
+unfolding lastStores
+most-last v = pick-case (λ (ws : List Write). length ws ≤ 3) (λ _. omega arith) (λ _. omega arith)
+
+pub most-end : (b : Body) → endStores b ≤ 4
+unfolding endStores
+most-end (Body.Task t) = omega arith
+most-end (Body.Event e) = omega arith
+
+-- ---- what step and post look at
+
+pub record Early (p s : List ℕ) (d : Device) : Type 0 where
+  pub contents : Contents p
+  pub shaped : Shaped p s
+  pub control : Controlled p (view s)
+  pub on : d .on ≡ true
+  pub count-in : d .count ≤ view s .pairs
+  pub place : Stands p (view s) (d .count) (d .place)
+  pub handler : Attends p (view s) (d .handler)
+
+pub look-passed : (p s : List ℕ) (d : Device) → look p s d ≡ Checked.Accepted → Early p s d
+unfolding look deviceSound
+look-passed p s d e0 =
+    let e1 = then-rest _ _ e0 in
+    let e2 = then-rest _ _ e1 in
+    let e3 = then-rest _ _ e2 in
+    let on = must-passed _ _ (then-rest _ _ e3) in
+    let sound = sym (pick-true _ _ on) ∙ must-passed _ _ (then-first _ _ e3) in
+    let rest = and-right _ _ sound in
+    record {
+      contents = contents-passed p (then-first _ _ e0);
+      shaped = store-passed p s (then-first _ _ e1);
+      control = control-passed p (view s) (then-first _ _ e2);
+      on = on;
+      count-in = leb-true _ _ (and-left _ _ sound);
+      place = stands p (view s) (d .count) (d .place) (and-left _ _ rest);
+      handler = attends p (view s) (d .handler) (and-right _ _ rest);
+    }
+
+-- ---- a row that is used
+
+pub record RowIs (p : List ℕ) (i : ℕ) : Type 0 where
+  pub some-instruction : 1 ≤ instructions p i
+  pub most-instructions : instructions p i ≤ 256
+  pub most-transaction : transaction p i ≤ 255
+  pub behind : firstBody p ≤ start p i
+  pub inside : start p i + 2 * instructions p i ≤ total p
+
+pub row-passed : (p : List ℕ) (i : ℕ) → rowUsed p i ≡ Checked.Accepted → RowIs p i
+unfolding rowUsed limits
+row-passed p i e0 =
+    let l0 = then-first _ _ e0 in
+    let l1 = then-rest _ _ l0 in
+    let e1 = then-rest _ _ e0 in
+    let most : pick (ltb i (tasks p)) 255 0 ≤ 255 = pick-case (λ (n : ℕ). n ≤ 255) (λ _. omega arith) (λ _. omega arith) in
+    let number : transaction p i ≤ pick (ltb i (tasks p)) 255 0 = leb-true _ _ (must-passed _ _ (then-rest _ _ l1)) in
+    record {
+      some-instruction = leb-true _ _ (must-passed _ _ (then-first _ _ l0));
+      most-instructions = leb-true _ _ (must-passed _ _ (then-first _ _ l1));
+      most-transaction = omega arith;
+      behind = leb-true _ _ (must-passed _ _ (then-first _ _ e1));
+      inside = leb-true _ _ (must-passed _ _ (then-rest _ _ e1));
+    }
+
+-- ---- body b at place x, with what its instruction j does
+
+pub record BodyIs (p : List ℕ) (v : Store) (x : Place) (b : Body) (j : ℕ) (f : Effect) : Type 0 where
+  pub head-record : headSound p v b ≡ Checked.Accepted
+  pub rows-inside : rowsInside p ≡ Checked.Accepted
+  pub row : RowIs p (number p b)
+  pub there : j < instructions p (number p b)
+  pub rule : instructionRule p (number p b) j ≡ Checked.Accepted
+  pub named : namedRow p f ≡ Checked.Accepted
+  pub open-sound : openSound p v b ≡ Checked.Accepted
+  pub head-is : headIs v b ≡ true
+  pub fits : placeFits x f ≡ true
+
+pub body-passed : (p : List ℕ) (v : Store) (x : Place) (b : Body) (j : ℕ) (f : Effect) → bodySound p v x b j f ≡ Checked.Accepted → BodyIs p v x b j f
+unfolding bodySound
+body-passed p v x b j f e0 =
+    let e1 = then-rest _ _ e0 in
+    let e2 = then-rest _ _ e1 in
+    let e3 = then-rest _ _ e2 in
+    let e4 = then-rest _ _ e3 in
+    let last = must-passed _ _ (then-rest _ _ e4) in
+    let there = and-left _ _ last in
+    let code = sym (pick-true _ _ there) ∙ then-first _ _ e3 in
+    record {
+      head-record = then-first _ _ e0;
+      rows-inside = then-first _ _ e1;
+      row = row-passed p (number p b) (then-first _ _ e2);
+      there = ltb-true _ _ there;
+      rule = then-first _ _ code;
+      named = then-rest _ _ code;
+      open-sound = then-first _ _ e4;
+      head-is = and-left _ _ (and-right _ _ last);
+      fits = and-right _ _ (and-right _ _ last);
+    }
