@@ -31,11 +31,11 @@ unfolding _and_
 and-false true b e = e
 and-false false b e = refl
 
-obey-kept : (r : Rule) → r .kept ≡ true → obey r ≡ Checked.Accepted
+pub obey-kept : (r : Rule) → r .kept ≡ true → obey r ≡ Checked.Accepted
 unfolding obey
 obey-kept r e = must-true _ (not-false (and-false (r .asked) (not (r .kept)) (ap not e)))
 
-obey-unasked : (r : Rule) → r .asked ≡ false → obey r ≡ Checked.Accepted
+pub obey-unasked : (r : Rule) → r .asked ≡ false → obey r ≡ Checked.Accepted
 unfolding obey _and_
 obey-unasked r e = must-true _ (rw e)
 

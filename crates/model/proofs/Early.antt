@@ -14,7 +14,7 @@ use Rattle.model.proofs.StoreLaws.{Sized}
 use Rattle.model.proofs.TestLaws.{pick-case, pick-true, pick-false, clash, same-or, and-true, and-left, and-right, or-true-left, or-true-right, must-passed, then-first, then-rest}
 use Rattle.model.specs.Check.{rowsInside, limits, rowUsed, instructionRule}
 use Rattle.model.specs.Control.{Rule, obey, obeyAll, phaseRule, taskRule, openServing, countRule, pendingTaskRule, headRule, tailRule, pendingHeadRule, earlyRules}
-use Rattle.model.specs.Device.{lastStores, mayRun, endStores, placeSound, handlerSound, deviceSound, look, headSound, namedRow, openSound, headIs, placeFits, bodySound}
+use Rattle.model.specs.Device.{taskLastStores, eventLastStores, lastStores, mayRun, endStores, placeSound, handlerSound, deviceSound, look, headSound, namedRow, openSound, headIs, placeFits, bodySound}
 use Rattle.model.specs.Program.{word, tasks, events, memoryWords, total, start, instructions, transaction, firstBody, number}
 use Rattle.model.specs.Store.{Store, view, after, storeRule, sizesRule, Write}
 use Rattle.model.specs.Test.{pick, _and_, _or_}
@@ -157,7 +157,7 @@ attends p v (Storing n x y) e = (ltb-true _ _ (and-left _ _ e), eqb-false _ _ (n
 
 -- the stores after the copies are few, and so are those of a body's end
 pub most-last : (v : Store) → length (lastStores v) ≤ 3
-unfolding lastStores
+unfolding lastStores taskLastStores eventLastStores
 most-last v = pick-case (λ (ws : List Write). length ws ≤ 3) (λ _. omega arith) (λ _. omega arith)
 
 pub most-end : (b : Body) → endStores b ≤ 4

@@ -16,4 +16,5 @@ pub mod Demand3
 pub mod Early
 pub mod Refused
 pub mod Words
+pub mod Repeats
 pub mod Starred

@@ -188,6 +188,13 @@ module _ (m l q : ℕ) (s : List ℕ) (z : Sized m l q s) where
         records-is = low 3 (omega arith) ∙ z .records-is;
       }
 
+-- the view of the store after one store
+pub view-after : (m l q : ℕ) (s : List ℕ) → Sized m l q s → (w : Word) (x : ℕ) → Inside m l q w → view (settled s (to w x)) ≡ apply (view s) (to w x)
+view-after m l q s z w x h =
+    view-is m l q (settled s (to w x)) (settled-sized m l q s z w x h)
+    ∙ view-settled m l q s z w x h
+    ∙ ap (λ (v : Store). apply v (to w x)) (sym (view-is m l q s z))
+
 -- the parts have their lengths
 pub lengths-are : (m l q : ℕ) (s : List ℕ) → Sized m l q s
     → (length (viewAt m l q s .memory) ≡ m) × (length (viewAt m l q s .log) ≡ 2 * l) × (length (viewAt m l q s .queue) ≡ 2 * (q + 1))

@@ -8,6 +8,7 @@ use lib.Dec.{eqb}
 use lib.ListN.{length}
 use Rattle.model.specs.Answer.{refusal}
 use Rattle.model.specs.Calls.{Call, Boot, Step, Cut, Post, Line, Now, call, history, afterCalls, isAccept, counted, Recovery, recovered, recovery}
+use Rattle.model.specs.Control.{rules, blames}
 use Rattle.model.specs.Device.{off}
 use Rattle.model.specs.Program.{word}
 use Rattle.model.specs.Serial.{Serial, Walked, went, served, walkBody, serial}
@@ -157,3 +158,26 @@ pub record StaysWords (p s : List ℕ) (d : Device) (c : Call) : Type 0 where
 abbrev pub WordsStayWords : Type 0
 WordsStayWords =
     (p s : List ℕ) (d : Device) (c : Call) → Words p → Words s → DeviceWords d → CallWords c → StaysWords p s d c
+
+-- "After 23 or 24 every step repeats that refusal until a cut, save for handler steps."
+pub data Stays : Refusal → Type 0 where
+  address : Stays Refusal.Address
+  logFull : Stays Refusal.LogFull
+
+unfoldable pub uncut : List Call → Bool
+uncut [] = true
+uncut (Boot ∷ cs) = uncut cs
+uncut (Step ∷ cs) = uncut cs
+uncut (Cut ∷ cs) = false
+uncut (Post e x ∷ cs) = uncut cs
+
+abbrev pub RefusalStays : Type 0
+RefusalStays =
+    (p s : List ℕ) (d : Device) (r : Refusal) → Stays r → call p s d Step .answer ≡ Answer.Refused r → (cs : List Call) → uncut cs ≡ true
+    → afterCalls p s d cs .device .handler ≡ Resting
+    → call p (afterCalls p s d cs .store) (afterCalls p s d cs .device) Step .answer ≡ Answer.Refused r
+
+-- "Place: the word of any broken rule": the words that a refusal 7 of the definitions names
+abbrev pub PlaceIsBroken : Type 0
+PlaceIsBroken =
+    (p s : List ℕ) (d : Device) (c : Call) (w : ℕ) → call p s d c .answer ≡ Answer.Refused (Refusal.Control w) → blames (rules p (view s)) w ≡ true
