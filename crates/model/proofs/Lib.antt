@@ -16,5 +16,7 @@ pub mod Demand3
 pub mod Early
 pub mod Refused
 pub mod Words
+pub mod Numbers
 pub mod Repeats
+pub mod Blamed
 pub mod Starred

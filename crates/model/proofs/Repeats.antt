@@ -13,6 +13,7 @@ use lib.Seq.{getD-set-other}
 use Rattle.model.proofs.Checks.{obey-kept, obey-unasked}
 use Rattle.model.proofs.Early.{Early, Stands, MayRun, look-passed, Controlled, Shaped}
 use Rattle.model.proofs.Kept.{requeued}
+use Rattle.model.proofs.Numbers.{Low, low-contents, low-store}
 use Rattle.model.proofs.Refused.{Bare, refused-is}
 use Rattle.model.proofs.RingLaws.{after-le}
 use Rattle.model.proofs.StoreLaws.{viewAt, apply, Sized, Inside, view-after, rule-kept}
@@ -96,6 +97,11 @@ unfolding loud refusal _and_
 stays-loud r address = refl
 stays-loud r logFull = refl
 
+loud-high : (r : Refusal) → Stays r → leb (refusal r .number) 6 ≡ false
+unfolding refusal
+loud-high r address = refl
+loud-high r logFull = refl
+
 quiet-must : (b : Bool) (r : Refusal) → loud r ≡ false → Quiet (must b r)
 unfolding must
 quiet-must true r e q s f = let z : _≡_ {A = ℕ} 0 1 = cc in omega arith
@@ -115,26 +121,15 @@ unfolding obeyAll obey
 quiet-rules [] = λ r s e. let z : _≡_ {A = ℕ} 0 1 = cc in omega arith
 quiet-rules (r ∷ rs) = quiet-then _ _ (quiet-control _ _) (quiet-rules rs)
 
+quiet-low : (c : Checked) → Low c → Quiet c
+unfolding loud refusal _and_
+quiet-low c l r w e = clash (l r e) (loud-high r w)
+
 quiet-look : (p s : List ℕ) (d : Device) → Quiet (look p s d)
-unfolding look contentsRule storeRule loud refusal _and_
+unfolding look loud refusal _and_
 quiet-look p s d =
-    quiet-then _ _
-    (quiet-then _ _ (quiet-must _ _ refl)
-    (quiet-then _ _ (quiet-must _ _ refl)
-    (quiet-then _ _ (quiet-must _ _ refl)
-    (quiet-then _ _ (quiet-must _ _ refl)
-    (quiet-then _ _ (quiet-must _ _ refl)
-    (quiet-then _ _ (quiet-must _ _ refl)
-    (quiet-then _ _ (quiet-must _ _ refl) (quiet-then _ _ (quiet-must _ _ refl) (quiet-must _ _ refl)))))))))
-    (quiet-then _ _
-    (quiet-then _ _ (quiet-must _ _ refl)
-    (quiet-then _ _ (quiet-must _ _ refl)
-    (quiet-then _ _ (quiet-must _ _ refl)
-    (quiet-then _ _ (quiet-must _ _ refl)
-    (quiet-then _ _ (quiet-must _ _ refl)
-    (quiet-then _ _ (quiet-must _ _ refl)
-    (quiet-then _ _ (quiet-must _ _ refl) (quiet-then _ _ (quiet-must _ _ refl) (quiet-must _ _ refl)))))))))
-    (quiet-then _ _ (quiet-rules _) (quiet-then _ _ (quiet-must _ _ refl) (quiet-must _ _ refl))))
+    quiet-then _ _ (quiet-low _ (low-contents p))
+    (quiet-then _ _ (quiet-low _ (low-store p s)) (quiet-then _ _ (quiet-rules _) (quiet-then _ _ (quiet-must _ _ refl) (quiet-must _ _ refl))))
 
 -- an outcome that doesn't answer 23 or 24
 abbrev Silent : Out → Type 0

@@ -11,7 +11,7 @@ use lib.Dec.{ltb, leb, eqb}
 use lib.ListN.{set, getD}
 use lib.Seq.{getD-set-other}
 use borrow.Author.Tests.{ltb-true, ltb-false, leb-true, leb-false, eqb-true, eqb-false, eq-eqb, ne-eqb, le-leb, lt-leb, lt-ltb, le-ltb}
-use Rattle.model.proofs.TestLaws.{pick-case, pick-true, pick-false, clash, same-or}
+use Rattle.model.proofs.TestLaws.{pick-case, pick-true, pick-false, clash, same-or, and-true, or-true-left}
 use Rattle.model.specs.Control.{between}
 use Rattle.model.specs.Store.{after, distance, slot, recordsFrom, Record}
 use Rattle.model.specs.Test.{pick, _and_, _or_}
@@ -156,6 +156,13 @@ between-first h t ne = go (leb h t) refl
     go : (a : Bool) → leb h t ≡ a → Between h t h
     go true e = let l : h ≤ t = leb-true _ _ e in inl (l, (omega arith, omega arith))
     go false e = inr (leb-false _ _ e, inl (omega arith))
+
+pub between-self : (h t : ℕ) → h ≢ t → between h t h ≡ true
+unfolding between
+between-self h t ne =
+    let here : leb h h ≡ true = le-leb h h (omega arith) in
+    pick-case (λ (b : Bool). b ≡ true)
+    (λ e. let l : h ≤ t = leb-true _ _ e in let m : h < t = omega arith in and-true here (lt-ltb _ _ m)) (λ e. or-true-left _ _ here)
 
 -- the tail's slot is free
 pub between-free : (h t x : ℕ) → Between h t x → x ≢ t
