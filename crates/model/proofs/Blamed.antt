@@ -199,9 +199,6 @@ module _ (p s : List ℕ) (d : Device) where
   abbrev Plain : Out → Type 0
   Plain o = (w : ℕ) → o .answer ≡ Answer.Refused (Refusal.Control w) → ⊥
 
-  plain-blamed : (o : Out) → Plain o → BlamedOut rs o
-  plain-blamed o h w e = absurd (h w e)
-
   plain-storing : (ws : List Write) (c : ℕ) (e : Device) (a : Answer) → ((w : ℕ) → a ≡ Answer.Refused (Refusal.Control w) → ⊥) → Plain (storing ws c e a)
   unfolding storing
   plain-storing ws c e a h =
@@ -274,21 +271,19 @@ module _ (p s : List ℕ) (d : Device) where
         (λ e.
         blamed-judged rs _ _ _ (address-blamed p v c nz (early .control .phase-in) (early .control .count-in nz) (ltb-true _ _ e))
         (λ _ w f. let z : _≡_ {A = ℕ} 0 1 = cc in absurd (omega arith)))
-        (λ e.
-        plain-blamed (storing (lastStores v) (c - v .count) (moved d (d .regs) (Free (c + 1)) (d .count)) Answer.Stored)
-        (plain-storing _ _ _ _ (λ w f. let z : _≡_ {A = ℕ} 0 1 = cc in omega arith)))
+        (λ e w f. absurd (plain-storing (lastStores v) (c - v .count) (moved d (d .regs) (Free (c + 1)) (d .count)) Answer.Stored (λ n g. let z : _≡_ {A = ℕ} 0 1 = cc in omega arith) w f))
 
     blamed-place : (x : Place) → Stands p v (d .count) x → BlamedOut rs (placeStep p v d x)
     unfolding placeStep
     blamed-place (Free c) h =
         pick-case (BlamedOut rs) (λ e. blamed-choose (eqb-true _ _ e)) (λ e. blamed-copy c (eqb-false _ _ e))
-    blamed-place (Run b j c) h = blamed-judged rs _ _ _ (blamed-body (Run b j c) b j _ (h .1) (h .0)) (λ _. plain-blamed _ (plain-act b j c _))
-    blamed-place (Half b j) h = blamed-judged rs _ _ _ (blamed-body (Half b j) b j _ (h .1) (h .0)) (λ _. plain-blamed _ (plain-rest b j _))
+    blamed-place (Run b j c) h = blamed-judged rs _ _ _ (blamed-body (Run b j c) b j _ (h .1) (h .0)) (λ _ w e. absurd (plain-act b j c _ w e))
+    blamed-place (Half b j) h = blamed-judged rs _ _ _ (blamed-body (Half b j) b j _ (h .1) (h .0)) (λ _ w e. absurd (plain-rest b j _ w e))
 
     blamed-next : (h : Handler) → BlamedOut rs (nextStep p v d h)
     unfolding nextStep
     blamed-next Resting = blamed-place (d .place) (early .place)
-    blamed-next (Storing n e x) = plain-blamed _ (plain-handler n e x)
+    blamed-next (Storing n e x) = λ w f. absurd (plain-handler n e x w f)
 
   blamed-call : (c : Call) → BlamedOut rs (call p s d c)
   unfolding call boot cut post postCheck bootCheck step refusal
