@@ -1,0 +1,73 @@
+-- `store::control::pending_head_kept` meets its contract: each test is one of the rule's. Assumes nothing.
+use mathlib.Core.Path.{sym}
+use borrow.Author.Needs.{needs}
+use Rattle.model.specs.Control.{pendingHeadRule}
+use Rattle.model.specs.Test.{_and_, _or_}
+use Rattle.program.proofs.Checks.{tests}
+use Rattle.control.proofs.pending_head_kept.Statement.{statement}
+use Rattle.control.proofs.pending_head_kept.Tie as tie
+
+shared-slice-read-if1 : tie.Need-shared-slice-read-if1
+shared-slice-read-if1 c = search needs
+
+shared-slice-read-if1-2 : tie.Need-shared-slice-read-if1-2
+shared-slice-read-if1-2 c = search needs
+
+returns : tie.Need-returns
+unfolding pendingHeadRule _and_ _or_
+returns c = search tests
+
+shared-slice-read-if2 : tie.Need-shared-slice-read-if2
+shared-slice-read-if2 c = search needs
+
+shared-slice-read-if2-2 : tie.Need-shared-slice-read-if2-2
+shared-slice-read-if2-2 c = search needs
+
+returns-2 : tie.Need-returns-2
+unfolding pendingHeadRule _and_ _or_
+returns-2 c = search tests
+
+shared-slice-read-if3 : tie.Need-shared-slice-read-if3
+shared-slice-read-if3 c = search needs
+
+shared-slice-read-after : tie.Need-shared-slice-read-after
+shared-slice-read-after c = search needs
+
+shared-slice-read-after-2 : tie.Need-shared-slice-read-after-2
+shared-slice-read-after-2 c = search needs
+
+after-requires : tie.Need-after-requires
+after-requires c κs = search needs
+
+returns-3 : tie.Need-returns-3
+unfolding pendingHeadRule _and_ _or_
+returns-3 c = search (tests, sym (c .before .after .ensures))
+
+shared-slice-read-result : tie.Need-shared-slice-read-result
+shared-slice-read-result c = search needs
+
+shared-slice-read-result-2 : tie.Need-shared-slice-read-result-2
+shared-slice-read-result-2 c = search needs
+
+returns-4 : tie.Need-returns-4
+unfolding pendingHeadRule _and_ _or_
+returns-4 c = search (tests, sym (c .before .before .before .after .ensures))
+
+pub pending-head-kept-spec : {M : Type 1} → statement M
+pending-head-kept-spec =
+    tie.close
+    (tie.spec
+    shared-slice-read-if1
+    shared-slice-read-if1-2
+    returns
+    shared-slice-read-if2
+    shared-slice-read-if2-2
+    returns-2
+    shared-slice-read-if3
+    shared-slice-read-after
+    shared-slice-read-after-2
+    after-requires
+    returns-3
+    shared-slice-read-result
+    shared-slice-read-result-2
+    returns-4)

@@ -1,0 +1,39 @@
+-- `store::control::pending_task_rule` meets its contract: its tests are the rule's. Assumes nothing.
+use borrow.Author.Needs.{needs}
+use Rattle.model.specs.Control.{obey, pendingTaskRule}
+use Rattle.model.specs.Test.{must, _and_}
+use Rattle.program.proofs.Checks.{tests}
+use Rattle.control.proofs.pending_task_rule.Statement.{statement}
+use Rattle.control.proofs.pending_task_rule.Tie as tie
+
+shared-slice-read-if1 : tie.Need-shared-slice-read-if1
+shared-slice-read-if1 c = search needs
+
+returns : tie.Need-returns
+unfolding obey pendingTaskRule must _and_
+returns c = search tests
+
+shared-slice-read-if2 : tie.Need-shared-slice-read-if2
+shared-slice-read-if2 c = search needs
+
+shared-slice-read-if2-2 : tie.Need-shared-slice-read-if2-2
+shared-slice-read-if2-2 c = search needs
+
+returns-2 : tie.Need-returns-2
+unfolding obey pendingTaskRule must _and_
+returns-2 c = search tests
+
+returns-3 : tie.Need-returns-3
+unfolding obey pendingTaskRule must _and_
+returns-3 c = search tests
+
+pub pending-task-rule-spec : {M : Type 1} → statement M
+pending-task-rule-spec =
+    tie.close
+    (tie.spec
+    shared-slice-read-if1
+    returns
+    shared-slice-read-if2
+    shared-slice-read-if2-2
+    returns-2
+    returns-3)

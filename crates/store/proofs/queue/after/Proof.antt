@@ -1,0 +1,26 @@
+-- `store::queue::after` meets its contract: its test is the definition's. Assumes nothing.
+use borrow.Author.Needs.{needs}
+use Rattle.model.specs.Store.{after}
+use Rattle.model.specs.Test.{pick}
+use Rattle.program.proofs.Checks.{tests}
+use Rattle.store.proofs.queue.after.Statement.{statement}
+use Rattle.store.proofs.queue.after.Tie as tie
+
+add-result : tie.Need-add-result
+add-result c = search needs
+
+returns : tie.Need-returns
+unfolding after pick
+returns c = search tests
+
+returns-2 : tie.Need-returns-2
+unfolding after pick
+returns-2 c = search tests
+
+pub after-spec : {M : Type 1} → statement M
+after-spec =
+    tie.close
+    (tie.spec
+    add-result
+    returns
+    returns-2)
