@@ -1,0 +1,5 @@
+-- The laws that belong to no one function.
+pub mod Agree
+pub mod Cases
+pub mod Checks
+pub mod Looked

@@ -1,0 +1,15 @@
+use mathlib.Core.Path.{refl}
+use Rattle.model.specs.Device.{fresh}
+use borrow.Author.Needs.{needs}
+use Rattle.runtime.proofs.steps.turned_on.Statement.{statement}
+use Rattle.runtime.proofs.steps.turned_on.Tie as tie
+
+returns : tie.Need-returns
+unfolding fresh
+returns c = λ s. refl
+
+pub turned-on-spec : {M : Type 1} → statement M
+turned-on-spec =
+    tie.close
+    (tie.spec
+    returns)

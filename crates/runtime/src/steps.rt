@@ -1,0 +1,128 @@
+// The steps that run no instruction: a handler's stores, a commit's stores in phases 1 and 2, and choosing.
+// Each makes its own store, at most one, on the lent words.
+ghost use Prim.Native.Nat.{ℕ, _≤_};
+ghost use mathlib.Core.List.{List};
+ghost use mathlib.Core.Path.{_≡_};
+ghost use Rattle.model.specs.Device.{handlerStep, copyStep, chooseStep, begun, turnedOn};
+ghost use Rattle.model.specs.Program.{word};
+ghost use Rattle.model.specs.Store.{view};
+ghost use Rattle.store.specs.Shaped.{Shaped};
+ghost use Rattle.runtime.specs.Looked.{Looked};
+ghost use Rattle.runtime.specs.Turn.{device, after, result};
+use crate::Core;
+use crate::Turn;
+use model::Answer;
+use model::Body;
+use model::Handler;
+use model::Next;
+use model::Place;
+use model::Refusal;
+use store::queue;
+
+// "A handler at work makes its next store: event, data, then tail. The tail store accepts the event."
+pub fn handler_step(s: &mut [u16], c: Core, n: Next, e: u16, x: u16) -> Turn
+    requires { ⌜ Shaped (now s) ⌝ }
+    requires { ⌜ word (now s) 15 ≤ word (now s) 3 ⌝ }
+    ensures { λ t. ⌜ ((r : List ℕ) → after t r (now (s .exit)) ≡ result (now (s .entry)) (handlerStep (view (now (s .entry))) (device c r) n e x)) ⌝ }
+{
+    let tail = s[15];
+    match n {
+        Next::Event => {
+            queue::write_event(s, tail, e);
+            working(c, Handler::Storing(Next::Data, e, x), Answer::Stored)
+        }
+        Next::Data => {
+            queue::write_datum(s, tail, x);
+            working(c, Handler::Storing(Next::Tail, e, x), Answer::Stored)
+        }
+        Next::Tail => {
+            s[15] = queue::after(s[3], tail);
+            working(c, Handler::Resting, Answer::Accepted)
+        }
+    }
+}
+
+// The device with another handler, and an answer.
+fn working(c: Core, h: Handler, a: Answer) -> Turn
+    ensures { λ t. ⌜ t ≡ record { answer = a; core = record { on = c .on; place = c .place; count = c .count; handler = h } } ⌝ }
+{
+    let place = c.place;
+    Turn {
+        answer: a,
+        core: Core {
+            on: c.on,
+            place,
+            count: c.count,
+            handler: h,
+        },
+    }
+}
+
+// A refusal: the device stays as it is.
+pub fn refuse(c: Core, why: Refusal) -> Turn
+    ensures { λ t. ⌜ t ≡ record { answer = Answer.Refused why; core = c } ⌝ }
+{
+    Turn {
+        answer: Answer::Refused(why),
+        core: c,
+    }
+}
+
+// The device at another place with another log count, and an answer.
+pub fn at(c: Core, place: Place, count: u16, answer: Answer) -> Turn
+    ensures { λ t. ⌜ t ≡ record { answer = answer; core = record { on = c .on; place = place; count = count; handler = c .handler } } ⌝ }
+{
+    let handler = c.handler;
+    Turn {
+        answer,
+        core: Core {
+            on: c.on,
+            place,
+            count,
+            handler,
+        },
+    }
+}
+
+// The off value turned on.
+pub fn turned_on(r: &mut [u16; 8], answer: Answer) -> Turn
+    ensures { λ t. ⌜ ((s : List ℕ) → after t (now (r .exit)) s ≡ record { answer = answer; device = turnedOn; store = s }) ⌝ }
+{
+    *r = [0; 8];
+    Turn {
+        answer,
+        core: Core {
+            on: true,
+            place: Place::Free(0),
+            count: 0,
+            handler: Handler::Resting,
+        },
+    }
+}
+
+// "Registers become 0, except that register 0 gets an event's data. The log count becomes 0."
+fn begin(r: &mut [u16; 8], c: Core, b: Body, x: u16) -> Turn
+    ensures { λ t. ⌜ ((s : List ℕ) → after t (now (r .exit)) s ≡ record { answer = Answer.Chosen b; device = begun (device c (now (r .entry))) b x; store = s }) ⌝ }
+{
+    *r = [x, 0, 0, 0, 0, 0, 0, 0];
+    at(c, Place::Run(b, 0, 0), 0, Answer::Chosen(b))
+}
+
+// "if word 10 is 0 and the queue isn't empty, the event at head; otherwise the current task"
+pub fn choose_step(p: &[u16], s: &[u16], r: &mut [u16; 8], c: Core) -> Turn
+    requires { ⌜ Looked (now p) (now s) (device c (now r)) ⌝ }
+    ensures { λ t. ⌜ after t (now (r .exit)) (now (s .entry)) ≡ result (now (s .entry)) (chooseStep (now (p .entry)) (view (now (s .entry))) (device c (now (r .entry)))) ⌝ }
+{
+    if s[10] != 0 {
+        return begin(r, c, Body::Task(s[9]), 0);
+    }
+    if queue::is_empty(s) {
+        return begin(r, c, Body::Task(s[9]), 0);
+    }
+    let head = s[14];
+    let e = queue::event(s, head);
+    if e >= p[2] {
+        return refuse(c, Refusal::Control(s[7] + 2 * head));
+    }
+    begin(r, c, Body::Event(e), queue::datum(s, head))
+}
