@@ -15,7 +15,7 @@ use Rattle.program.specs.Accepted.{Contents, RowsInside, HasRow, HasBody
 use Rattle.program.proofs.Checks.{must-true, must-then, then-first, then-second, each-given}
 use Rattle.program.proofs.Due.{due-first, due-next}
 use Rattle.program.proofs.Legal.{rule-given}
-use Rattle.program.proofs.Range.{within}
+use Rattle.signed.proofs.Range.{within}
 
 pub contents-given : (p : List ℕ) → contentsRule p ≡ Checked.Accepted → Contents p
 unfolding contentsRule

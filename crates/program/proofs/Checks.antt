@@ -9,7 +9,7 @@ use borrow.Author.Tests.{lt-ltb, le-ltb, le-leb, lt-leb, eq-eqb, ne-eqb}
 use Rattle.model.specs.Test.{must, _then_, each}
 use Rattle.model.specs.declared.Checked.{Checked}
 use Rattle.model.specs.declared.Refusal.{Refusal}
-use Rattle.program.proofs.Range.{Each}
+use Rattle.signed.proofs.Range.{Each}
 
 -- from the facts that a function's tests leave to the tests of its definition
 pub ruleset tests = (lt-ltb, le-ltb, le-leb, lt-leb, eq-eqb, ne-eqb)

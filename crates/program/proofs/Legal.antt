@@ -14,7 +14,7 @@ use Rattle.model.specs.declared.Checked.{Checked}
 use Rattle.model.specs.declared.Instruction.{Instruction}
 use Rattle.program.specs.Legal.{instructionAt, Registers, Operands, Legal, LegalEffect}
 use Rattle.program.proofs.Checks.{must-true, must-then}
-use Rattle.program.proofs.Range.{Each, within}
+use Rattle.signed.proofs.Range.{Each, within}
 
 -- ---- The two tests of the rule, as facts
 

@@ -6,8 +6,8 @@ ghost use Rattle.model.specs.Test.{pick};
 ghost use Rattle.program.specs.Accepted.{HasInstruction};
 ghost use Rattle.program.specs.Legal.{Registers, Legal, LegalEffect};
 use super::code;
-use super::signed::less;
-use super::signed::shr;
+use signed::less;
+use signed::shr;
 use model::Effect;
 use model::Instruction;
 

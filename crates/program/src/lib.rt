@@ -1,5 +1,5 @@
 // The program check of document 01, and its parts one by one, as a step uses them: the contents here, the rows in
-// rows.rt, the instructions in code.rt, what an instruction does in effects.rt, signed words in signed.rt.
+// rows.rt, the instructions in code.rt, what an instruction does in effects.rt.
 // Each contract cites the definition of crates/model that it equals.
 ghost use mathlib.Core.Path.{_≡_};
 ghost use Rattle.model.specs.Check.{contentsRule, check};
@@ -10,7 +10,6 @@ use model::Refusal;
 pub mod code;
 pub mod effects;
 pub mod rows;
-pub mod signed;
 
 // "mark (hex C0B1)"
 const MARK: u16 = 0xC0B1;

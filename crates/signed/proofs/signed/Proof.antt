@@ -8,9 +8,9 @@ use borrow.Author.Tests.{lt-ltb}
 use lib.IntN.{pos, negsuc, _-ℤ_}
 use mir.Syntax.{w32}
 use mir.Val.{toZ}
-use Rattle.program.proofs.TwosComplement.{read-back, read-word, signed-low, signed-high}
-use Rattle.program.proofs.signed.signed.Statement.{statement}
-use Rattle.program.proofs.signed.signed.Tie as tie
+use Rattle.signed.proofs.TwosComplement.{read-back, read-word, signed-low, signed-high}
+use Rattle.signed.proofs.signed.Statement.{statement}
+use Rattle.signed.proofs.signed.Tie as tie
 
 lowered : (x : ℕ) → x < 65536 → toZ w32 x -ℤ pos 65536 ≡ negsuc (65535 - x)
 lowered x h = rw (read-word x h) (simp (lt-ltb x 65536 h) (ap negsuc (omega arith)))

@@ -8,9 +8,9 @@ use lib.Signed.{shrZ}
 use mir.Syntax.{w32}
 use mir.Val.{toZ, ofZ}
 use Rattle.model.specs.Program.{shifted, signed, unsigned}
-use Rattle.program.proofs.TwosComplement.{read-back, mag-signed, mag-shifted}
-use Rattle.program.proofs.signed.shr.Statement.{statement}
-use Rattle.program.proofs.signed.shr.Tie as tie
+use Rattle.signed.proofs.TwosComplement.{read-back, mag-signed, mag-shifted}
+use Rattle.signed.proofs.shr.Statement.{statement}
+use Rattle.signed.proofs.shr.Tie as tie
 
 -- what `divided` is handed, and what `unsigned` is handed
 handed : (c : tie.After-signed) → toZ w32 (ofZ w32 (c .signed .result)) ≡ signed (c .before .args .x)

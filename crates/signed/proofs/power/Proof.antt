@@ -8,9 +8,9 @@ use lib.IntN.{ℤ, pos}
 use lib.ListN.{getD}
 use mir.Syntax.{w32}
 use mir.Val.{toZ, ofZ}
-use Rattle.program.proofs.Range.{Each, within}
-use Rattle.program.proofs.signed.power.Statement.{statement}
-use Rattle.program.proofs.signed.power.Tie as tie
+use Rattle.signed.proofs.Range.{Each, within}
+use Rattle.signed.proofs.power.Statement.{statement}
+use Rattle.signed.proofs.power.Tie as tie
 
 abbrev powers : List ℤ
 powers =

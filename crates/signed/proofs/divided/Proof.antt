@@ -11,9 +11,9 @@ use lib.Pow.{pow-pos, pow-mono}
 use lib.Signed.{mag, quotZ, shrZ}
 use mir.Syntax.{w32}
 use mir.Val.{toZ, ofZ}
-use Rattle.program.proofs.TwosComplement.{read-back, below-zero, from-zero}
-use Rattle.program.proofs.signed.divided.Statement.{statement}
-use Rattle.program.proofs.signed.divided.Tie as tie
+use Rattle.signed.proofs.TwosComplement.{read-back, below-zero, from-zero}
+use Rattle.signed.proofs.divided.Statement.{statement}
+use Rattle.signed.proofs.divided.Tie as tie
 
 -- ---- -(n + 1), plus one, divided, minus one
 

@@ -3,9 +3,9 @@
 use native.Mathlib.Omega.{arith}
 use borrow.Author.Needs.{needs}
 use Rattle.model.specs.Program.{less, signed}
-use Rattle.program.proofs.TwosComplement.{read-back, mag-signed}
-use Rattle.program.proofs.signed.less.Statement.{statement}
-use Rattle.program.proofs.signed.less.Tie as tie
+use Rattle.signed.proofs.TwosComplement.{read-back, mag-signed}
+use Rattle.signed.proofs.less.Statement.{statement}
+use Rattle.signed.proofs.less.Tie as tie
 
 signed-requires : tie.Need-signed-requires
 signed-requires c κs = search needs

@@ -8,9 +8,9 @@ use lib.Signed.{mag}
 use mir.Syntax.{w32}
 use mir.Val.{toZ, ofZ}
 use Rattle.model.specs.Program.{unsigned}
-use Rattle.program.proofs.TwosComplement.{read-back, below-zero, from-zero}
-use Rattle.program.proofs.signed.unsigned.Statement.{statement}
-use Rattle.program.proofs.signed.unsigned.Tie as tie
+use Rattle.signed.proofs.TwosComplement.{read-back, below-zero, from-zero}
+use Rattle.signed.proofs.unsigned.Statement.{statement}
+use Rattle.signed.proofs.unsigned.Tie as tie
 
 module _ (z : ℤ) (n : ℕ) (h : n < 32768) (e : z ≡ negsuc n) where
   raised : toZ w32 (ofZ w32 z) +ℤ pos 65536 ≡ pos (65535 - n)
