@@ -6,10 +6,10 @@ ghost use Rattle.model.specs.Test.{pick};
 ghost use Rattle.program.specs.Accepted.{HasInstruction};
 ghost use Rattle.program.specs.Legal.{Registers, Legal, LegalEffect};
 use super::code;
-use signed::less;
-use signed::shr;
 use model::Effect;
 use model::Instruction;
+use signed::less;
+use signed::shr;
 
 fn reg(r: &[u16; 8], i: u16) -> u16
     requires { ⌜ i < 8 ⌝ }
