@@ -1,0 +1,255 @@
+//! The comparing driver: two implementations perform the same list of calls, and after every call the answer,
+//! the store, the device state and the totals must be equal. In refusal 7 the place is free: each side's must
+//! be the word of a broken rule. A refused call must have changed nothing. Also the counts of what came up.
+
+use crate::reference::{broken_words, PHASE};
+use crate::runtime::*;
+use crate::scenario::{Call, Machine, Outcome, Scenario, CALL_NAMES, LARGE_BUDGET};
+
+/// Where and how two implementations differ, or one breaks a demand.
+#[derive(Clone, Debug)]
+pub struct Difference {
+    /// The call's index in the list; none for the check and the formatting before it.
+    pub index: Option<usize>,
+    pub text: String,
+}
+
+/// What came up in the lists.
+#[derive(Clone, Debug, Default)]
+pub struct Counts {
+    pub scenarios: u64,
+    /// By `CALL_NAMES`.
+    pub calls: [u64; 7],
+    pub run_steps: u64,
+    /// By `CALL_NAMES`, then by number.
+    pub refusals: [[u64; 32]; 7],
+    pub committed: u64,
+    pub accepted: u64,
+    /// Cuts while the phase is 1 or 2, and of these the ones after a boot into that phase.
+    pub cuts_in_commit: u64,
+    pub cuts_in_recovery: u64,
+    pub cuts_in_half_save: u64,
+    pub cuts_in_ending: u64,
+    pub cuts_in_handler: u64,
+}
+
+impl Counts {
+    pub fn all_calls(&self) -> u64 {
+        self.calls.iter().sum()
+    }
+
+    pub fn refusals_of(&self, number: usize) -> u64 {
+        self.refusals.iter().map(|by_number| by_number[number]).sum()
+    }
+
+    /// Count a call by what it found and what it gave.
+    pub fn add(&mut self, call: &Call, device: &Device, phase: u16, recovering: bool, outcome: &Outcome) {
+        let Some(kind) = call.kind() else { return };
+        self.calls[kind] += 1;
+        if let Some(refusal) = outcome.refusal() {
+            self.refusals[kind][(refusal.number as usize).min(31)] += 1;
+        }
+        if let Outcome::Run(answer) = outcome {
+            self.run_steps += answer.steps as u64;
+        }
+        if *call == Call::Cut {
+            let ending = matches!(device.place, Place::Running { ending, .. } if ending > 0);
+            let half = matches!(device.place, Place::HalfSave { .. });
+            self.cuts_in_commit += (device.on && phase != 0) as u64;
+            self.cuts_in_recovery += (device.on && phase != 0 && recovering) as u64;
+            self.cuts_in_half_save += half as u64;
+            self.cuts_in_ending += ending as u64;
+            self.cuts_in_handler += device.handler.is_some() as u64;
+        }
+    }
+
+    /// A table of the refusals, a row for each call.
+    pub fn refusal_table(&self) -> String {
+        let numbers = refusal_numbers();
+        let mut text = format!("{:>8}", "");
+        for number in &numbers {
+            text.push_str(&format!("{number:>9}"));
+        }
+        text.push('\n');
+        for (kind, name) in CALL_NAMES.iter().enumerate() {
+            text.push_str(&format!("{name:>8}"));
+            for number in &numbers {
+                match self.refusals[kind][*number] {
+                    0 => text.push_str(&format!("{:>9}", ".")),
+                    count => text.push_str(&format!("{count:>9}")),
+                }
+            }
+            text.push('\n');
+        }
+        text.push_str(&format!("{:>8}", "all"));
+        for number in &numbers {
+            text.push_str(&format!("{:>9}", self.refusals_of(*number)));
+        }
+        text.push('\n');
+        text
+    }
+}
+
+/// The numbers of the paper: 1 to 9, 20 to 26.
+pub fn refusal_numbers() -> Vec<usize> {
+    (1..=9).chain(20..=26).collect()
+}
+
+/// Which numbers a call may return, by `CALL_NAMES`.
+pub const POSSIBLE: [&[usize]; 7] = [
+    &[1, 2, 3, 4, 5],
+    &[1, 2, 3, 4, 5, 6, 9],
+    &[1, 2, 3, 4, 5, 6, 7, 26],
+    &[1, 2, 3, 4, 5, 6, 7, 22, 23, 24, 25],
+    &[1, 2, 3, 6, 7, 8, 20, 21, 22, 25],
+    &[],
+    &[1, 2, 3, 4, 5, 6, 7, 22, 23, 24, 25],
+];
+
+/// The first index at which two slices differ, as text.
+pub fn word_difference(a: &[u16], b: &[u16]) -> String {
+    if a.len() != b.len() {
+        return format!("lengths {} and {}", a.len(), b.len());
+    }
+    for (index, (x, y)) in a.iter().zip(b).enumerate() {
+        if x != y {
+            return format!("word {index} is {x} and {y}");
+        }
+    }
+    "no difference".into()
+}
+
+/// Whether two outcomes agree, the place of 7 left aside.
+fn agree(a: &Outcome, b: &Outcome) -> bool {
+    if a == b {
+        return true;
+    }
+    let same_steps = match (a, b) {
+        (Outcome::Run(a), Outcome::Run(b)) => a.steps == b.steps,
+        (Outcome::Answer(_), Outcome::Answer(_)) => true,
+        _ => false,
+    };
+    match (a.refusal(), b.refusal()) {
+        (Some(a), Some(b)) => same_steps && a.number == 7 && b.number == 7,
+        _ => false,
+    }
+}
+
+/// Whether a refusal 7 has the word of a broken rule as its place.
+pub fn place_is_right(refusal: &Refusal, program: &[u16], store: &[u16]) -> bool {
+    refusal.number != 7
+        || (refusal.place.1 == 0 && broken_words(program, store).contains(&refusal.place.0))
+}
+
+/// Buffers for a machine's words before a call, without the program.
+#[derive(Default)]
+struct Before {
+    store: Vec<u16>,
+    device: Option<Device>,
+    totals: Totals,
+}
+
+impl Before {
+    fn take(&mut self, machine: &Machine) {
+        self.store.clear();
+        self.store.extend_from_slice(&machine.store);
+        self.device = Some(machine.device);
+        self.totals = machine.totals;
+    }
+
+    fn equals(&self, machine: &Machine) -> bool {
+        self.device == Some(machine.device) && self.totals == machine.totals && self.store == machine.store
+    }
+}
+
+/// Perform one call on both sides and compare.
+fn compare_call(
+    a: (&dyn Runtime, &mut Machine),
+    b: (&dyn Runtime, &mut Machine),
+    call: &Call,
+    before: &mut Before,
+) -> Result<Outcome, String> {
+    let ((a, left), (b, right)) = (a, b);
+    before.take(left);
+    let call = &left.affordable(a, call);
+    if let Call::Run { budget } = call {
+        // The first side refuses the first step of a run with a very large budget. So must the second, or
+        // it would run for hours.
+        if *budget > LARGE_BUDGET && !right.step_is_refused(b) {
+            return Err("the second side doesn't refuse the run's first step".into());
+        }
+    }
+    let outcome = left.call(a, call).expect("a call of the runtime");
+    let other = right.call(b, call).expect("a call of the runtime");
+    if !agree(&outcome, &other) {
+        return Err(format!("answers {outcome:?} and {other:?}"));
+    }
+    if left.store != right.store {
+        return Err(format!("{outcome:?}; stores differ: {}", word_difference(&left.store, &right.store)));
+    }
+    if left.device != right.device {
+        return Err(format!("{outcome:?}; devices {:?} and {:?}", left.device, right.device));
+    }
+    if left.totals != right.totals {
+        return Err(format!("{outcome:?}; totals {:?} and {:?}", left.totals, right.totals));
+    }
+    for (side, outcome) in [("first", &outcome), ("second", &other)] {
+        let Some(refusal) = outcome.refusal() else { continue };
+        if !place_is_right(&refusal, &left.program, &left.store) {
+            let words = broken_words(&left.program, &left.store);
+            return Err(format!("{side}: {refusal:?}, broken rules' words {words:?}"));
+        }
+        let some_steps = matches!(outcome, Outcome::Run(RunAnswer { steps, .. }) if *steps > 0);
+        if !some_steps && !before.equals(left) {
+            return Err(format!("{side}: {refusal:?} changed something"));
+        }
+    }
+    Ok(outcome)
+}
+
+/// Compare two implementations over a scenario.
+pub fn drive(
+    a: &dyn Runtime,
+    b: &dyn Runtime,
+    scenario: &Scenario,
+    counts: &mut Counts,
+) -> Result<(), Difference> {
+    counts.scenarios += 1;
+    let mut left = Machine::new(scenario);
+    let mut right = left.clone();
+    let mut before = Before::default();
+    let format = Call::Format { log_pairs: scenario.log_pairs, queue_records: scenario.queue_records };
+    for call in [Call::Check, format] {
+        let result = compare_call((a, &mut left), (b, &mut right), &call, &mut before);
+        let outcome = result.map_err(|text| Difference { index: None, text })?;
+        counts.add(&call, &left.device, 0, false, &outcome);
+    }
+    let mut kept_left = left.clone();
+    let mut kept_right = left.clone();
+    let mut recovering = false;
+    for (index, call) in scenario.calls.iter().enumerate() {
+        if call.kind().is_none() {
+            left.change(call, &mut kept_left);
+            right.change(call, &mut kept_right);
+            continue;
+        }
+        let phase = left.store.get(PHASE).copied().unwrap_or(0);
+        let device = left.device;
+        let totals = left.totals;
+        let result = compare_call((a, &mut left), (b, &mut right), call, &mut before);
+        let outcome = result.map_err(|text| Difference { index: Some(index), text })?;
+        counts.add(call, &device, phase, recovering, &outcome);
+        counts.committed += (left.totals.committed - totals.committed) as u64;
+        counts.accepted += (left.totals.accepted - totals.accepted) as u64;
+        match (call, &outcome) {
+            (Call::Boot, Outcome::Answer(Answer::Done)) => recovering = phase != 0,
+            (Call::Cut, _) => recovering = false,
+            _ => {
+                if left.store.get(PHASE) == Some(&0) {
+                    recovering = false;
+                }
+            }
+        }
+    }
+    Ok(())
+}

@@ -1,0 +1,953 @@
+//! Random scenarios from a seed: valid programs, schedules of calls, and damage. A schedule is made while the
+//! reference runs it, so that cuts, posts and damage can be aimed; the list that comes out is fixed and can
+//! be replayed and shortened without the generator.
+
+use crate::reference::*;
+use crate::runtime::*;
+use crate::scenario::{Call, Machine, Scenario};
+
+/// Splitmix64.
+pub struct Random(u64);
+
+impl Random {
+    pub fn new(seed: u64) -> Random {
+        Random(seed.wrapping_mul(0x9E3779B97F4A7C15) ^ 0x5851F42D4C957F2D)
+    }
+
+    pub fn next(&mut self) -> u64 {
+        self.0 = self.0.wrapping_add(0x9E3779B97F4A7C15);
+        let mut z = self.0;
+        z = (z ^ (z >> 30)).wrapping_mul(0xBF58476D1CE4E5B9);
+        z = (z ^ (z >> 27)).wrapping_mul(0x94D049BB133111EB);
+        z ^ (z >> 31)
+    }
+
+    /// A number below the bound, which isn't 0.
+    pub fn below(&mut self, bound: usize) -> usize {
+        (((self.next() >> 32) * bound as u64) >> 32) as usize
+    }
+
+    /// A number from least to most.
+    pub fn from(&mut self, least: usize, most: usize) -> usize {
+        least + self.below(most - least + 1)
+    }
+
+    pub fn percent(&mut self, chance: usize) -> bool {
+        self.below(100) < chance
+    }
+
+    pub fn pick<T: Copy>(&mut self, list: &[T]) -> T {
+        list[self.below(list.len())]
+    }
+
+    /// A word, the ends and small numbers more often than others.
+    pub fn word(&mut self) -> u16 {
+        match self.below(6) {
+            0 => self.pick(&[0, 1, 2, 0x7FFF, 0x8000, 0x8001, 0xFFFE, 0xFFFF]),
+            1 | 2 => self.below(20) as u16,
+            3 => (0u16).wrapping_sub(self.below(20) as u16),
+            _ => self.next() as u16,
+        }
+    }
+}
+
+// ---------------------------------------------------------------------------------------------------------
+// Programs
+
+/// The sizes of a program and its store.
+#[derive(Clone, Copy, Debug)]
+pub struct Sizes {
+    pub tasks: usize,
+    pub events: usize,
+    pub memory: usize,
+    pub log_pairs: usize,
+    pub queue_records: usize,
+    /// The most instructions of a body.
+    pub body: usize,
+    /// Whether every body has that many.
+    pub exact: bool,
+    /// Whether bodies mostly fill the log.
+    pub fill: bool,
+}
+
+fn sizes(random: &mut Random) -> Sizes {
+    let mut sizes = Sizes {
+        tasks: random.from(1, 4),
+        events: if random.percent(10) { 0 } else { random.from(1, 3) },
+        memory: random.from(1, 8),
+        log_pairs: random.from(1, 6),
+        queue_records: random.from(1, 4),
+        body: random.from(1, 14),
+        exact: false,
+        fill: false,
+    };
+    match random.below(1000) {
+        // All at the limits.
+        0 => {
+            sizes = Sizes {
+                tasks: 32,
+                events: 16,
+                memory: 1024,
+                log_pairs: 64,
+                queue_records: 32,
+                body: 256,
+                exact: true,
+                fill: random.percent(30),
+            }
+        }
+        // The smallest.
+        1..=40 => {
+            sizes = Sizes {
+                tasks: 1,
+                events: random.below(2),
+                memory: random.from(1, 2),
+                log_pairs: 1,
+                queue_records: 1,
+                body: random.from(1, 6),
+                exact: false,
+                fill: false,
+            }
+        }
+        // One or more of them at its limit.
+        41..=70 => {
+            for _ in 0..random.from(1, 3) {
+                match random.below(6) {
+                    0 => sizes.tasks = 32,
+                    1 => sizes.events = 16,
+                    2 => sizes.memory = 1024,
+                    3 => sizes.log_pairs = 64,
+                    4 => sizes.queue_records = 32,
+                    _ => {
+                        sizes.body = 256;
+                        sizes.exact = random.percent(50);
+                    }
+                }
+            }
+        }
+        // A log of the largest size, and bodies that fill it.
+        131..=134 => {
+            sizes.memory = random.from(64, 70);
+            sizes.log_pairs = 64;
+            sizes.body = random.from(60, 140);
+            sizes.exact = true;
+            sizes.fill = true;
+        }
+        // Middling.
+        71..=130 => {
+            sizes = Sizes {
+                tasks: random.from(1, 12),
+                events: random.from(0, 8),
+                memory: random.from(1, 80),
+                log_pairs: random.from(1, 20),
+                queue_records: random.from(1, 10),
+                body: random.from(1, 50),
+                exact: false,
+                fill: false,
+            }
+        }
+        _ => {}
+    }
+    sizes
+}
+
+/// An instruction's two words.
+fn code(opcode: u16, a: usize, b: usize, k: usize) -> [u16; 2] {
+    [opcode * 256 + (a as u16) * 16 + b as u16, k as u16]
+}
+
+fn opcode_of(words: &[u16; 2]) -> u16 {
+    words[0] >> 8
+}
+
+fn is_jump(words: &[u16; 2]) -> bool {
+    matches!(opcode_of(words), JUMP | JZ | JLT)
+}
+
+/// A body in the making.
+struct Writer<'a> {
+    random: &'a mut Random,
+    sizes: Sizes,
+    task: bool,
+    /// The addresses that it prefers, so that the log doesn't always fill.
+    pool: Vec<usize>,
+    code: Vec<[u16; 2]>,
+    /// Jumps ahead, as distances, to be cut to the body's length in the end.
+    ahead: Vec<(usize, usize)>,
+}
+
+impl Writer<'_> {
+    fn register(&mut self) -> usize {
+        self.random.below(8)
+    }
+
+    fn address(&mut self) -> usize {
+        if self.random.percent(85) {
+            let which = self.random.below(self.pool.len());
+            self.pool[which]
+        } else {
+            self.random.below(self.sizes.memory)
+        }
+    }
+
+    fn end(&mut self) -> [u16; 2] {
+        if self.task {
+            code(GO, 0, 0, self.random.below(self.sizes.tasks))
+        } else {
+            code(DONE, 0, 0, 0)
+        }
+    }
+
+    /// Any valid instruction for a body of this length.
+    fn wild(&mut self, count: usize) -> [u16; 2] {
+        let opcode = self.random.below(17) as u16;
+        let a = self.register();
+        let b = self.register();
+        match opcode {
+            SET => code(SET, a, 0, self.random.word() as usize),
+            MOV | ADD | SUB | AND | OR | XOR => code(opcode, a, b, 0),
+            SHR => code(SHR, a, 0, self.random.below(16)),
+            LOAD | SAVE => code(opcode, a, 0, self.address()),
+            LOADX | SAVEX => code(opcode, a, b, self.address()),
+            JUMP => code(JUMP, 0, 0, self.random.below(count)),
+            JZ => code(JZ, a, 0, self.random.below(count)),
+            JLT => code(JLT, a, b, self.random.below(count)),
+            _ => self.end(),
+        }
+    }
+
+    /// One to some instructions of a body that mostly ends.
+    fn snippet(&mut self) {
+        let a = self.register();
+        let b = self.register();
+        match self.random.below(24) {
+            0..=2 => {
+                let word = self.random.word() as usize;
+                self.code.push(code(SET, a, 0, word));
+            }
+            3..=5 => {
+                let opcode = self.random.pick(&[MOV, ADD, SUB, AND, OR, XOR]);
+                self.code.push(code(opcode, a, b, 0));
+            }
+            6 => {
+                let k = self.random.below(16);
+                self.code.push(code(SHR, a, 0, k));
+            }
+            7..=9 => {
+                let k = self.address();
+                self.code.push(code(LOAD, a, 0, k));
+            }
+            10..=14 => {
+                let k = self.address();
+                self.code.push(code(SAVE, a, 0, k));
+            }
+            // Inside the memory, by a register set just before.
+            15 | 16 => {
+                let opcode = self.random.pick(&[LOADX, SAVEX]);
+                let address = self.address();
+                let k = self.random.below(address + 1);
+                self.code.push(code(SET, b, 0, address - k));
+                self.code.push(code(opcode, a, b, k));
+            }
+            // Inside or outside.
+            17 => {
+                let opcode = self.random.pick(&[LOADX, SAVEX]);
+                let k = self.address();
+                match self.random.below(10) {
+                    0 | 1 => self.code.push(code(opcode, a, b, k)),
+                    // Outside, and inside again modulo 65536.
+                    2 => {
+                        let back = self.random.below(k + 1);
+                        self.code.push(code(SET, b, 0, 65535 - back));
+                        self.code.push(code(opcode, a, b, k));
+                    }
+                    // Just inside, or just outside.
+                    3 => {
+                        self.code.push(code(SET, b, 0, self.sizes.memory - k - self.random.below(2)));
+                        self.code.push(code(opcode, a, b, k));
+                    }
+                    _ => {}
+                }
+            }
+            18..=20 => {
+                let ahead = self.random.from(1, 5);
+                let words = match self.random.below(3) {
+                    0 => code(JUMP, 0, 0, 0),
+                    1 => code(JZ, a, 0, 0),
+                    _ => code(JLT, a, b, 0),
+                };
+                // A comparison of telling values.
+                if opcode_of(&words) == JLT && self.random.percent(30) {
+                    let (word, other) = (self.random.word(), self.random.word());
+                    self.code.push(code(SET, a, 0, word as usize));
+                    self.code.push(code(SET, b, 0, other as usize));
+                }
+                self.ahead.push((self.code.len(), ahead));
+                self.code.push(words);
+            }
+            // A loop that ends: register a counts down by register b.
+            21 | 22 => {
+                let b = if a == b { (b + 1) % 8 } else { b };
+                let rounds = self.random.from(1, 4);
+                self.code.push(code(SET, a, 0, rounds));
+                let start = self.code.len();
+                for _ in 0..self.random.below(3) {
+                    let other = (a + self.random.from(1, 7)) % 8;
+                    let k = self.address();
+                    let opcode = self.random.pick(&[LOAD, SAVE]);
+                    self.code.push(code(opcode, other, 0, k));
+                }
+                self.code.push(code(SET, b, 0, 1));
+                self.code.push(code(SUB, a, b, 0));
+                if self.random.percent(50) {
+                    let out = self.code.len() + 2;
+                    self.code.push(code(JZ, a, 0, out));
+                    self.code.push(code(JUMP, 0, 0, start));
+                } else {
+                    self.code.push(code(SET, b, 0, 0));
+                    self.code.push(code(JLT, b, a, start));
+                }
+            }
+            _ => {
+                if self.random.percent(20) {
+                    let words = self.end();
+                    self.code.push(words);
+                }
+            }
+        }
+    }
+}
+
+/// A body of at most, or exactly, `count` instructions.
+fn body(random: &mut Random, sizes: Sizes, task: bool) -> Vec<[u16; 2]> {
+    let count = if sizes.exact { sizes.body } else { random.from(1, sizes.body) };
+    let preferred = if random.percent(85) { sizes.log_pairs.min(sizes.memory) } else { sizes.memory };
+    let pool_size = random.from(1, preferred);
+    let pool = (0..pool_size).map(|_| random.below(sizes.memory)).collect();
+    let style = if sizes.fill && random.percent(70) { 1 } else { random.below(20) };
+    let mut writer = Writer { random, sizes, task, pool, code: Vec::new(), ahead: Vec::new() };
+    match style {
+        // Anything valid.
+        0 => {
+            for _ in 1..count {
+                let words = writer.wild(count);
+                writer.code.push(words);
+            }
+        }
+        // One that fills the log, or just doesn't.
+        1 => {
+            let start = writer.random.below(sizes.memory);
+            for offset in 0..count - 1 {
+                let a = writer.register();
+                let address = (start + offset) % sizes.memory;
+                // Behind the log's end, now and then one of its last pairs again.
+                let again = offset >= sizes.log_pairs && writer.random.percent(60);
+                let words = if again {
+                    let back = writer.random.below(sizes.log_pairs.min(3));
+                    let address = (start + sizes.log_pairs - 1 - back) % sizes.memory;
+                    let opcode = writer.random.pick(&[LOAD, SAVE]);
+                    code(opcode, a, 0, address)
+                } else {
+                    code(SAVE, a, 0, address)
+                };
+                writer.code.push(words);
+            }
+        }
+        _ => {
+            // Registers begin at 0: give some of them telling values.
+            if writer.random.percent(50) {
+                for _ in 0..writer.random.from(1, 3) {
+                    let (a, word) = (writer.register(), writer.random.word());
+                    writer.code.push(code(SET, a, 0, word as usize));
+                }
+            }
+            while writer.code.len() + 1 < count {
+                writer.snippet();
+            }
+        }
+    }
+    writer.code.truncate(count - 1);
+    let last = if writer.random.percent(96) { writer.end() } else { code(JUMP, 0, 0, writer.random.below(count)) };
+    writer.code.push(last);
+    let Writer { mut code, ahead, .. } = writer;
+    for (at, distance) in ahead {
+        if at + 1 < count {
+            code[at][1] = (at + distance) as u16;
+        }
+    }
+    for words in code.iter_mut() {
+        if is_jump(words) {
+            words[1] = words[1].min(count as u16 - 1);
+        }
+    }
+    code
+}
+
+/// A valid program for these sizes.
+pub fn program(random: &mut Random, sizes: Sizes) -> Vec<u16> {
+    let mut words = vec![PROGRAM_MARK, sizes.tasks as u16, sizes.events as u16, sizes.memory as u16];
+    words.push(random.below(sizes.tasks) as u16);
+    words.push(0);
+    let one = random.from(1, 255) as u16;
+    let other = random.pick(&[1, 2, 254, 255, one]);
+    let numbers: &[u16] = match random.below(5) {
+        0 => &[0],
+        1 => &[one],
+        2 => &[0, one],
+        _ => &[0, one, other],
+    };
+    let mut start = 6 + 3 * (sizes.tasks + sizes.events);
+    let mut bodies = Vec::new();
+    for number in 0..sizes.tasks + sizes.events {
+        let task = number < sizes.tasks;
+        let code = body(random, sizes, task);
+        words.push(start as u16);
+        words.push(code.len() as u16);
+        words.push(if task { random.pick(numbers) } else { 0 });
+        start += 2 * code.len();
+        bodies.push(code);
+    }
+    for code in bodies {
+        for instruction in code {
+            words.extend_from_slice(&instruction);
+        }
+    }
+    words[5] = words.len() as u16;
+    words
+}
+
+// ---------------------------------------------------------------------------------------------------------
+// Schedules
+
+/// What a schedule does often, in parts of the whole.
+#[derive(Clone, Copy)]
+struct Mood {
+    step: usize,
+    run: usize,
+    post: usize,
+    cut: usize,
+    /// The chance in percent of a cut where one is telling: in a commit, half a SAVE or a handler at work.
+    aimed_cut: usize,
+}
+
+const MOODS: [Mood; 6] = [
+    Mood { step: 60, run: 10, post: 20, cut: 2, aimed_cut: 4 },
+    Mood { step: 50, run: 4, post: 10, cut: 2, aimed_cut: 25 },
+    Mood { step: 60, run: 0, post: 40, cut: 0, aimed_cut: 0 },
+    Mood { step: 10, run: 60, post: 25, cut: 3, aimed_cut: 3 },
+    Mood { step: 90, run: 3, post: 3, cut: 1, aimed_cut: 1 },
+    Mood { step: 45, run: 5, post: 45, cut: 3, aimed_cut: 10 },
+];
+
+struct Schedule {
+    random: Random,
+    sizes: Sizes,
+    mood: Mood,
+    machine: Machine,
+    kept: Machine,
+    calls: Vec<Call>,
+    /// The latest call was refused with 23 or 24.
+    stuck: bool,
+}
+
+impl Schedule {
+    fn make(&mut self, call: Call) {
+        if let Some(outcome) = self.machine.call(&Reference, &call) {
+            self.stuck = matches!(outcome.refusal(), Some(refusal) if refusal.number == 23 || refusal.number == 24);
+        } else {
+            self.machine.change(&call, &mut self.kept);
+        }
+        self.calls.push(call);
+    }
+
+    fn budget(&mut self) -> u32 {
+        // The largest budgets only where the next step is refused.
+        if self.random.percent(10) {
+            if self.machine.step_is_refused(&Reference) {
+                return self.random.pick(&[u32::MAX, u32::MAX - 1, 1 << 31, 1 << 16]);
+            }
+        }
+        match self.random.below(10) {
+            0 => 0,
+            1 => 1,
+            2..=5 => self.random.from(2, 12) as u32,
+            6..=8 => self.random.from(5, 60) as u32,
+            _ => self.random.from(20, 300) as u32,
+        }
+    }
+
+    fn post(&mut self) -> Call {
+        let events = self.sizes.events;
+        let event = if events > 0 && self.random.percent(95) {
+            self.random.below(events) as u16
+        } else if self.random.percent(50) {
+            events as u16
+        } else {
+            self.random.word()
+        };
+        Call::Post { event, data: self.random.word() }
+    }
+
+    /// Whether a cut or damage is telling here: in a commit, half a SAVE, an ending or a handler at work.
+    fn telling(&self) -> bool {
+        let device = &self.machine.device;
+        let phase = self.machine.store.get(PHASE).copied().unwrap_or(0);
+        let half = matches!(device.place, Place::HalfSave { .. });
+        let ending = matches!(device.place, Place::Running { ending, .. } if ending > 0);
+        phase != 0 || half || ending || device.handler.is_some()
+    }
+
+    /// The next call of an undamaged list.
+    fn next(&mut self) -> Call {
+        if self.random.percent(2) {
+            self.mood = self.random.pick(&MOODS);
+        }
+        let device = self.machine.device;
+        if !device.on {
+            return match self.random.below(100) {
+                0..=3 => Call::Step,
+                4..=7 => self.post(),
+                8..=10 => Call::Cut,
+                11..=13 => Call::Run { budget: self.budget() },
+                14 => Call::Check,
+                _ => Call::Boot,
+            };
+        }
+        if self.telling() && self.random.percent(self.mood.aimed_cut) {
+            return Call::Cut;
+        }
+        if self.stuck && self.random.percent(15) {
+            return Call::Cut;
+        }
+        if self.random.percent(1) {
+            return self.random.pick(&[Call::Boot, Call::Boot, Call::Check]);
+        }
+        let Mood { step, run, post, cut, .. } = self.mood;
+        let mut which = self.random.below(step + run + post + cut);
+        if which < step {
+            return Call::Step;
+        }
+        which -= step;
+        if which < run {
+            return Call::Run { budget: self.budget() };
+        }
+        which -= run;
+        if which < post {
+            // A queue that is full, or a handler at work, is met often enough.
+            let word = |index: usize| self.machine.store.get(index).copied().unwrap_or(0) as usize;
+            let full = (word(TAIL) + 1) % (word(3) + 1) == word(HEAD);
+            if (full || device.handler.is_some()) && self.random.percent(70) {
+                return Call::Step;
+            }
+            return self.post();
+        }
+        Call::Cut
+    }
+
+    /// A call on a damaged machine: any of them.
+    fn next_damaged(&mut self) -> Call {
+        match self.random.below(100) {
+            0..=5 => Call::Check,
+            6..=9 => {
+                let Sizes { log_pairs, queue_records, .. } = self.sizes;
+                let mut log_pairs = log_pairs as u16;
+                let mut queue_records = queue_records as u16;
+                match self.random.below(6) {
+                    0 => log_pairs = self.random.pick(&[0, 65, 64, 0xFFFF, log_pairs + 1]),
+                    1 => queue_records = self.random.pick(&[0, 33, 32, 0xFFFF, queue_records + 1]),
+                    _ => {}
+                }
+                Call::Format { log_pairs, queue_records }
+            }
+            10..=21 => Call::Boot,
+            22..=33 => self.post(),
+            34..=39 => Call::Cut,
+            40..=49 => Call::Run { budget: self.budget() },
+            _ => Call::Step,
+        }
+    }
+
+    // -----------------------------------------------------------------------------------------------------
+    // Damage
+
+    /// A word near a limit or near what was there.
+    fn telling_word(&mut self, old: u16) -> u16 {
+        let Sizes { tasks, events, memory, log_pairs, queue_records, .. } = self.sizes;
+        let limit = self.random.pick(&[tasks, events, memory, log_pairs, queue_records, 3, 256, 16]) as u16;
+        match self.random.below(12) {
+            0 => old.wrapping_add(1),
+            1 => old.wrapping_sub(1),
+            2 => limit,
+            3 => limit.wrapping_add(1),
+            4 => limit.wrapping_sub(1),
+            5..=7 => self.random.below(5) as u16,
+            8 => old ^ (1 << self.random.below(16)),
+            9 => self.random.pick(&[0xFFFF, 0x8000, 0, 16, 17, 32, 33, 64, 65, 255, 256, 257, 1024, 1025]),
+            10 => self.random.below(limit as usize + 2) as u16,
+            _ => self.random.word(),
+        }
+    }
+
+    /// The body that runs, or would be chosen, as a row's number. Any number may come of a damaged machine.
+    fn body_at_hand(&self) -> usize {
+        let store = &self.machine.store;
+        let word = |index: usize| store.get(index).copied().unwrap_or(0) as usize;
+        match self.machine.device.place {
+            Place::Running { body, .. } | Place::HalfSave { body, .. } => match body {
+                Body::Task(task) => task as usize,
+                Body::Event(event) => self.sizes.tasks + event as usize,
+            },
+            _ => {
+                let slot = word(7) + 2 * word(HEAD);
+                if word(OPEN) == 0 && word(HEAD) != word(TAIL) {
+                    self.sizes.tasks + word(slot)
+                } else {
+                    word(TASK)
+                }
+            }
+        }
+    }
+
+    fn instruction_at_hand(&self) -> usize {
+        match self.machine.device.place {
+            Place::Running { instruction, .. } | Place::HalfSave { instruction, .. } => instruction as usize,
+            _ => 0,
+        }
+    }
+
+    fn damage_program(&mut self) {
+        let program = &self.machine.program;
+        let rows_end = 6 + 3 * (self.sizes.tasks + self.sizes.events);
+        let old_at = |index: usize| program.get(index).copied().unwrap_or(0);
+        let at_hand = self.body_at_hand();
+        let start = old_at(6 + 3 * at_hand) as usize;
+        let here = start + 2 * self.instruction_at_hand();
+        let choice = self.random.below(100);
+        let index = match choice {
+            0..=14 => self.random.below(6),
+            15..=24 => 6 + self.random.below(rows_end - 6),
+            25..=44 => 6 + 3 * at_hand + self.random.below(3),
+            // The row of the task that a GO at hand names.
+            45..=54 => 6 + 3 * self.machine.program.get(here + 1).copied().unwrap_or(0) as usize + self.random.below(3),
+            55..=84 => here + self.random.below(2),
+            _ => self.random.below(self.machine.program.len().max(1)),
+        };
+        let old = self.machine.program.get(index).copied().unwrap_or(0);
+        let mut word = self.telling_word(old);
+        // Words 1 to 3: just outside the limits.
+        if (1..=3).contains(&index) && self.random.percent(30) {
+            word = [33, 17, 1025][index - 1];
+        }
+        // Instruction words: another opcode or another field, more often than noise.
+        if index >= rows_end && (index - rows_end) % 2 == 0 {
+            word = match self.random.below(6) {
+                0 => (old & 0x00FF) | ((self.random.below(19) as u16) << 8),
+                1 => self.random.pick(&[JUMP, GO, DONE, SAVE, SAVEX, JZ]) << 8,
+                2 => old ^ (1 << self.random.below(8)),
+                3 => old ^ (8 << (4 * self.random.below(2))),
+                4 => self.random.pick(&[17u16, 18, 128, 255]) << 8,
+                _ => word,
+            };
+        }
+        self.make(Call::SetProgram { index, word });
+        // A row that is changed so as to stay right in a step's eyes.
+        if self.random.percent(3) {
+            let index = 6 + 3 * at_hand;
+            let word = rows_end + 2 * self.random.below(4) + self.random.below(2);
+            self.make(Call::SetProgram { index, word: word as u16 });
+        }
+    }
+
+    fn damage_program_length(&mut self) {
+        let length = self.machine.program.len();
+        let rows_end = 6 + 3 * (self.sizes.tasks + self.sizes.events);
+        let new = match self.random.below(6) {
+            0 => self.random.below(8),
+            1 => length + self.random.from(1, 3),
+            2 => length.saturating_sub(self.random.from(1, 3)),
+            3 => self.random.below(rows_end + 1),
+            4 => self.random.below(length + 1),
+            _ => self.random.pick(&[0, 5, 6, 65535, 65536, 65536 + length]),
+        };
+        self.make(Call::ProgramLength(new));
+        if self.random.percent(60) {
+            self.make(Call::SetProgram { index: 5, word: new as u16 });
+        }
+    }
+
+    fn damage_store(&mut self) {
+        let Sizes { memory, log_pairs, queue_records, .. } = self.sizes;
+        let log = 16 + memory;
+        let queue = log + 2 * log_pairs;
+        let word = |index: usize| self.machine.store.get(index).copied().unwrap_or(0) as usize;
+        let head = word(HEAD);
+        let count = word(COUNT).min(log_pairs).max(1);
+        let index = match self.random.below(100) {
+            0..=9 => self.random.below(8),
+            10..=59 => self.random.from(8, 15),
+            60..=64 => 16 + self.random.below(memory),
+            65..=71 => log + self.random.below(2 * log_pairs),
+            // An address that a commit copies.
+            72..=79 => log + 2 * self.random.below(count),
+            80..=89 => queue + self.random.below(2 * queue_records + 2),
+            _ => queue + 2 * head,
+        };
+        let old = self.machine.store.get(index).copied().unwrap_or(0);
+        let word = self.telling_word(old);
+        self.make(Call::SetStore { index, word });
+    }
+
+    /// Control words that may well be right, though no list of calls leads there.
+    fn strange_control(&mut self) {
+        let Sizes { tasks, memory, log_pairs, queue_records, events, .. } = self.sizes;
+        let phase = self.random.below(3);
+        let task = self.random.below(tasks);
+        let head = self.random.below(queue_records + 1);
+        let tail = self.random.below(queue_records + 1);
+        let after_head = (head + 1) % (queue_records + 1);
+        let open = if phase == 2 || self.random.percent(60) {
+            0
+        } else {
+            self.machine.program.get(8 + 3 * task).copied().unwrap_or(0)
+        };
+        let pending = match phase {
+            2 => self.random.pick(&[head, after_head]),
+            _ => self.random.below(tasks),
+        };
+        let pending_open = if self.random.percent(50) {
+            0
+        } else {
+            self.machine.program.get(8 + 3 * pending).copied().unwrap_or(0)
+        };
+        let count = self.random.below(log_pairs + 1);
+        let words = [phase, task, open as usize, count, pending, pending_open as usize, head, tail];
+        for (offset, word) in words.iter().enumerate() {
+            self.make(Call::SetStore { index: 8 + offset, word: *word as u16 });
+        }
+        if self.random.percent(60) {
+            for pair in 0..log_pairs.min(8) {
+                let word = self.random.below(memory) as u16;
+                self.make(Call::SetStore { index: 16 + memory + 2 * pair, word });
+            }
+        }
+        if events > 0 && self.random.percent(60) {
+            for slot in 0..(queue_records + 1).min(8) {
+                let word = self.random.below(events) as u16;
+                self.make(Call::SetStore { index: 16 + memory + 2 * log_pairs + 2 * slot, word });
+            }
+        }
+    }
+
+    /// A device that may well fit, though no list of calls leads there.
+    fn strange_device(&mut self) {
+        let Sizes { tasks, events, log_pairs, .. } = self.sizes;
+        let word = |machine: &Machine, index: usize| machine.store.get(index).copied().unwrap_or(0);
+        let mut device = Device::ON;
+        for register in device.registers.iter_mut() {
+            *register = if self.random.percent(40) { 0 } else { self.random.word() };
+        }
+        let at_hand = self.body_at_hand();
+        let body = match self.random.below(10) {
+            0 => Body::Task(self.random.below(tasks + 1) as u16),
+            1 => Body::Event(self.random.below(events + 1) as u16),
+            _ if at_hand < tasks => Body::Task(at_hand as u16),
+            _ => Body::Event((at_hand - tasks) as u16),
+        };
+        let row = match body {
+            Body::Task(task) => task as usize,
+            Body::Event(event) => tasks + event as usize,
+        };
+        let word_at = |machine: &Machine, index: usize| machine.program.get(index).copied().unwrap_or(0) as usize;
+        let start = word_at(&self.machine, 6 + 3 * row);
+        let count = word_at(&self.machine, 7 + 3 * row);
+        let mut instruction = self.random.below(count + 1 + count / 8);
+        let half = self.random.percent(30);
+        let ending = if self.random.percent(40) { self.random.below(5) as u16 } else { 0 };
+        // Look for an instruction that half a SAVE or an ending needs.
+        for offset in 0..count.min(256) {
+            let candidate = (instruction + offset) % count.max(1);
+            let opcode = (word_at(&self.machine, start + 2 * candidate) >> 8) as u16;
+            let fits = if half { opcode == SAVE || opcode == SAVEX } else { opcode == GO || opcode == DONE };
+            if fits && (half || ending > 0) && self.random.percent(80) {
+                instruction = candidate;
+                break;
+            }
+        }
+        let instruction = instruction as u16;
+        device.place = match self.random.below(4) {
+            0 => {
+                let phase = word(&self.machine, PHASE);
+                let count = word(&self.machine, COUNT).min(70) as usize;
+                let commit = if phase == 0 { self.random.below(2) } else { self.random.below(count + 4) };
+                Place::NoBody { commit: commit as u16 }
+            }
+            _ if half => Place::HalfSave { body, instruction },
+            _ => Place::Running { body, instruction, ending },
+        };
+        device.log_count = self.random.below(log_pairs + 1) as u16;
+        if self.random.percent(4) {
+            device.log_count = log_pairs as u16 + 1;
+        }
+        if self.random.percent(25) {
+            device.handler = Some(Handler {
+                next: self.random.pick(&[Next::Event, Next::Data, Next::Tail]),
+                event: self.random.below(events + 1) as u16,
+                data: self.random.word(),
+            });
+        }
+        if self.random.percent(5) {
+            device.on = false;
+        }
+        self.make(Call::SetDevice(device));
+    }
+
+    /// Several pairs of the log with the address of the instruction at hand, if it has one.
+    fn double_pairs(&mut self) {
+        let start = self.machine.program.get(6 + 3 * self.body_at_hand()).copied().unwrap_or(0) as usize;
+        let here = start + 2 * self.instruction_at_hand();
+        let word = self.machine.program.get(here + 1).copied().unwrap_or(0);
+        let Sizes { memory, log_pairs, .. } = self.sizes;
+        for pair in 0..log_pairs.min(6) {
+            if self.random.percent(60) {
+                self.make(Call::SetStore { index: 16 + memory + 2 * pair, word });
+                let word = self.random.word();
+                self.make(Call::SetStore { index: 17 + memory + 2 * pair, word });
+            }
+        }
+        let mut device = self.machine.device;
+        device.log_count = self.random.from(0, log_pairs) as u16;
+        self.make(Call::SetDevice(device));
+    }
+
+    /// One field of the device changed.
+    fn damage_device(&mut self) {
+        for _ in 0..8 {
+            let mut words = self.machine.device.to_words();
+            let index = match self.random.below(3) {
+                0 => self.random.below(DEVICE_WORDS),
+                _ => self.random.from(9, 17),
+            };
+            words[index] = match index {
+                0 => 1 - words[0].min(1),
+                9 => self.random.below(3) as u16,
+                10 => self.random.below(2) as u16,
+                15 => self.random.below(4) as u16,
+                _ => self.telling_word(words[index]),
+            };
+            if let Some(device) = Device::from_words(&words) {
+                if device != self.machine.device {
+                    self.make(Call::SetDevice(device));
+                    return;
+                }
+            }
+        }
+    }
+
+    fn damage_once(&mut self) {
+        match self.random.below(100) {
+            0..=29 => self.damage_program(),
+            30..=34 => self.damage_program_length(),
+            35..=63 => self.damage_store(),
+            64..=66 => {
+                let length = self.machine.store.len();
+                let new = match self.random.below(4) {
+                    0 => self.random.below(20),
+                    1 => length + self.random.from(1, 2),
+                    2 => length.saturating_sub(self.random.from(1, 2)),
+                    _ => self.random.below(length + 1),
+                };
+                self.make(Call::StoreLength(new));
+            }
+            67..=78 => self.damage_device(),
+            79 => {
+                if self.random.percent(60) {
+                    self.strange_device();
+                }
+                self.double_pairs();
+            }
+            80..=91 => self.strange_device(),
+            92..=97 => {
+                self.strange_control();
+                if self.random.percent(80) {
+                    self.strange_device();
+                }
+            }
+            _ => {
+                let mut total = || self.random.pick(&[0, 1, u32::MAX, u32::MAX - 1, u32::MAX - 3]);
+                let totals = Totals { committed: total(), accepted: total(), stores: total() };
+                self.make(Call::SetTotals(totals));
+            }
+        }
+    }
+}
+
+/// A scenario. Undamaged ones have calls only.
+pub fn scenario(seed: u64, damaged: bool) -> Scenario {
+    let mut random = Random::new(seed);
+    let sizes = sizes(&mut random);
+    let program = program(&mut random, sizes);
+    let totals = if random.percent(5) {
+        let mut total = || u32::MAX - random.below(12) as u32;
+        Totals { committed: total(), accepted: total(), stores: total() }
+    } else {
+        Totals::default()
+    };
+    let mut scenario = Scenario {
+        seed,
+        program,
+        log_pairs: sizes.log_pairs as u16,
+        queue_records: sizes.queue_records as u16,
+        totals,
+        calls: Vec::new(),
+    };
+    let mut machine = Machine::new(&scenario);
+    machine.call(
+        &Reference,
+        &Call::Format { log_pairs: scenario.log_pairs, queue_records: scenario.queue_records },
+    );
+    let mood = random.pick(&MOODS);
+    let kept = machine.clone();
+    let mut schedule = Schedule { random, sizes, mood, machine, kept, calls: Vec::new(), stuck: false };
+    // Large programs get short lists.
+    let large = scenario.program.len() > 2000;
+    let rounds = if damaged { schedule.random.from(1, 8) } else { 1 };
+    for _ in 0..rounds {
+        let most = if large { 60 } else if damaged { 40 } else { 400 };
+        for _ in 0..schedule.random.from(1, most) {
+            let call = schedule.next();
+            schedule.make(call);
+        }
+        if !damaged {
+            break;
+        }
+        // Let damage fall into a commit, half a SAVE or an ending as often as elsewhere.
+        if schedule.random.percent(50) {
+            schedule.make(Call::Boot);
+            for _ in 0..schedule.random.from(0, 40) {
+                if schedule.telling() && schedule.random.percent(20) {
+                    break;
+                }
+                schedule.make(Call::Step);
+            }
+        }
+        schedule.make(Call::Keep);
+        for _ in 0..schedule.random.from(1, if large { 4 } else { 12 }) {
+            let several = if schedule.random.percent(70) { 1 } else { schedule.random.from(2, 5) };
+            for _ in 0..several {
+                schedule.damage_once();
+            }
+            if schedule.random.percent(12) {
+                if schedule.random.percent(50) {
+                    schedule.make(Call::Cut);
+                }
+                schedule.make(Call::Boot);
+            }
+            for _ in 0..schedule.random.from(1, 7) {
+                let call = if schedule.random.percent(70) { Call::Step } else { schedule.next_damaged() };
+                schedule.make(call);
+            }
+            schedule.make(Call::Restore);
+        }
+    }
+    scenario.calls = schedule.calls;
+    scenario
+}

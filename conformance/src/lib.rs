@@ -1,0 +1,15 @@
+//! A second, independent implementation of the split-phase task runtime, the serial run that its histories
+//! are held against, a generator of programs and schedules, and a driver that compares two implementations
+//! call by call.
+
+pub mod compare;
+pub mod foreign;
+pub mod generate;
+pub mod many;
+pub mod mutants;
+pub mod reference;
+pub mod runtime;
+pub mod scenario;
+pub mod selfrun;
+pub mod serial;
+pub mod shorten;

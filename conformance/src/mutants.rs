@@ -1,0 +1,476 @@
+//! Implementations that are wrong on purpose: the reference with one mistake each. The tests hold that the
+//! driver, or the check of demand 3, notices; so they are known to be able to fail.
+
+use crate::reference::*;
+use crate::runtime::*;
+
+#[derive(Clone, Copy, PartialEq, Eq, Debug)]
+pub enum Mistake {
+    // The blackboard's.
+    HeadPlusOneOnRedo,
+    TailBeforeData,
+    PhaseBeforeTask,
+    CountFromLostState,
+    EventInOpenTransaction,
+    // Early, late, or in name only.
+    LogFullEarly,
+    QueueFullEarly,
+    TaskBeforeEvent,
+    RunCountsRefusedStep,
+    RunSpentEarly,
+    TotalsMissCommitStore,
+    TotalsWrap,
+    RefusedStepClears,
+    // Instructions.
+    ShiftTowardsZero,
+    UnsignedLess,
+    IndexWraps,
+    LoadPassesLog,
+    LastPairFound,
+    // Checks.
+    SecondHalfLooksAgain,
+    OpenNumberByStoredTask,
+    ChoosingReadsRow,
+    GoRowOnce,
+    OffBeforeUnlike,
+    BootRefusesUnlike,
+    SevenWithoutPlace,
+}
+
+pub const MISTAKES: [Mistake; 25] = [
+    Mistake::HeadPlusOneOnRedo,
+    Mistake::TailBeforeData,
+    Mistake::PhaseBeforeTask,
+    Mistake::CountFromLostState,
+    Mistake::EventInOpenTransaction,
+    Mistake::LogFullEarly,
+    Mistake::QueueFullEarly,
+    Mistake::TaskBeforeEvent,
+    Mistake::RunCountsRefusedStep,
+    Mistake::RunSpentEarly,
+    Mistake::TotalsMissCommitStore,
+    Mistake::TotalsWrap,
+    Mistake::RefusedStepClears,
+    Mistake::ShiftTowardsZero,
+    Mistake::UnsignedLess,
+    Mistake::IndexWraps,
+    Mistake::LoadPassesLog,
+    Mistake::LastPairFound,
+    Mistake::SecondHalfLooksAgain,
+    Mistake::OpenNumberByStoredTask,
+    Mistake::ChoosingReadsRow,
+    Mistake::GoRowOnce,
+    Mistake::OffBeforeUnlike,
+    Mistake::BootRefusesUnlike,
+    Mistake::SevenWithoutPlace,
+];
+
+/// The reference with a mistake.
+pub struct Mutant(pub Mistake);
+
+/// The reference, but for 7 it names the last broken rule. This is no mistake: the place is free.
+pub struct LastPlace;
+
+fn refused(number: u16) -> Answer {
+    Answer::Refused(Refusal { number, place: (0, 0) })
+}
+
+/// Whether program and store are wholly right.
+fn sound(program: &[u16], store: &mut [u16]) -> bool {
+    Reference.boot(program, store, &mut Device::OFF.clone()) == Answer::Done
+}
+
+/// The instruction that a running body stands at, in a sound program.
+fn instruction(program: &[u16], device: &Device) -> Option<(u16, usize, usize, u16)> {
+    let (body, index) = match device.place {
+        Place::Running { body, instruction, .. } => (body, instruction as usize),
+        Place::HalfSave { body, instruction } => (body, instruction as usize),
+        Place::NoBody { .. } => return None,
+    };
+    let row = match body {
+        Body::Task(task) => 6 + 3 * task as usize,
+        Body::Event(event) => 6 + 3 * (*program.get(1)? as usize + event as usize),
+    };
+    let at = *program.get(row)? as usize + 2 * index;
+    let (word, k) = (*program.get(at)?, *program.get(at + 1)?);
+    Some((word >> 8, (word >> 4 & 7) as usize, (word & 7) as usize, k))
+}
+
+fn after(store: &[u16], slot: u16) -> u16 {
+    if slot >= store[3] {
+        0
+    } else {
+        slot + 1
+    }
+}
+
+impl Mutant {
+    /// The mistaken step where the mistake applies; none where the reference's stands.
+    fn mistaken_step(
+        &self,
+        program: &[u16],
+        store: &mut [u16],
+        device: &mut Device,
+        totals: &mut Totals,
+    ) -> Option<Answer> {
+        let count_store = |totals: &mut Totals| totals.stores = totals.stores.saturating_add(1);
+        let resting = device.on && device.handler.is_none();
+        let old = *device;
+        match self.0 {
+            Mistake::HeadPlusOneOnRedo => {
+                let Place::NoBody { commit } = device.place else { return None };
+                if !resting || !sound(program, store) || store[PHASE] != 2 || commit != store[COUNT] {
+                    return None;
+                }
+                store[HEAD] = after(store, store[HEAD]);
+                device.place = Place::NoBody { commit: commit + 1 };
+                count_store(totals);
+                Some(Answer::Stored)
+            }
+            Mistake::TailBeforeData => {
+                let handler = device.handler?;
+                if !device.on || !sound(program, store) {
+                    return None;
+                }
+                match handler.next {
+                    Next::Event => None,
+                    Next::Data => {
+                        store[TAIL] = after(store, store[TAIL]);
+                        device.handler = Some(Handler { next: Next::Tail, ..handler });
+                        count_store(totals);
+                        totals.accepted = totals.accepted.saturating_add(1);
+                        Some(Answer::Accepted)
+                    }
+                    Next::Tail => {
+                        let slot = if store[TAIL] == 0 { store[3] } else { store[TAIL] - 1 };
+                        store[store[7] as usize + 2 * slot as usize + 1] = handler.data;
+                        device.handler = None;
+                        count_store(totals);
+                        Some(Answer::Stored)
+                    }
+                }
+            }
+            Mistake::PhaseBeforeTask => {
+                let Place::NoBody { commit } = device.place else { return None };
+                if !resting || !sound(program, store) {
+                    return None;
+                }
+                let n = store[COUNT];
+                if store[PHASE] == 1 && commit == n {
+                    store[PHASE] = 0;
+                } else if store[PHASE] == 0 && commit == n + 1 {
+                    store[TASK] = store[PENDING];
+                } else if store[PHASE] == 0 && commit == n + 2 {
+                    store[OPEN] = store[PENDING_OPEN];
+                } else {
+                    return None;
+                }
+                count_store(totals);
+                device.place = Place::NoBody { commit: commit + 1 };
+                if commit == n + 2 {
+                    *device = Device::ON;
+                }
+                Some(Answer::Stored)
+            }
+            Mistake::CountFromLostState => {
+                if resting && sound(program, store) && store[PHASE] != 0 {
+                    if let Place::NoBody { commit } = device.place {
+                        if commit >= device.log_count && commit < store[COUNT] {
+                            device.place = Place::NoBody { commit: store[COUNT] };
+                        }
+                    }
+                }
+                let answer = Reference.step(program, store, device, totals);
+                if let Answer::Committed(_) = answer {
+                    device.log_count = old.log_count;
+                }
+                Some(answer)
+            }
+            Mistake::EventInOpenTransaction => {
+                if !sound(program, store) || !device.on {
+                    return None;
+                }
+                let open = store[OPEN];
+                store[OPEN] = 0;
+                let answer = Reference.step(program, store, device, totals);
+                if store[PHASE] == 0 && store[OPEN] == 0 {
+                    store[OPEN] = open;
+                }
+                Some(answer)
+            }
+            Mistake::TaskBeforeEvent => {
+                if !resting || !sound(program, store) || device.place != (Place::NoBody { commit: 0 }) {
+                    return None;
+                }
+                if store[PHASE] != 0 {
+                    return None;
+                }
+                let tail = store[TAIL];
+                store[TAIL] = store[HEAD];
+                let answer = Reference.step(program, store, device, totals);
+                store[TAIL] = tail;
+                Some(answer)
+            }
+            Mistake::LogFullEarly => {
+                if !resting || !sound(program, store) || device.log_count + 1 != store[2] {
+                    return None;
+                }
+                let mut copy = store.to_vec();
+                let (mut next, mut sums) = (*device, *totals);
+                Reference.step(program, &mut copy, &mut next, &mut sums);
+                let halved = matches!(next.place, Place::HalfSave { .. }) && next != *device;
+                halved.then(|| refused(24))
+            }
+            Mistake::ChoosingReadsRow => {
+                let idle = device.place == Place::NoBody { commit: 0 };
+                let words = broken_words(program, store);
+                (resting && idle && words.contains(&(OPEN as u16)) && Reference.check(program) == Answer::Done)
+                    .then(|| Answer::Refused(Refusal { number: 7, place: (OPEN as u16, 0) }))
+            }
+            Mistake::SecondHalfLooksAgain => {
+                let Place::HalfSave { .. } = device.place else { return None };
+                if !resting || !sound(program, store) {
+                    return None;
+                }
+                let (opcode, _, b, k) = instruction(program, device)?;
+                let address = k as usize + device.registers[b] as usize;
+                let mut copy = store.to_vec();
+                let fine = Reference.step(program, &mut copy, &mut old.clone(), &mut totals.clone());
+                (opcode == SAVEX && fine == Answer::Stored && address >= program[3] as usize).then(|| refused(23))
+            }
+            Mistake::OpenNumberByStoredTask => {
+                let Place::Running { ending: 2, .. } = device.place else { return None };
+                let answer = Reference.step(program, store, device, totals);
+                if let (Answer::Stored, Some((GO, ..)), Place::Running { body: Body::Task(task), .. }) =
+                    (answer, instruction(program, &old), old.place)
+                {
+                    if resting && store[PENDING] < program[1] {
+                        let own = program[8 + 3 * task as usize];
+                        let next = program[8 + 3 * store[PENDING] as usize];
+                        store[PENDING_OPEN] = if own == next { own } else { 0 };
+                    }
+                }
+                Some(answer)
+            }
+            Mistake::GoRowOnce => {
+                let Place::Running { body, instruction: index, ending: 1 } = device.place else { return None };
+                let (opcode, _, _, k) = instruction(program, device)?;
+                let answer = Reference.step(program, &mut store.to_vec(), &mut old.clone(), &mut totals.clone());
+                let other = Answer::Refused(Refusal { number: 4, place: (k, 0) });
+                if opcode != GO || answer != other || body == Body::Task(k) || k == 0 || !resting {
+                    return None;
+                }
+                store[PENDING] = k;
+                device.place = Place::Running { body, instruction: index, ending: 2 };
+                count_store(totals);
+                Some(Answer::Stored)
+            }
+            Mistake::OffBeforeUnlike => {
+                let answer = Reference.step(program, store, device, totals);
+                Some(if !device.on && answer == refused(25) { refused(22) } else { answer })
+            }
+            Mistake::TotalsMissCommitStore => {
+                let stores = totals.stores;
+                let answer = Reference.step(program, store, device, totals);
+                if let Answer::Committed(_) = answer {
+                    totals.stores = stores;
+                }
+                Some(answer)
+            }
+            Mistake::TotalsWrap => {
+                let before = *totals;
+                let answer = Reference.step(program, store, device, totals);
+                if before.stores == u32::MAX && !matches!(answer, Answer::Refused(_) | Answer::Worked | Answer::Chosen(_)) {
+                    totals.stores = 0;
+                }
+                Some(answer)
+            }
+            Mistake::RefusedStepClears => {
+                let answer = Reference.step(program, store, device, totals);
+                if let Answer::Refused(_) = answer {
+                    device.registers = [0; 8];
+                }
+                Some(answer)
+            }
+            Mistake::SevenWithoutPlace => {
+                let answer = Reference.step(program, store, device, totals);
+                Some(match answer {
+                    Answer::Refused(Refusal { number: 7, .. }) => refused(7),
+                    _ => answer,
+                })
+            }
+            Mistake::ShiftTowardsZero
+            | Mistake::UnsignedLess
+            | Mistake::IndexWraps
+            | Mistake::LoadPassesLog
+            | Mistake::LastPairFound => {
+                let answer = Reference.step(program, store, device, totals);
+                let Some((opcode, a, b, k)) = instruction(program, &old) else { return Some(answer) };
+                let Place::Running { body, instruction: index, .. } = old.place else { return Some(answer) };
+                let (ra, rb) = (old.registers[a], old.registers[b]);
+                let next = Place::Running { body, instruction: index.wrapping_add(1), ending: 0 };
+                if answer == Answer::Worked && self.0 == Mistake::ShiftTowardsZero && opcode == SHR {
+                    device.registers[a] = (ra as i16 as i32 / (1 << k)) as u16;
+                }
+                if answer == Answer::Worked && self.0 == Mistake::UnsignedLess && opcode == JLT {
+                    device.place =
+                        if ra < rb { Place::Running { body, instruction: k, ending: 0 } } else { next };
+                }
+                let wrapped = k.wrapping_add(rb);
+                if answer == refused(23) && self.0 == Mistake::IndexWraps && wrapped < program[3] {
+                    if opcode == LOADX {
+                        device.registers[a] = store[16 + wrapped as usize];
+                        device.place = next;
+                        return Some(Answer::Worked);
+                    }
+                }
+                if answer == Answer::Worked && (opcode == LOAD || opcode == LOADX) {
+                    let address = if opcode == LOAD { k } else { wrapped };
+                    if self.0 == Mistake::LoadPassesLog {
+                        device.registers[a] = store[16 + address as usize];
+                    }
+                    if self.0 == Mistake::LastPairFound {
+                        for pair in 0..old.log_count as usize {
+                            let at = store[6] as usize + 2 * pair;
+                            if store[at] == address {
+                                device.registers[a] = store[at + 1];
+                            }
+                        }
+                    }
+                }
+                Some(answer)
+            }
+            _ => None,
+        }
+    }
+}
+
+impl Runtime for Mutant {
+    fn check(&self, program: &[u16]) -> Answer {
+        Reference.check(program)
+    }
+
+    fn format(&self, program: &[u16], log_pairs: u16, queue_records: u16, store: &mut [u16]) -> Answer {
+        Reference.format(program, log_pairs, queue_records, store)
+    }
+
+    fn boot(&self, program: &[u16], store: &mut [u16], device: &mut Device) -> Answer {
+        let old = *device;
+        let answer = Reference.boot(program, store, device);
+        if self.0 == Mistake::BootRefusesUnlike && answer == Answer::Done && old != Device::OFF {
+            *device = old;
+            return refused(25);
+        }
+        answer
+    }
+
+    fn step(&self, program: &[u16], store: &mut [u16], device: &mut Device, totals: &mut Totals) -> Answer {
+        match self.mistaken_step(program, store, device, totals) {
+            Some(answer) => answer,
+            None => Reference.step(program, store, device, totals),
+        }
+    }
+
+    fn post(&self, program: &[u16], store: &mut [u16], device: &mut Device, event: u16, data: u16) -> Answer {
+        let old = *device;
+        let answer = Reference.post(program, store, device, event, data);
+        if self.0 == Mistake::QueueFullEarly && answer == Answer::Done {
+            let after_two = after(store, after(store, store[TAIL]));
+            if after_two == store[HEAD] {
+                *device = old;
+                return refused(21);
+            }
+        }
+        answer
+    }
+
+    fn cut(&self, device: &mut Device) -> Answer {
+        Reference.cut(device)
+    }
+
+    fn run(
+        &self,
+        program: &[u16],
+        store: &mut [u16],
+        device: &mut Device,
+        totals: &mut Totals,
+        budget: u32,
+    ) -> RunAnswer {
+        let mut steps = 0;
+        while steps < budget {
+            if self.0 == Mistake::RunSpentEarly && steps == 100 {
+                break;
+            }
+            if let Answer::Refused(refusal) = self.step(program, store, device, totals) {
+                if self.0 == Mistake::RunCountsRefusedStep {
+                    steps += 1;
+                }
+                return RunAnswer { steps, end: End::Refused(refusal) };
+            }
+            steps += 1;
+        }
+        RunAnswer { steps, end: End::Spent }
+    }
+}
+
+impl LastPlace {
+    fn last(program: &[u16], store: &[u16], refusal: Refusal) -> Refusal {
+        match broken_words(program, store).last() {
+            Some(word) if refusal.number == 7 => Refusal { number: 7, place: (*word, 0) },
+            _ => refusal,
+        }
+    }
+
+    fn answer(program: &[u16], store: &[u16], answer: Answer) -> Answer {
+        match answer {
+            Answer::Refused(refusal) => Answer::Refused(LastPlace::last(program, store, refusal)),
+            _ => answer,
+        }
+    }
+}
+
+impl Runtime for LastPlace {
+    fn check(&self, program: &[u16]) -> Answer {
+        Reference.check(program)
+    }
+
+    fn format(&self, program: &[u16], log_pairs: u16, queue_records: u16, store: &mut [u16]) -> Answer {
+        Reference.format(program, log_pairs, queue_records, store)
+    }
+
+    fn boot(&self, program: &[u16], store: &mut [u16], device: &mut Device) -> Answer {
+        let answer = Reference.boot(program, store, device);
+        LastPlace::answer(program, store, answer)
+    }
+
+    fn step(&self, program: &[u16], store: &mut [u16], device: &mut Device, totals: &mut Totals) -> Answer {
+        let answer = Reference.step(program, store, device, totals);
+        LastPlace::answer(program, store, answer)
+    }
+
+    fn post(&self, program: &[u16], store: &mut [u16], device: &mut Device, event: u16, data: u16) -> Answer {
+        let answer = Reference.post(program, store, device, event, data);
+        LastPlace::answer(program, store, answer)
+    }
+
+    fn cut(&self, device: &mut Device) -> Answer {
+        Reference.cut(device)
+    }
+
+    fn run(
+        &self,
+        program: &[u16],
+        store: &mut [u16],
+        device: &mut Device,
+        totals: &mut Totals,
+        budget: u32,
+    ) -> RunAnswer {
+        let answer = Reference.run(program, store, device, totals, budget);
+        match answer.end {
+            End::Refused(refusal) => {
+                RunAnswer { end: End::Refused(LastPlace::last(program, store, refusal)), ..answer }
+            }
+            End::Spent => answer,
+        }
+    }
+}

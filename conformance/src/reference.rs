@@ -1,0 +1,951 @@
+//! The reference: the paper's runtime with plain loops and tables. A step is first decided without touching
+//! anything (`decide`: the answer, at most one store, the next device state), then carried out; so a refused
+//! call changes nothing by construction. The functions are in the order of the paper.
+
+use crate::runtime::*;
+
+/// A store to be made: index and word.
+type Store = (usize, u16);
+
+fn refusal(number: u16) -> Refusal {
+    Refusal { number, place: (0, 0) }
+}
+
+fn refusal_at(number: u16, first: usize, second: usize) -> Refusal {
+    Refusal { number, place: (first as u16, second as u16) }
+}
+
+// ---------------------------------------------------------------------------------------------------------
+// Program words
+
+pub const PROGRAM_MARK: u16 = 0xC0B1;
+
+/// What a field k must be below.
+#[derive(Clone, Copy, PartialEq)]
+enum K {
+    Unused,
+    Any,
+    Shift,
+    Memory,
+    Instruction,
+    Task,
+}
+
+/// In which bodies an opcode may stand.
+#[derive(Clone, Copy, PartialEq)]
+enum In {
+    Both,
+    Tasks,
+    Events,
+}
+
+/// The rule of one opcode: which fields it uses, where it stands, and whether a body may end with it.
+struct OpcodeRule {
+    a: bool,
+    b: bool,
+    k: K,
+    stands: In,
+    last: bool,
+}
+
+const fn rule(a: bool, b: bool, k: K) -> OpcodeRule {
+    OpcodeRule { a, b, k, stands: In::Both, last: false }
+}
+
+pub const SET: u16 = 0;
+pub const MOV: u16 = 1;
+pub const ADD: u16 = 2;
+pub const SUB: u16 = 3;
+pub const AND: u16 = 4;
+pub const OR: u16 = 5;
+pub const XOR: u16 = 6;
+pub const SHR: u16 = 7;
+pub const LOAD: u16 = 8;
+pub const SAVE: u16 = 9;
+pub const LOADX: u16 = 10;
+pub const SAVEX: u16 = 11;
+pub const JUMP: u16 = 12;
+pub const JZ: u16 = 13;
+pub const JLT: u16 = 14;
+pub const GO: u16 = 15;
+pub const DONE: u16 = 16;
+
+const OPCODE_RULES: [OpcodeRule; 17] = [
+    rule(true, false, K::Any),         // SET
+    rule(true, true, K::Unused),       // MOV
+    rule(true, true, K::Unused),       // ADD
+    rule(true, true, K::Unused),       // SUB
+    rule(true, true, K::Unused),       // AND
+    rule(true, true, K::Unused),       // OR
+    rule(true, true, K::Unused),       // XOR
+    rule(true, false, K::Shift),       // SHR
+    rule(true, false, K::Memory),      // LOAD
+    rule(true, false, K::Memory),      // SAVE
+    rule(true, true, K::Memory),       // LOADX
+    rule(true, true, K::Memory),       // SAVEX
+    OpcodeRule { last: true, ..rule(false, false, K::Instruction) }, // JUMP
+    rule(true, false, K::Instruction), // JZ
+    rule(true, true, K::Instruction),  // JLT
+    OpcodeRule { last: true, stands: In::Tasks, ..rule(false, false, K::Task) }, // GO
+    OpcodeRule { last: true, stands: In::Events, ..rule(false, false, K::Unused) }, // DONE
+];
+
+const POWERS_OF_TWO: [i32; 16] =
+    [1, 2, 4, 8, 16, 32, 64, 128, 256, 512, 1024, 2048, 4096, 8192, 16384, 32768];
+
+/// The program's table of contents, words 1 to 5, after refusals 1 to 3.
+struct Head {
+    tasks: usize,
+    events: usize,
+    memory: usize,
+    entry: u16,
+    total: usize,
+}
+
+impl Head {
+    fn bodies(&self) -> usize {
+        self.tasks + self.events
+    }
+
+    /// The first word behind the rows.
+    fn rows_end(&self) -> usize {
+        6 + 3 * self.bodies()
+    }
+
+    /// The body's number in rows and places: T + e for event e.
+    fn body_number(&self, body: Body) -> usize {
+        match body {
+            Body::Task(task) => task as usize,
+            Body::Event(event) => self.tasks + event as usize,
+        }
+    }
+}
+
+/// A body's row.
+struct Row {
+    start: usize,
+    count: usize,
+    transaction: u16,
+}
+
+/// An instruction taken apart.
+struct Instruction {
+    opcode: u16,
+    a: usize,
+    b: usize,
+    k: u16,
+}
+
+/// Refusals 1, 2 and 3, from words 0 to 5.
+fn head(program: &[u16]) -> Result<Head, Refusal> {
+    if program.len() < 6 || program.len() != program[5] as usize {
+        return Err(refusal(1));
+    }
+    if program[0] != PROGRAM_MARK {
+        return Err(refusal(2));
+    }
+    let limits: [(u16, u16); 3] = [(1, 32), (0, 16), (1, 1024)];
+    for (i, (least, most)) in limits.iter().enumerate() {
+        let word = program[1 + i];
+        if word < *least || word > *most {
+            return Err(refusal_at(3, 1 + i, 0));
+        }
+    }
+    if program[4] >= program[1] {
+        return Err(refusal_at(3, 4, 0));
+    }
+    Ok(Head {
+        tasks: program[1] as usize,
+        events: program[2] as usize,
+        memory: program[3] as usize,
+        entry: program[4],
+        total: program[5] as usize,
+    })
+}
+
+fn row(program: &[u16], body: usize) -> Row {
+    let at = 6 + 3 * body;
+    Row {
+        start: program[at] as usize,
+        count: program[at + 1] as usize,
+        transaction: program[at + 2],
+    }
+}
+
+/// A row's limits: count 1 to 256, transaction number at most 255, 0 for an event.
+fn within_limits(head: &Head, body: usize, row: &Row) -> bool {
+    let most = if body < head.tasks { 255 } else { 0 };
+    row.count >= 1 && row.count <= 256 && row.transaction <= most
+}
+
+/// Refusal 4 as the check has it: all rows, and the end of the bodies.
+fn check_rows(program: &[u16], head: &Head) -> Result<(), Refusal> {
+    if head.rows_end() > head.total {
+        return Err(refusal(4));
+    }
+    let mut start = head.rows_end();
+    for body in 0..head.bodies() {
+        let row = row(program, body);
+        if row.start != start || !within_limits(head, body, &row) {
+            return Err(refusal_at(4, body, 0));
+        }
+        start += 2 * row.count;
+    }
+    if start != head.total {
+        return Err(refusal_at(4, head.bodies(), 0));
+    }
+    Ok(())
+}
+
+/// Refusal 4 as a step has it: one body's row.
+fn use_row(program: &[u16], head: &Head, body: usize) -> Result<Row, Refusal> {
+    if head.rows_end() > head.total {
+        return Err(refusal(4));
+    }
+    let row = row(program, body);
+    let behind_rows = row.start >= head.rows_end();
+    let inside_total = row.start + 2 * row.count <= head.total;
+    if !within_limits(head, body, &row) || !behind_rows || !inside_total {
+        return Err(refusal_at(4, body, 0));
+    }
+    Ok(row)
+}
+
+fn instruction_words(program: &[u16], row: &Row, index: usize) -> (u16, u16) {
+    (program[row.start + 2 * index], program[row.start + 2 * index + 1])
+}
+
+/// Refusal 5: one instruction of a body whose row is right.
+fn use_instruction(
+    program: &[u16],
+    head: &Head,
+    body: usize,
+    row: &Row,
+    index: usize,
+) -> Result<Instruction, Refusal> {
+    let broken = Err(refusal_at(5, body, index));
+    let (word, k) = instruction_words(program, row, index);
+    let opcode = word >> 8;
+    let a = (word >> 4) & 15;
+    let b = word & 15;
+    if opcode as usize >= OPCODE_RULES.len() {
+        return broken;
+    }
+    let rule = &OPCODE_RULES[opcode as usize];
+    for (field, used) in [(a, rule.a), (b, rule.b)] {
+        let most = if used { 7 } else { 0 };
+        if field > most {
+            return broken;
+        }
+    }
+    // A k must be below this.
+    let bound = match rule.k {
+        K::Unused => 1,
+        K::Any => 65536,
+        K::Shift => POWERS_OF_TWO.len(),
+        K::Memory => head.memory,
+        K::Instruction => row.count,
+        K::Task => head.tasks,
+    };
+    if k as usize >= bound {
+        return broken;
+    }
+    let stands = match rule.stands {
+        In::Both => true,
+        In::Tasks => body < head.tasks,
+        In::Events => body >= head.tasks,
+    };
+    if !stands {
+        return broken;
+    }
+    if index + 1 == row.count && !rule.last {
+        return broken;
+    }
+    Ok(Instruction { opcode, a: a as usize, b: b as usize, k })
+}
+
+/// The program check: refusals 1 to 5.
+fn check_program(program: &[u16]) -> Result<Head, Refusal> {
+    let head = head(program)?;
+    check_rows(program, &head)?;
+    for body in 0..head.bodies() {
+        let row = row(program, body);
+        for index in 0..row.count {
+            use_instruction(program, &head, body, &row, index)?;
+        }
+    }
+    Ok(head)
+}
+
+// ---------------------------------------------------------------------------------------------------------
+// Store words
+
+pub const STORE_MARK: u16 = 0xC0A1;
+
+pub const PHASE: usize = 8;
+pub const TASK: usize = 9;
+pub const OPEN: usize = 10;
+pub const COUNT: usize = 11;
+pub const PENDING: usize = 12;
+pub const PENDING_OPEN: usize = 13;
+pub const HEAD: usize = 14;
+pub const TAIL: usize = 15;
+
+const CONTROL: usize = 8;
+const MEMORY: usize = 16;
+
+/// The store's contents, after refusal 6.
+struct Parts {
+    log_pairs: usize,
+    queue_records: usize,
+    log: usize,
+    queue: usize,
+}
+
+impl Parts {
+    /// Where the address of a log pair stands; its value follows.
+    fn pair(&self, number: usize) -> usize {
+        self.log + 2 * number
+    }
+
+    /// Where the event of a slot stands; its data follows.
+    fn slot(&self, number: usize) -> usize {
+        self.queue + 2 * number
+    }
+
+    /// The slot after this one in the ring of Q + 1.
+    fn after(&self, slot: usize) -> usize {
+        if slot == self.queue_records {
+            0
+        } else {
+            slot + 1
+        }
+    }
+}
+
+fn store_length(memory: usize, log_pairs: usize, queue_records: usize) -> usize {
+    18 + memory + 2 * log_pairs + 2 * queue_records
+}
+
+fn log_and_queue_within_limits(log_pairs: u16, queue_records: u16) -> bool {
+    log_pairs >= 1 && log_pairs <= 64 && queue_records >= 1 && queue_records <= 32
+}
+
+/// The eight contents words of a store.
+fn contents_words(memory: usize, log_pairs: usize, queue_records: usize) -> [u16; 8] {
+    let log = MEMORY + memory;
+    let queue = log + 2 * log_pairs;
+    [
+        STORE_MARK,
+        memory as u16,
+        log_pairs as u16,
+        queue_records as u16,
+        CONTROL as u16,
+        MEMORY as u16,
+        log as u16,
+        queue as u16,
+    ]
+}
+
+/// Refusal 6.
+fn contents(head: &Head, store: &[u16]) -> Result<Parts, Refusal> {
+    if store.len() < 8 || !log_and_queue_within_limits(store[2], store[3]) {
+        return Err(refusal(6));
+    }
+    let log_pairs = store[2] as usize;
+    let queue_records = store[3] as usize;
+    if store[0..8] != contents_words(head.memory, log_pairs, queue_records) {
+        return Err(refusal(6));
+    }
+    if store.len() != store_length(head.memory, log_pairs, queue_records) {
+        return Err(refusal(6));
+    }
+    let log = MEMORY + head.memory;
+    Ok(Parts { log_pairs, queue_records, log, queue: log + 2 * log_pairs })
+}
+
+/// The words of the broken rules of 7 that need no row, log pair or record, in the order of the paper.
+fn broken_in_control(head: &Head, parts: &Parts, store: &[u16]) -> Vec<u16> {
+    let word = |index: usize| store[index] as usize;
+    let mut broken = Vec::new();
+    let mut require = |holds: bool, place: usize| {
+        if !holds {
+            broken.push(place as u16);
+        }
+    };
+    let phase = word(PHASE);
+    require(phase <= 2, PHASE);
+    require(word(TASK) < head.tasks, TASK);
+    if phase == 2 {
+        require(word(OPEN) == 0, OPEN);
+    }
+    require(word(HEAD) <= parts.queue_records, HEAD);
+    require(word(TAIL) <= parts.queue_records, TAIL);
+    if phase == 1 || phase == 2 {
+        require(word(COUNT) <= parts.log_pairs, COUNT);
+    }
+    if phase == 1 {
+        require(word(PENDING) < head.tasks, PENDING);
+    }
+    if phase == 2 && word(HEAD) <= parts.queue_records && word(TAIL) <= parts.queue_records {
+        let stays = word(PENDING) == word(HEAD);
+        let moves = word(PENDING) == parts.after(word(HEAD)) && word(HEAD) != word(TAIL);
+        require(stays || moves, PENDING);
+    }
+    broken
+}
+
+/// The words of all broken rules of 7, in the order of the paper. A rule that needs a broken word, or a row
+/// that isn't in the program, is passed over.
+fn broken_in_store(program: &[u16], head: &Head, parts: &Parts, store: &[u16]) -> Vec<u16> {
+    let mut broken = broken_in_control(head, parts, store);
+    let mut sound = [true; 16];
+    for place in &broken {
+        sound[*place as usize] = false;
+    }
+    if !sound[PHASE] {
+        return broken;
+    }
+    let phase = store[PHASE];
+    let transaction = |task: u16| program.get(6 + 3 * task as usize + 2).copied();
+    if phase == 0 && sound[TASK] && store[OPEN] != 0 {
+        if let Some(number) = transaction(store[TASK]) {
+            if store[OPEN] != number {
+                broken.push(OPEN as u16);
+            }
+        }
+    }
+    if phase == 1 && sound[PENDING] && store[PENDING_OPEN] != 0 {
+        if let Some(number) = transaction(store[PENDING]) {
+            if store[PENDING_OPEN] != number {
+                broken.push(PENDING_OPEN as u16);
+            }
+        }
+    }
+    if phase != 0 && sound[COUNT] {
+        for pair in 0..store[COUNT] as usize {
+            let at = parts.pair(pair);
+            if store[at] as usize >= head.memory {
+                broken.push(at as u16);
+            }
+        }
+    }
+    // In phase 2 the records start at word 12, whose rule needs 14 and 15.
+    if sound[HEAD] && sound[TAIL] && !(phase == 2 && !sound[PENDING]) {
+        let mut slot = store[if phase == 2 { PENDING } else { HEAD }] as usize;
+        while slot != store[TAIL] as usize {
+            let at = parts.slot(slot);
+            if store[at] as usize >= head.events {
+                broken.push(at as u16);
+            }
+            slot = parts.after(slot);
+        }
+    }
+    broken
+}
+
+/// The set of the words of all broken rules of 7, for a program and a store. It is empty where refusals 1, 2,
+/// 3 or 6 come first. The place of any refusal 7 must be in it.
+pub fn broken_words(program: &[u16], store: &[u16]) -> Vec<u16> {
+    let Ok(head) = head(program) else { return Vec::new() };
+    let Ok(parts) = contents(&head, store) else { return Vec::new() };
+    broken_in_store(program, &head, &parts, store)
+}
+
+fn refuse_broken(broken: &[u16]) -> Result<(), Refusal> {
+    match broken.first() {
+        Some(place) => Err(refusal_at(7, *place as usize, 0)),
+        None => Ok(()),
+    }
+}
+
+// ---------------------------------------------------------------------------------------------------------
+// Step
+
+/// What a step or a post has looked at before it does anything.
+struct Look {
+    head: Head,
+    parts: Parts,
+}
+
+impl Look {
+    /// Empty: head equals tail. Full: the slot after tail is head.
+    fn queue_empty(&self, store: &[u16]) -> bool {
+        store[HEAD] == store[TAIL]
+    }
+
+    fn queue_full(&self, store: &[u16]) -> bool {
+        self.parts.after(store[TAIL] as usize) == store[HEAD] as usize
+    }
+}
+
+/// The parts of 25 that need no row, instruction, log pair or record.
+fn state_unlike(look: &Look, store: &[u16], device: &Device) -> bool {
+    if !device.on {
+        return *device != Device::OFF;
+    }
+    if device.log_count as usize > look.parts.log_pairs {
+        return true;
+    }
+    if let Some(handler) = device.handler {
+        if look.queue_full(store) || handler.event as usize >= look.head.events {
+            return true;
+        }
+    }
+    let phase = store[PHASE];
+    let n = store[COUNT] as u32;
+    let body = match device.place {
+        Place::NoBody { commit } => {
+            let last = match phase {
+                0 => 0,
+                1 => n + 2,
+                _ => n + 1,
+            };
+            return commit as u32 > last;
+        }
+        Place::Running { body, .. } => body,
+        Place::HalfSave { body, .. } => body,
+    };
+    if phase != 0 {
+        return true;
+    }
+    // A running body is word 9's task, or an event while no transaction is open and a record is there.
+    let last = match body {
+        Body::Task(task) => {
+            if task as usize >= look.head.tasks || task != store[TASK] {
+                return true;
+            }
+            3
+        }
+        Body::Event(event) => {
+            if event as usize >= look.head.events || store[OPEN] != 0 || look.queue_empty(store) {
+                return true;
+            }
+            2
+        }
+    };
+    match device.place {
+        Place::Running { ending, .. } => ending > last,
+        _ => device.log_count as usize == look.parts.log_pairs,
+    }
+}
+
+/// What step and post look at first: 1, 2, 3, 6, 7, 25, 22.
+fn look(program: &[u16], store: &[u16], device: &Device) -> Result<Look, Refusal> {
+    let head = head(program)?;
+    let parts = contents(&head, store)?;
+    refuse_broken(&broken_in_control(&head, &parts, store))?;
+    let look = Look { head, parts };
+    if state_unlike(&look, store, device) {
+        return Err(refusal(25));
+    }
+    if !device.on {
+        return Err(refusal(22));
+    }
+    Ok(look)
+}
+
+/// What a step does: its answer, its store if it makes one, and the device state after it.
+struct Effect {
+    answer: Answer,
+    store: Option<Store>,
+    device: Device,
+}
+
+/// A step, decided.
+fn decide(program: &[u16], store: &[u16], device: &Device) -> Result<Effect, Refusal> {
+    let look = look(program, store, device)?;
+    if let Some(handler) = device.handler {
+        return Ok(handler_store(&look, store, device, handler));
+    }
+    match device.place {
+        Place::NoBody { commit } => {
+            if store[PHASE] != 0 {
+                commit_store(&look, store, device, commit as usize)
+            } else {
+                choose(&look, store, device)
+            }
+        }
+        Place::Running { body, instruction, ending } => {
+            step_body(&look, program, store, device, body, instruction as usize, ending, false)
+        }
+        Place::HalfSave { body, instruction } => {
+            step_body(&look, program, store, device, body, instruction as usize, 0, true)
+        }
+    }
+}
+
+/// A handler at work makes its next store: event, data, then tail.
+fn handler_store(look: &Look, store: &[u16], device: &Device, handler: Handler) -> Effect {
+    let tail = store[TAIL] as usize;
+    let slot = look.parts.slot(tail);
+    let (answer, made, next) = match handler.next {
+        Next::Event => (Answer::Stored, (slot, handler.event), Some(Next::Data)),
+        Next::Data => (Answer::Stored, (slot + 1, handler.data), Some(Next::Tail)),
+        Next::Tail => (Answer::Accepted, (TAIL, look.parts.after(tail) as u16), None),
+    };
+    let handler = next.map(|next| Handler { next, ..handler });
+    Effect { answer, store: Some(made), device: Device { handler, ..*device } }
+}
+
+/// A commit makes its next store after the commit store: n copies; 9 from 12 and 10 from 13, or 14 from 12;
+/// then 8 becomes 0.
+fn commit_store(look: &Look, store: &[u16], device: &Device, commit: usize) -> Result<Effect, Refusal> {
+    let n = store[COUNT] as usize;
+    let made = if commit < n {
+        let pair = look.parts.pair(commit);
+        let address = store[pair] as usize;
+        if address >= look.head.memory {
+            return Err(refusal_at(7, pair, 0));
+        }
+        (MEMORY + address, store[pair + 1])
+    } else {
+        let closing: &[Store] = if store[PHASE] == 1 {
+            &[(TASK, store[PENDING]), (OPEN, store[PENDING_OPEN]), (PHASE, 0)]
+        } else {
+            &[(HEAD, store[PENDING]), (PHASE, 0)]
+        };
+        closing[commit - n]
+    };
+    let device = if made.0 == PHASE {
+        Device::ON
+    } else {
+        Device { place: Place::NoBody { commit: commit as u16 + 1 }, ..*device }
+    };
+    Ok(Effect { answer: Answer::Stored, store: Some(made), device })
+}
+
+/// With no body running, one is chosen.
+fn choose(look: &Look, store: &[u16], device: &Device) -> Result<Effect, Refusal> {
+    let mut registers = [0; 8];
+    let body = if store[OPEN] == 0 && !look.queue_empty(store) {
+        let slot = look.parts.slot(store[HEAD] as usize);
+        if store[slot] as usize >= look.head.events {
+            return Err(refusal_at(7, slot, 0));
+        }
+        registers[0] = store[slot + 1];
+        Body::Event(store[slot])
+    } else {
+        Body::Task(store[TASK])
+    };
+    let place = Place::Running { body, instruction: 0, ending: 0 };
+    let device = Device { registers, place, log_count: 0, ..*device };
+    Ok(Effect { answer: Answer::Chosen(body), store: None, device })
+}
+
+/// A step of a running body: an instruction, the second half of a SAVE, or an ending store.
+fn step_body(
+    look: &Look,
+    program: &[u16],
+    store: &[u16],
+    device: &Device,
+    body: Body,
+    index: usize,
+    ending: u16,
+    half: bool,
+) -> Result<Effect, Refusal> {
+    let head = &look.head;
+    let number = head.body_number(body);
+
+    // 7: an event's record at head.
+    let mut unlike = false;
+    if let Body::Event(event) = body {
+        let slot = look.parts.slot(store[HEAD] as usize);
+        if store[slot] as usize >= head.events {
+            return Err(refusal_at(7, slot, 0));
+        }
+        unlike = store[slot] != event;
+    }
+    // 4: the body's row. 5: the instruction, if it is in range.
+    let row = use_row(program, head, number)?;
+    let mut instruction = None;
+    if index < row.count {
+        instruction = Some(use_instruction(program, head, number, &row, index)?);
+    }
+    // 4: at GO, task k's row; with it the new open number.
+    let mut new_open = 0;
+    if let Some(Instruction { opcode: GO, k, .. }) = instruction {
+        let next_row = use_row(program, head, k as usize)?;
+        if row.transaction == next_row.transaction {
+            new_open = row.transaction;
+        }
+    }
+    // The rest of 7: a running task is word 9's, so its row is at hand; for an event, word 10 is 0.
+    if let Body::Task(_) = body {
+        if store[OPEN] != 0 && store[OPEN] != row.transaction {
+            return Err(refusal_at(7, OPEN, 0));
+        }
+    }
+    // The rest of 25.
+    let Some(instruction) = instruction else { return Err(refusal(25)) };
+    let opcode = instruction.opcode;
+    if half && opcode != SAVE && opcode != SAVEX {
+        unlike = true;
+    }
+    if ending > 0 && opcode != GO && opcode != DONE {
+        unlike = true;
+    }
+    if unlike {
+        return Err(refusal(25));
+    }
+
+    if half {
+        return Ok(second_half(look, device, body, index, &instruction));
+    }
+    if opcode == GO {
+        let n = device.log_count;
+        let stores = [(COUNT, n), (PENDING, instruction.k), (PENDING_OPEN, new_open), (PHASE, 1)];
+        return Ok(ending_store(device, body, index, ending, &stores));
+    }
+    if opcode == DONE {
+        let n = device.log_count;
+        let head_after = look.parts.after(store[HEAD] as usize) as u16;
+        let stores = [(COUNT, n), (PENDING, head_after), (PHASE, 2)];
+        return Ok(ending_store(device, body, index, ending, &stores));
+    }
+    execute(look, store, device, body, index, &instruction)
+}
+
+/// The second half of a SAVE stores the value, without looking again at address or log.
+fn second_half(look: &Look, device: &Device, body: Body, index: usize, instruction: &Instruction) -> Effect {
+    let pair = look.parts.pair(device.log_count as usize);
+    let place = Place::Running { body, instruction: index as u16 + 1, ending: 0 };
+    Effect {
+        answer: Answer::Stored,
+        store: Some((pair + 1, device.registers[instruction.a])),
+        device: Device { place, log_count: device.log_count + 1, ..*device },
+    }
+}
+
+/// One of the stores that end a body; the last is the commit store.
+fn ending_store(device: &Device, body: Body, index: usize, ending: u16, stores: &[Store]) -> Effect {
+    let made = stores[ending as usize];
+    if made.0 == PHASE {
+        return Effect { answer: Answer::Committed(body), store: Some(made), device: Device::ON };
+    }
+    let place = Place::Running { body, instruction: index as u16, ending: ending + 1 };
+    Effect { answer: Answer::Stored, store: Some(made), device: Device { place, ..*device } }
+}
+
+/// The log's pair for an address, among the first `log_count`: the first found, or none.
+fn search(look: &Look, store: &[u16], log_count: u16, address: usize) -> Option<usize> {
+    for number in 0..log_count as usize {
+        let pair = look.parts.pair(number);
+        if store[pair] as usize == address {
+            return Some(pair);
+        }
+    }
+    None
+}
+
+fn signed(word: u16) -> i32 {
+    if word >= 0x8000 {
+        word as i32 - 65536
+    } else {
+        word as i32
+    }
+}
+
+/// One instruction, neither GO nor DONE.
+fn execute(
+    look: &Look,
+    store: &[u16],
+    device: &Device,
+    body: Body,
+    index: usize,
+    instruction: &Instruction,
+) -> Result<Effect, Refusal> {
+    let Instruction { opcode, a, b, k } = *instruction;
+    let ra = device.registers[a];
+    let rb = device.registers[b];
+    let mut registers = device.registers;
+    let mut next = index + 1;
+
+    // The address of the four that have one, 23 included.
+    let address = match opcode {
+        LOADX | SAVEX => k as usize + rb as usize,
+        _ => k as usize,
+    };
+    let has_address = matches!(opcode, LOAD | SAVE | LOADX | SAVEX);
+    if has_address && address >= look.head.memory {
+        return Err(refusal(23));
+    }
+    let found = if has_address { search(look, store, device.log_count, address) } else { None };
+
+    match opcode {
+        SET => registers[a] = k,
+        MOV => registers[a] = rb,
+        ADD => registers[a] = ((ra as u32 + rb as u32) % 65536) as u16,
+        SUB => registers[a] = ((65536 + ra as u32 - rb as u32) % 65536) as u16,
+        AND => registers[a] = ra & rb,
+        OR => registers[a] = ra | rb,
+        XOR => registers[a] = ra ^ rb,
+        SHR => {
+            // The power is positive, so the Euclidean quotient is the one rounded down.
+            let quotient = signed(ra).div_euclid(POWERS_OF_TWO[k as usize]);
+            registers[a] = (quotient & 0xFFFF) as u16;
+        }
+        LOAD | LOADX => {
+            registers[a] = match found {
+                Some(pair) => store[pair + 1],
+                None => store[MEMORY + address],
+            }
+        }
+        SAVE | SAVEX => {
+            let (made, place) = match found {
+                Some(pair) => ((pair + 1, ra), Place::Running { body, instruction: next as u16, ending: 0 }),
+                None => {
+                    if device.log_count as usize == look.parts.log_pairs {
+                        return Err(refusal(24));
+                    }
+                    let pair = look.parts.pair(device.log_count as usize);
+                    ((pair, address as u16), Place::HalfSave { body, instruction: index as u16 })
+                }
+            };
+            return Ok(Effect { answer: Answer::Stored, store: Some(made), device: Device { place, ..*device } });
+        }
+        JUMP => next = k as usize,
+        JZ => {
+            if ra == 0 {
+                next = k as usize
+            }
+        }
+        JLT => {
+            if signed(ra) < signed(rb) {
+                next = k as usize
+            }
+        }
+        _ => {}
+    }
+    let place = Place::Running { body, instruction: next as u16, ending: 0 };
+    Ok(Effect { answer: Answer::Worked, store: None, device: Device { registers, place, ..*device } })
+}
+
+// ---------------------------------------------------------------------------------------------------------
+// The calls
+
+/// The reference implementation.
+pub struct Reference;
+
+/// Done, or the refusal.
+fn done_or<T>(result: Result<T, Refusal>) -> Answer {
+    match result {
+        Ok(_) => Answer::Done,
+        Err(refusal) => Answer::Refused(refusal),
+    }
+}
+
+fn add_one(total: &mut u32) {
+    if *total < u32::MAX {
+        *total += 1;
+    }
+}
+
+fn format(program: &[u16], log_pairs: u16, queue_records: u16, store: &mut [u16]) -> Result<(), Refusal> {
+    let head = check_program(program)?;
+    if !log_and_queue_within_limits(log_pairs, queue_records) {
+        return Err(refusal(9));
+    }
+    let (log_pairs, queue_records) = (log_pairs as usize, queue_records as usize);
+    if store.len() != store_length(head.memory, log_pairs, queue_records) {
+        return Err(refusal(6));
+    }
+    store.fill(0);
+    store[0..8].copy_from_slice(&contents_words(head.memory, log_pairs, queue_records));
+    store[TASK] = head.entry;
+    Ok(())
+}
+
+fn boot(program: &[u16], store: &[u16], device: &mut Device) -> Result<(), Refusal> {
+    let head = check_program(program)?;
+    let parts = contents(&head, store)?;
+    refuse_broken(&broken_in_store(program, &head, &parts, store))?;
+    if device.on {
+        return Err(refusal(26));
+    }
+    *device = Device::ON;
+    Ok(())
+}
+
+fn post(program: &[u16], store: &[u16], device: &mut Device, event: u16, data: u16) -> Result<(), Refusal> {
+    let look = look(program, store, device)?;
+    if event as usize >= look.head.events {
+        return Err(refusal(8));
+    }
+    if device.handler.is_some() {
+        return Err(refusal(20));
+    }
+    if look.queue_full(store) {
+        return Err(refusal(21));
+    }
+    device.handler = Some(Handler { next: Next::Event, event, data });
+    Ok(())
+}
+
+fn step(
+    program: &[u16],
+    store: &mut [u16],
+    device: &mut Device,
+    totals: &mut Totals,
+) -> Result<Answer, Refusal> {
+    let effect = decide(program, store, device)?;
+    if let Some((index, word)) = effect.store {
+        store[index] = word;
+        add_one(&mut totals.stores);
+    }
+    match effect.answer {
+        Answer::Committed(_) => add_one(&mut totals.committed),
+        Answer::Accepted => add_one(&mut totals.accepted),
+        _ => {}
+    }
+    *device = effect.device;
+    Ok(effect.answer)
+}
+
+impl Runtime for Reference {
+    fn check(&self, program: &[u16]) -> Answer {
+        done_or(check_program(program))
+    }
+
+    fn format(&self, program: &[u16], log_pairs: u16, queue_records: u16, store: &mut [u16]) -> Answer {
+        done_or(format(program, log_pairs, queue_records, store))
+    }
+
+    fn boot(&self, program: &[u16], store: &mut [u16], device: &mut Device) -> Answer {
+        done_or(boot(program, store, device))
+    }
+
+    fn step(&self, program: &[u16], store: &mut [u16], device: &mut Device, totals: &mut Totals) -> Answer {
+        match step(program, store, device, totals) {
+            Ok(answer) => answer,
+            Err(refusal) => Answer::Refused(refusal),
+        }
+    }
+
+    fn post(&self, program: &[u16], store: &mut [u16], device: &mut Device, event: u16, data: u16) -> Answer {
+        done_or(post(program, store, device, event, data))
+    }
+
+    fn cut(&self, device: &mut Device) -> Answer {
+        *device = Device::OFF;
+        Answer::Done
+    }
+
+    fn run(
+        &self,
+        program: &[u16],
+        store: &mut [u16],
+        device: &mut Device,
+        totals: &mut Totals,
+        budget: u32,
+    ) -> RunAnswer {
+        let mut steps = 0;
+        while steps < budget {
+            if let Err(refusal) = step(program, store, device, totals) {
+                return RunAnswer { steps, end: End::Refused(refusal) };
+            }
+            steps += 1;
+        }
+        RunAnswer { steps, end: End::Spent }
+    }
+}

@@ -1,0 +1,207 @@
+//! The boundary at which implementations are compared: the values that go in and out of the calls, and
+//! the trait `Runtime` that every implementation stands behind. Nothing here decides anything.
+//!
+//! A word is a `u16`. A program and a store are slices of words. The device state is a plain value, also
+//! available as 18 words (`Device::to_words`), which is the form for functions of another language.
+
+/// A body: a task or an event, each with its own number counted from 0.
+#[derive(Clone, Copy, PartialEq, Eq, Debug)]
+pub enum Body {
+    Task(u16),
+    Event(u16),
+}
+
+/// A refusal: its number and a place of two words.
+#[derive(Clone, Copy, PartialEq, Eq, Debug)]
+pub struct Refusal {
+    pub number: u16,
+    pub place: (u16, u16),
+}
+
+/// What a call answers. The check of a program answers done where the paper says that it is accepted.
+#[derive(Clone, Copy, PartialEq, Eq, Debug)]
+pub enum Answer {
+    Done,
+    Chosen(Body),
+    Worked,
+    Stored,
+    Committed(Body),
+    Accepted,
+    Refused(Refusal),
+}
+
+/// How a run ended.
+#[derive(Clone, Copy, PartialEq, Eq, Debug)]
+pub enum End {
+    Spent,
+    Refused(Refusal),
+}
+
+/// What a run answers: the steps made (a refused one isn't counted) and its end.
+#[derive(Clone, Copy, PartialEq, Eq, Debug)]
+pub struct RunAnswer {
+    pub steps: u32,
+    pub end: End,
+}
+
+/// Where the device stands.
+#[derive(Clone, Copy, PartialEq, Eq, Debug)]
+pub enum Place {
+    /// No body. In phases 1 and 2, `commit` is the number of stores made since copying began.
+    NoBody { commit: u16 },
+    /// A running body, its instruction, and how many of its ending stores are made.
+    Running { body: Body, instruction: u16, ending: u16 },
+    /// A running body with half a SAVE made: the address stands in the log, the value doesn't.
+    HalfSave { body: Body, instruction: u16 },
+}
+
+/// The handler's next store.
+#[derive(Clone, Copy, PartialEq, Eq, Debug)]
+pub enum Next {
+    Event,
+    Data,
+    Tail,
+}
+
+/// A handler at work.
+#[derive(Clone, Copy, PartialEq, Eq, Debug)]
+pub struct Handler {
+    pub next: Next,
+    pub event: u16,
+    pub data: u16,
+}
+
+/// The device state, which a cut loses. No handler means a handler at rest.
+#[derive(Clone, Copy, PartialEq, Eq, Debug)]
+pub struct Device {
+    pub on: bool,
+    pub registers: [u16; 8],
+    pub place: Place,
+    pub log_count: u16,
+    pub handler: Option<Handler>,
+}
+
+/// The number of words in the flat form of a device state.
+pub const DEVICE_WORDS: usize = 18;
+
+impl Device {
+    /// Off: one fixed value.
+    pub const OFF: Device = Device {
+        on: false,
+        registers: [0; 8],
+        place: Place::NoBody { commit: 0 },
+        log_count: 0,
+        handler: None,
+    };
+
+    /// The fixed value turned on.
+    pub const ON: Device = Device { on: true, ..Device::OFF };
+
+    /// The flat form. Words: 0 on; 1 to 8 registers; 9 place (0 no body, 1 running, 2 half a SAVE);
+    /// 10 kind of body (0 task, 1 event); 11 its number; 12 its instruction; 13 commit place, or ending
+    /// stores made; 14 log count; 15 handler (0 at rest, else its next store: 1 event, 2 data, 3 tail);
+    /// 16 its event; 17 its data. What a case doesn't have is 0.
+    pub fn to_words(&self) -> [u16; DEVICE_WORDS] {
+        let mut words = [0; DEVICE_WORDS];
+        words[0] = self.on as u16;
+        words[1..9].copy_from_slice(&self.registers);
+        let mut put_body = |body: Body| match body {
+            Body::Task(number) => words[11] = number,
+            Body::Event(number) => {
+                words[10] = 1;
+                words[11] = number;
+            }
+        };
+        match self.place {
+            Place::NoBody { commit } => words[13] = commit,
+            Place::Running { body, instruction, ending } => {
+                put_body(body);
+                words[9] = 1;
+                words[12] = instruction;
+                words[13] = ending;
+            }
+            Place::HalfSave { body, instruction } => {
+                put_body(body);
+                words[9] = 2;
+                words[12] = instruction;
+            }
+        }
+        words[14] = self.log_count;
+        if let Some(handler) = self.handler {
+            words[15] = match handler.next {
+                Next::Event => 1,
+                Next::Data => 2,
+                Next::Tail => 3,
+            };
+            words[16] = handler.event;
+            words[17] = handler.data;
+        }
+        words
+    }
+
+    /// The device of a flat form, or none if the words are no device's flat form.
+    pub fn from_words(words: &[u16; DEVICE_WORDS]) -> Option<Device> {
+        let body = match words[10] {
+            0 => Body::Task(words[11]),
+            _ => Body::Event(words[11]),
+        };
+        let place = match words[9] {
+            0 => Place::NoBody { commit: words[13] },
+            1 => Place::Running { body, instruction: words[12], ending: words[13] },
+            _ => Place::HalfSave { body, instruction: words[12] },
+        };
+        let next = match words[15] {
+            0 => None,
+            1 => Some(Next::Event),
+            2 => Some(Next::Data),
+            _ => Some(Next::Tail),
+        };
+        let mut registers = [0; 8];
+        registers.copy_from_slice(&words[1..9]);
+        let device = Device {
+            on: words[0] != 0,
+            registers,
+            place,
+            log_count: words[14],
+            handler: next.map(|next| Handler { next, event: words[16], data: words[17] }),
+        };
+        if device.to_words() == *words {
+            Some(device)
+        } else {
+            None
+        }
+    }
+}
+
+/// The host's totals. Each stays at its largest value.
+#[derive(Clone, Copy, PartialEq, Eq, Debug, Default)]
+pub struct Totals {
+    pub committed: u32,
+    pub accepted: u32,
+    pub stores: u32,
+}
+
+/// An implementation. Boot and post get the store as a slice to be written, although they make no store,
+/// so that a store made by mistake shows in the comparison.
+pub trait Runtime {
+    fn check(&self, program: &[u16]) -> Answer;
+
+    fn format(&self, program: &[u16], log_pairs: u16, queue_records: u16, store: &mut [u16]) -> Answer;
+
+    fn boot(&self, program: &[u16], store: &mut [u16], device: &mut Device) -> Answer;
+
+    fn step(&self, program: &[u16], store: &mut [u16], device: &mut Device, totals: &mut Totals) -> Answer;
+
+    fn post(&self, program: &[u16], store: &mut [u16], device: &mut Device, event: u16, data: u16) -> Answer;
+
+    fn cut(&self, device: &mut Device) -> Answer;
+
+    fn run(
+        &self,
+        program: &[u16],
+        store: &mut [u16],
+        device: &mut Device,
+        totals: &mut Totals,
+        budget: u32,
+    ) -> RunAnswer;
+}

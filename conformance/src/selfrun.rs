@@ -1,0 +1,161 @@
+//! One implementation over an undamaged list: demand 3 after every call, at most one store for each step, the
+//! totals, run against single steps, and only the refusals that such a list may meet.
+
+use crate::compare::{word_difference, Counts, Difference};
+use crate::reference::PHASE;
+use crate::runtime::*;
+use crate::scenario::{Call, Machine, Outcome, Scenario};
+use crate::serial::{demand_3, Serial};
+
+/// Whether an undamaged list may meet this refusal.
+fn expected_refusal(call: &Call, number: u16) -> bool {
+    match call {
+        Call::Boot => number == 26,
+        Call::Step => matches!(number, 22..=24),
+        Call::Post { .. } => matches!(number, 8 | 20 | 21 | 22),
+        _ => false,
+    }
+}
+
+struct Watch<'a> {
+    runtime: &'a dyn Runtime,
+    machine: Machine,
+    serial: Serial,
+    before: Vec<u16>,
+    copy: Vec<u16>,
+    recovering: bool,
+    /// A refusal 23 or 24 that every step repeats until a cut, save for handler steps.
+    stuck: Option<Refusal>,
+}
+
+impl Watch<'_> {
+    /// Perform one call that isn't a run, and hold it against everything.
+    fn call(&mut self, call: &Call, counts: &mut Counts) -> Result<Answer, String> {
+        self.before.clear();
+        self.before.extend_from_slice(&self.machine.store);
+        let device = self.machine.device;
+        let totals = self.machine.totals;
+        let phase = self.machine.store[PHASE];
+        let Some(Outcome::Answer(answer)) = self.machine.call(self.runtime, call) else {
+            return Err("not a single call".into());
+        };
+        counts.add(call, &device, phase, self.recovering, &Outcome::Answer(answer));
+
+        let changed = self.before.iter().zip(&self.machine.store).filter(|(x, y)| x != y).count();
+        let stores = match answer {
+            Answer::Stored | Answer::Committed(_) | Answer::Accepted => 1,
+            _ => 0,
+        };
+        if changed > stores {
+            return Err(format!("{answer:?}: {}", word_difference(&self.before, &self.machine.store)));
+        }
+        let mut expected = totals;
+        expected.stores = expected.stores.saturating_add(stores as u32);
+        if let Answer::Committed(_) = answer {
+            expected.committed = expected.committed.saturating_add(1);
+            counts.committed += 1;
+        }
+        if answer == Answer::Accepted {
+            expected.accepted = expected.accepted.saturating_add(1);
+            counts.accepted += 1;
+        }
+        if self.machine.totals != expected {
+            return Err(format!("{answer:?}: totals {:?}, {expected:?} expected", self.machine.totals));
+        }
+        if let Answer::Refused(refusal) = answer {
+            if !expected_refusal(call, refusal.number) {
+                return Err(format!("{refusal:?} on an undamaged list"));
+            }
+            if self.machine.device != device {
+                return Err(format!("{refusal:?} changed the device"));
+            }
+        }
+        if let (Call::Step, None, Some(refusal)) = (call, device.handler, self.stuck) {
+            if answer != Answer::Refused(refusal) {
+                return Err(format!("{answer:?} after {refusal:?} without a cut"));
+            }
+        }
+        match (call, answer) {
+            (Call::Step, Answer::Refused(refusal)) if refusal.number >= 23 => self.stuck = Some(refusal),
+            (Call::Cut, _) => self.stuck = None,
+            _ => {}
+        }
+        match (call, answer) {
+            (Call::Boot, Answer::Done) => self.recovering = phase != 0,
+            (Call::Cut, _) => self.recovering = false,
+            _ if self.machine.store[PHASE] == 0 => self.recovering = false,
+            _ => {}
+        }
+
+        let Machine { program, store, device, .. } = &self.machine;
+        self.serial.read(program, call, &answer)?;
+        demand_3(self.runtime, program, store, device, &self.serial, &mut self.copy)
+            .map_err(|text| format!("{answer:?}: {text}"))?;
+        Ok(answer)
+    }
+
+    /// A run: on a copy whole, then by single steps, which must come to the same.
+    fn run(&mut self, budget: u32, counts: &mut Counts) -> Result<(), String> {
+        let mut whole = self.machine.clone();
+        let call = Call::Run { budget };
+        let Some(Outcome::Run(answer)) = whole.call(self.runtime, &call) else {
+            return Err("not a run".into());
+        };
+        counts.add(&call, &self.machine.device, self.machine.store[PHASE], false, &Outcome::Run(answer));
+        let mut inner = Counts::default();
+        let mut steps = 0;
+        let mut end = End::Spent;
+        while steps < budget {
+            if let Answer::Refused(refusal) = self.call(&Call::Step, &mut inner)? {
+                end = End::Refused(refusal);
+                break;
+            }
+            steps += 1;
+        }
+        counts.committed += inner.committed;
+        counts.accepted += inner.accepted;
+        if answer != (RunAnswer { steps, end }) {
+            return Err(format!("{answer:?}; by single steps {steps}, {end:?}"));
+        }
+        if whole != self.machine {
+            return Err(format!("{answer:?}; run and single steps leave different states"));
+        }
+        Ok(())
+    }
+}
+
+/// Drive one implementation over an undamaged scenario.
+pub fn drive(runtime: &dyn Runtime, scenario: &Scenario, counts: &mut Counts) -> Result<(), Difference> {
+    counts.scenarios += 1;
+    let start = |text: String| Difference { index: None, text };
+    let mut machine = Machine::new(scenario);
+    let format = Call::Format { log_pairs: scenario.log_pairs, queue_records: scenario.queue_records };
+    for call in [Call::Check, format] {
+        let outcome = machine.call(runtime, &call).expect("a call of the runtime");
+        counts.add(&call, &machine.device, 0, false, &outcome);
+        if outcome != Outcome::Answer(Answer::Done) {
+            return Err(start(format!("{call:?} answers {outcome:?}")));
+        }
+    }
+    let serial = Serial::new(&machine.program);
+    let mut watch = Watch {
+        runtime,
+        machine,
+        serial,
+        before: Vec::new(),
+        copy: Vec::new(),
+        recovering: false,
+        stuck: None,
+    };
+    let Machine { program, store, device, .. } = &watch.machine;
+    demand_3(runtime, program, store, device, &watch.serial, &mut watch.copy).map_err(start)?;
+    for (index, call) in scenario.calls.iter().enumerate() {
+        let result = match watch.machine.affordable(runtime, call) {
+            Call::Run { budget } => watch.run(budget, counts),
+            _ if call.kind().is_some() => watch.call(call, counts).map(|_| ()),
+            _ => Err("a change in an undamaged list".into()),
+        };
+        result.map_err(|text| Difference { index: Some(index), text })?;
+    }
+    Ok(())
+}

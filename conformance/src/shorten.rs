@@ -1,0 +1,79 @@
+//! Shortening a list of calls that fails: remove parts of it, halves first and single calls last, as long as
+//! what is left still fails; then smaller budgets, and one run in the place of several steps.
+
+use crate::scenario::{Call, Scenario};
+
+/// The shortened scenario. `fails` tells whether a scenario still fails.
+pub fn shorten(scenario: &Scenario, fails: &dyn Fn(&Scenario) -> bool) -> Scenario {
+    let mut best = scenario.clone();
+    let mut part = best.calls.len().max(1);
+    loop {
+        let mut removed = false;
+        let mut start = 0;
+        while start < best.calls.len() {
+            let end = (start + part).min(best.calls.len());
+            let mut candidate = best.clone();
+            candidate.calls.drain(start..end);
+            if fails(&candidate) {
+                best = candidate;
+                removed = true;
+            } else {
+                start = end;
+            }
+        }
+        if part == 1 && !removed {
+            break;
+        }
+        part = (part / 2).max(1);
+    }
+    smaller_budgets(&mut best, fails);
+    gather_steps(&mut best, fails);
+    best
+}
+
+/// Steps and runs one after another as one run.
+fn gather_steps(best: &mut Scenario, fails: &dyn Fn(&Scenario) -> bool) {
+    let steps = |call: &Call| match call {
+        Call::Step => Some(1),
+        Call::Run { budget } => Some(*budget),
+        _ => None,
+    };
+    let mut at = 0;
+    while at + 1 < best.calls.len() {
+        let mut gathered = false;
+        if let (Some(one), Some(other)) = (steps(&best.calls[at]), steps(&best.calls[at + 1])) {
+            let mut candidate = best.clone();
+            candidate.calls.splice(at..at + 2, [Call::Run { budget: one.saturating_add(other) }]);
+            if fails(&candidate) {
+                *best = candidate;
+                gathered = true;
+            }
+        }
+        if !gathered {
+            at += 1;
+        }
+    }
+}
+
+/// Runs with as small a budget as still fails.
+fn smaller_budgets(best: &mut Scenario, fails: &dyn Fn(&Scenario) -> bool) {
+    for index in 0..best.calls.len() {
+        while let Call::Run { budget } = best.calls[index] {
+            let mut smaller = None;
+            for less in [budget / 2, budget - budget / 4, budget.saturating_sub(1)] {
+                if less < budget {
+                    let mut candidate = best.clone();
+                    candidate.calls[index] = Call::Run { budget: less };
+                    if fails(&candidate) {
+                        smaller = Some(candidate);
+                        break;
+                    }
+                }
+            }
+            match smaller {
+                Some(candidate) => *best = candidate,
+                None => break,
+            }
+        }
+    }
+}

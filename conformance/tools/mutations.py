@@ -1,0 +1,197 @@
+#!/usr/bin/env python3
+"""How sharp the generator is: copies of the reference with one line changed each are compared with it.
+
+Each change is a pair of texts, the first of which stands exactly once in src/reference.rs. The copies are
+built in one go in a folder of their own, and for each the calls until the comparison catches it are printed,
+or NOT CAUGHT. Changes that don't change the meaning are marked as such and must not be caught.
+
+    tools/mutations.py [FOLDER] [SEEDS]
+"""
+import os, shutil, subprocess, sys
+
+HERE = os.path.dirname(os.path.dirname(os.path.abspath(__file__)))
+FOLDER = sys.argv[1] if len(sys.argv) > 1 else "/tmp/conformance-mutations"
+SEEDS = int(sys.argv[2]) if len(sys.argv) > 2 else 4000
+
+CHANGES = [
+    # 1 to 3
+    ("program.len() < 6 || program.len() != program[5] as usize", "program.len() < 6 || program.len() < program[5] as usize"),
+    ("[(1, 32), (0, 16), (1, 1024)]", "[(1, 33), (0, 16), (1, 1024)]"),
+    ("[(1, 32), (0, 16), (1, 1024)]", "[(1, 32), (0, 17), (1, 1024)]"),
+    ("[(1, 32), (0, 16), (1, 1024)]", "[(1, 32), (0, 16), (1, 1025)]"),
+    ("[(1, 32), (0, 16), (1, 1024)]", "[(0, 32), (0, 16), (1, 1024)]"),
+    ("program[4] >= program[1]", "program[4] > program[1]"),
+    ("return Err(refusal_at(3, 4, 0))", "return Err(refusal_at(3, 1, 0))"),
+    # 4
+    ("row.count >= 1 && row.count <= 256", "row.count <= 256"),
+    ("row.count >= 1 && row.count <= 256", "row.count >= 1 && row.count <= 257"),
+    ("let most = if body < head.tasks { 255 } else { 0 };", "let most = if body < head.tasks { 256 } else { 0 };"),
+    ("let most = if body < head.tasks { 255 } else { 0 };", "let most = if body < head.tasks { 255 } else { 255 };"),
+    ("row.start != start || !within_limits(head, body, &row)", "row.start < start || !within_limits(head, body, &row)"),
+    ("    if start != head.total {", "    if start > head.total {"),
+    ("return Err(refusal_at(4, head.bodies(), 0))", "return Err(refusal_at(4, 0, 0))"),
+    ("        start += 2 * row.count;\n", "        start += 2 * row.count;\n        if start > head.total {\n            return Err(refusal_at(4, body, 0));\n        }\n"),
+    # 4 in a step
+    ("!within_limits(head, body, &row) || !behind_rows || !inside_total", "!behind_rows || !inside_total || row.count == 0 || row.count > 256"),
+    ("!within_limits(head, body, &row) || !behind_rows || !inside_total", "!within_limits(head, body, &row) || !inside_total"),
+    ("let inside_total = row.start + 2 * row.count <= head.total;", "let inside_total = row.start + 2 * row.count < head.total;"),
+    ("let row = use_row(program, head, number)?;", "if head.rows_end() > head.total { return Err(refusal_at(4, number, 0)); }\n    let row = use_row(program, head, number)?;"),
+    ("let next_row = use_row(program, head, k as usize)?;", "let next_row = self::row(program, k as usize);\n        if !within_limits(head, k as usize, &next_row) { return Err(refusal_at(4, k as usize, 0)); }"),
+    # 5
+    ("let most = if used { 7 } else { 0 };", "let most = if used { 8 } else { 0 };\n        let field = if field == 8 { 7 } else { field };"),
+    ("let most = if used { 7 } else { 0 };", "let most = if used { 7 } else { 15 };"),
+    ("K::Unused => 1,", "K::Unused => 65536,"),
+    ("K::Shift => POWERS_OF_TWO.len(),", "K::Shift => 15,"),
+    ("K::Memory => head.memory,", "K::Memory => 1024,"),
+    ("K::Instruction => row.count,", "K::Instruction => 256,"),
+    ("In::Tasks => body < head.tasks,", "In::Tasks => true,"),
+    ("In::Events => body >= head.tasks,", "In::Events => true,"),
+    ("if index + 1 == row.count && !rule.last {", "if false {"),
+    ("if index + 1 == row.count && !rule.last {", "if index + 1 == row.count && !rule.last && opcode != JZ {"),
+    # 6 and 9
+    ("log_pairs >= 1 && log_pairs <= 64 && queue_records >= 1", "log_pairs >= 1 && log_pairs <= 65 && queue_records >= 1"),
+    ("log_pairs >= 1 && log_pairs <= 64 && queue_records >= 1", "log_pairs >= 1 && log_pairs <= 64"),
+    ("queue_records <= 32\n", "queue_records <= 33\n"),
+    ("if store[0..8] != contents_words(head.memory, log_pairs, queue_records) {", "if store[0..7] != contents_words(head.memory, log_pairs, queue_records)[0..7] {"),
+    ("if store[0..8] != contents_words(head.memory, log_pairs, queue_records) {", "if store[1..8] != contents_words(head.memory, log_pairs, queue_records)[1..8] {"),
+    ("if store.len() != store_length(head.memory, log_pairs, queue_records) {\n        return Err(refusal(6));\n    }\n    let log", "if store.len() < store_length(head.memory, log_pairs, queue_records) {\n        return Err(refusal(6));\n    }\n    let log"),
+    # 7
+    ("require(phase <= 2, PHASE);", "require(phase <= 2, TASK);"),
+    ("require(word(TASK) < head.tasks, TASK);", "require(word(TASK) <= head.tasks, TASK);"),
+    ("        require(word(OPEN) == 0, OPEN);", "        require(true, OPEN);"),
+    ("require(word(HEAD) <= parts.queue_records, HEAD);", "require(word(HEAD) < parts.queue_records, HEAD);"),
+    ("require(word(TAIL) <= parts.queue_records, TAIL);", "require(word(TAIL) < parts.queue_records, TAIL);"),
+    ("require(word(COUNT) <= parts.log_pairs, COUNT);", "require(word(COUNT) < parts.log_pairs, COUNT);"),
+    ("    if phase == 1 || phase == 2 {\n", "    if phase <= 2 {\n"),
+    ("        require(word(PENDING) < head.tasks, PENDING);", "        require(true, PENDING);"),
+    ("&& word(HEAD) != word(TAIL);\n        require", ";\n        require"),
+    ("let stays = word(PENDING) == word(HEAD);", "let stays = false;"),
+    ("    if phase == 0 && sound[TASK] && store[OPEN] != 0 {", "    if phase <= 1 && sound[TASK] && store[OPEN] != 0 {"),
+    ("    if phase == 1 && sound[PENDING] && store[PENDING_OPEN] != 0 {", "    if false && sound[PENDING] && store[PENDING_OPEN] != 0 {"),
+    ("let mut slot = store[if phase == 2 { PENDING } else { HEAD }] as usize;", "let mut slot = store[HEAD] as usize;"),
+    ("    if phase != 0 && sound[COUNT] {", "    if phase == 1 && sound[COUNT] {"),
+    # 25, early
+    ("        return *device != Device::OFF;", "        return false;"),
+    ("if device.log_count as usize > look.parts.log_pairs {", "if device.log_count as usize >= look.parts.log_pairs {"),
+    ("if look.queue_full(store) || handler.event as usize >= look.head.events {", "if handler.event as usize >= look.head.events {"),
+    ("if look.queue_full(store) || handler.event as usize >= look.head.events {", "if look.queue_full(store) {"),
+    ("                1 => n + 2,", "                1 => n + 3,"),
+    ("                1 => n + 2,", "                1 => n + 1,"),
+    ("                _ => n + 1,", "                _ => n + 2,"),
+    ("                0 => 0,\n                1 => n + 2,", "                0 => 1,\n                1 => n + 2,"),
+    ("task as usize >= look.head.tasks || task != store[TASK]", "task as usize >= look.head.tasks"),
+    ("event as usize >= look.head.events || store[OPEN] != 0 ||", "event as usize >= look.head.events ||"),
+    (" || store[OPEN] != 0 || look.queue_empty(store) {", " || store[OPEN] != 0 {"),
+    ("            3\n        }", "            4\n        }"),
+    ("            2\n        }\n    };", "            3\n        }\n    };"),
+    ("        _ => device.log_count as usize == look.parts.log_pairs,", "        _ => false,"),
+    # the order
+    ("    refuse_broken(&broken_in_control(&head, &parts, store))?;\n    let look = Look { head, parts };\n    if state_unlike(&look, store, device) {\n        return Err(refusal(25));\n    }", "    let look = Look { head, parts };\n    refuse_broken(&broken_in_control(&look.head, &look.parts, store))?;\n    if device.on && state_unlike(&look, store, device) {\n        return Err(refusal(25));\n    }"),
+    ("    if event as usize >= look.head.events {\n        return Err(refusal(8));\n    }\n    if device.handler.is_some() {\n        return Err(refusal(20));\n    }", "    if device.handler.is_some() {\n        return Err(refusal(20));\n    }\n    if event as usize >= look.head.events {\n        return Err(refusal(8));\n    }"),
+    ("    if device.handler.is_some() {\n        return Err(refusal(20));\n    }\n    if look.queue_full(store) {\n        return Err(refusal(21));\n    }", "    if look.queue_full(store) {\n        return Err(refusal(21));\n    }\n    if device.handler.is_some() {\n        return Err(refusal(20));\n    }", "same meaning"),
+    ("    refuse_broken(&broken_in_store(program, &head, &parts, store))?;\n    if device.on {\n        return Err(refusal(26));\n    }", "    if device.on {\n        return Err(refusal(26));\n    }\n    refuse_broken(&broken_in_store(program, &head, &parts, store))?;"),
+    ("        unlike = store[slot] != event;", "        if store[slot] != event {\n            return Err(refusal(25));\n        }"),
+    ("        unlike = store[slot] != event;", "        unlike = false;\n        let _ = event;"),
+    ("        if store[slot] as usize >= head.events {\n            return Err(refusal_at(7, slot, 0));\n        }\n        unlike = store[slot] != event;", "        unlike = store[slot] != event;"),
+    ("    if let Body::Task(_) = body {\n        if store[OPEN] != 0 && store[OPEN] != row.transaction {\n            return Err(refusal_at(7, OPEN, 0));\n        }\n    }", ""),
+    ("    let Some(instruction) = instruction else { return Err(refusal(25)) };", "    let Some(instruction) = instruction else { return Err(refusal_at(5, number, index)) };"),
+    ("    let mut instruction = None;\n    if index < row.count {", "    let mut instruction = None;\n    if index >= row.count {\n        return Err(refusal(25));\n    } else {"),
+    ("    if half && opcode != SAVE && opcode != SAVEX {", "    if half && opcode != SAVE {"),
+    ("    if ending > 0 && opcode != GO && opcode != DONE {", "    if false {"),
+    ("    let row = use_row(program, head, number)?;\n", "    if half && device.log_count == 0 && store[OPEN] != 0 && Some(&store[OPEN]) != program.get(8 + 3 * number) { return Err(refusal_at(7, OPEN, 0)); }\n    let row = use_row(program, head, number)?;\n"),
+    # the order, finer
+    ("    // 4: at GO, task k's row; with it the new open number.\n", "    if matches!(body, Body::Task(_)) && store[OPEN] != 0 && store[OPEN] != row.transaction {\n        return Err(refusal_at(7, OPEN, 0));\n    }\n"),
+    ("    let mut instruction = None;\n    if index < row.count {", "    if matches!(body, Body::Task(_)) && store[OPEN] != 0 && store[OPEN] != row.transaction {\n        return Err(refusal_at(7, OPEN, 0));\n    }\n    let mut instruction = None;\n    if index < row.count {"),
+    ("            return Err(refusal_at(7, slot, 0));\n        }\n        unlike = store[slot] != event;", "            use_row(program, head, number)?;\n            return Err(refusal_at(7, slot, 0));\n        }\n        unlike = store[slot] != event;"),
+    ("    // The rest of 7: a running task", "    if half && instruction.as_ref().map_or(true, |i| i.opcode != SAVE && i.opcode != SAVEX) {\n        return Err(refusal(25));\n    }\n    // The rest of 7: a running task"),
+    ("    // The rest of 7: a running task", "    if ending > 0 && instruction.as_ref().map_or(true, |i| i.opcode != GO && i.opcode != DONE) {\n        return Err(refusal(25));\n    }\n    // The rest of 7: a running task"),
+    ("    if has_address && address >= look.head.memory {\n        return Err(refusal(23));\n    }\n    let found = if has_address { search(look, store, device.log_count, address) } else { None };", "    let found = if has_address { search(look, store, device.log_count, address) } else { None };\n    if (opcode == SAVE || opcode == SAVEX) && found.is_none() && device.log_count as usize == look.parts.log_pairs {\n        return Err(refusal(24));\n    }\n    if has_address && address >= look.head.memory {\n        return Err(refusal(23));\n    }"),
+    ("    if let Some(handler) = device.handler {\n        return Ok(", "    if let (Some(_), Place::Running { body, .. }) = (device.handler, device.place) {\n        use_row(program, &look.head, look.head.body_number(body))?;\n    }\n    if let Some(handler) = device.handler {\n        return Ok("),
+    ("    let look = look(program, store, device)?;\n    if event as usize", "    let look = look(program, store, device)?;\n    refuse_broken(&broken_in_store(program, &look.head, &look.parts, store))?;\n    if event as usize"),
+    ("            if store[PHASE] != 0 {\n", "            if store[PHASE] != 0 {\n                refuse_broken(&broken_in_store(program, &look.head, &look.parts, store))?;\n"),
+    ("                choose(&look, store, device)\n", "                if store[OPEN] != 0 || look.queue_empty(store) { use_row(program, &look.head, store[TASK] as usize)?; }\n                choose(&look, store, device)\n"),
+    ("        return Ok(second_half(look, device, body, index, &instruction));", "        if device.registers[instruction.b] as usize + instruction.k as usize >= head.memory && opcode == SAVEX { return Err(refusal(23)); }\n        return Ok(second_half(look, device, body, index, &instruction));"),
+    ("    let pair = look.parts.pair(device.log_count as usize);\n    let place = Place::Running { body, instruction: index as u16 + 1, ending: 0 };\n    Effect", "    let pair = look.parts.pair(device.log_count as usize);\n    let place = Place::Running { body, instruction: index as u16 + 1, ending: 0 };\n    let pair = if device.log_count == 63 { pair - 2 } else { pair };\n    Effect"),
+    ("    if device.on {\n        return Err(refusal(26));\n    }\n", "    if device.on {\n        return Err(refusal(26));\n    }\n    if *device != Device::OFF {\n        return Err(refusal(25));\n    }\n"),
+    # meaning
+    ("        if row.transaction == next_row.transaction {", "        if true {"),
+    ("let closing: &[Store] = if store[PHASE] == 1 {\n            &[(TASK, store[PENDING]), (OPEN, store[PENDING_OPEN]), (PHASE, 0)]", "let closing: &[Store] = if store[PHASE] == 1 {\n            &[(OPEN, store[PENDING_OPEN]), (TASK, store[PENDING]), (PHASE, 0)]"),
+    ("        if address >= look.head.memory {\n            return Err(refusal_at(7, pair, 0));", "        if address >= look.head.memory {\n            return Err(refusal(23));"),
+    ("    let device = if made.0 == PHASE {\n        Device::ON\n    }", "    let device = if made.0 == PHASE {\n        Device { place: Place::NoBody { commit: 0 }, ..*device }\n    }"),
+    ("        return Effect { answer: Answer::Committed(body), store: Some(made), device: Device::ON };", "        return Effect { answer: Answer::Committed(body), store: Some(made), device: Device { place: Place::NoBody { commit: 0 }, ..*device } };"),
+    ("        registers[0] = store[slot + 1];\n", ""),
+    ("let device = Device { registers, place, log_count: 0, ..*device };", "let device = Device { registers, place, ..*device };"),
+    ("    let body = if store[OPEN] == 0 && !look.queue_empty(store) {", "    let body = if !look.queue_empty(store) {"),
+    ("let head_after = look.parts.after(store[HEAD] as usize) as u16;", "let head_after = look.parts.after(store[if ending == 1 { HEAD } else { PENDING }] as usize) as u16;", "same meaning"),
+    ("let stores = [(COUNT, n), (PENDING, head_after), (PHASE, 2)];", "let stores = [(PENDING, head_after), (COUNT, n), (PHASE, 2)];"),
+    ("        if store[pair] as usize == address {\n            return Some(pair);\n        }", "        if store[pair] as usize == address && number + 1 < 64 {\n            return Some(pair);\n        }"),
+    ("LOADX | SAVEX => k as usize + rb as usize,", "LOADX | SAVEX => k.wrapping_add(rb) as usize,"),
+    ("LOADX | SAVEX => k as usize + rb as usize,", "LOADX | SAVEX => k as usize + signed(rb).max(0) as usize,"),
+    ("    if has_address && address >= look.head.memory {", "    if has_address && address > look.head.memory {"),
+    ("signed(ra).div_euclid(POWERS_OF_TWO[k as usize])", "signed(ra) / POWERS_OF_TWO[k as usize]"),
+    ("            if signed(ra) < signed(rb) {", "            if signed(ra) <= signed(rb) {"),
+    ("            if signed(ra) < signed(rb) {", "            if ra < rb {"),
+    ("            if signed(ra) < signed(rb) {", "            if (ra.wrapping_sub(rb)) >= 0x8000 {"),
+    ("    store.fill(0);\n", ""),
+    ("    store[TASK] = head.entry;\n", ""),
+    ("    let head = check_program(program)?;\n    let parts", "    let head = head(program)?;\n    check_rows(program, &head)?;\n    let parts"),
+    ("        Next::Tail => (Answer::Accepted, (TAIL, look.parts.after(tail) as u16), None),", "        Next::Tail => (Answer::Accepted, (TAIL, (tail as u16 + 1) & 0x3F), None),"),
+    ("    if *total < u32::MAX {\n        *total += 1;\n    }", "    *total = total.wrapping_add(1);"),
+    ("        Answer::Accepted => add_one(&mut totals.accepted),", "        Answer::Accepted => add_one(&mut totals.committed),"),
+    ("        while steps < budget {", "        while steps < budget.min(299) {"),
+]
+
+text = open(os.path.join(HERE, "src", "reference.rs")).read()
+shutil.rmtree(os.path.join(FOLDER, "src"), ignore_errors=True)
+shutil.copytree(os.path.join(HERE, "src"), os.path.join(FOLDER, "src"))
+shutil.copy(os.path.join(HERE, "Cargo.toml"), FOLDER)
+modules, rows = [], []
+for number, change in enumerate(CHANGES):
+    old, new = change[0], change[1]
+    if text.count(old) != 1:
+        sys.exit(f"change {number}: stands {text.count(old)} times: {old}")
+    with open(os.path.join(FOLDER, "src", f"m{number}.rs"), "w") as out:
+        out.write("#![allow(dead_code, unused_variables, unused_mut, unused_assignments)]\n" + text.replace(old, new))
+    modules.append(f"pub mod m{number};")
+    rows.append(f"        ({number}, {'true' if len(change) > 2 else 'false'}, &conformance::m{number}::Reference),")
+with open(os.path.join(FOLDER, "src", "lib.rs"), "a") as out:
+    out.write("\n".join(modules) + "\n")
+with open(os.path.join(FOLDER, "src", "main.rs"), "w") as out:
+    out.write("""use conformance::compare::{drive, Counts};
+use conformance::{generate::scenario, reference::Reference, runtime::Runtime};
+fn main() {
+    let seeds: u64 = std::env::args().nth(1).unwrap().parse().unwrap();
+    let mut open: Vec<(usize, bool, &dyn Runtime)> = vec![
+%s
+    ];
+    let mut calls = 0;
+    for seed in 1..=seeds {
+        for damaged in [false, true] {
+            let list = scenario(seed, damaged);
+            let before = calls;
+            open.retain(|(number, same, mutant)| {
+                let mut counts = Counts::default();
+                let result = std::panic::catch_unwind(std::panic::AssertUnwindSafe(|| drive(&Reference, *mutant, &list, &mut counts).is_err()));
+                calls = before + counts.all_calls();
+                let caught = result.unwrap_or(true);
+                if caught {
+                    println!("{number} {} {}", calls, if *same { "CAUGHT BUT SAME" } else { "caught" });
+                }
+                !caught
+            });
+        }
+    }
+    for (number, same, _) in open {
+        println!("{number} {} {}", calls, if same { "same" } else { "NOT CAUGHT" });
+    }
+}
+""" % "\n".join(rows))
+subprocess.run(["cargo", "build", "--release", "--offline", "-j1", "-q"], cwd=FOLDER, check=True)
+result = subprocess.run([os.path.join(FOLDER, "target/release/conformance"), str(SEEDS)], capture_output=True, text=True)
+failed = False
+for line in result.stdout.splitlines():
+    number, calls, verdict = line.split(" ", 2)
+    first = [l for l in CHANGES[int(number)][1].splitlines() if l.strip()][:1]
+    print(f"{calls:>9} {verdict:12} {number:>3}  {first[0].strip() if first else '(removed)'}")
+    failed = failed or verdict.isupper()
+sys.exit(1 if failed or not result.stdout else 0)
