@@ -3,3 +3,4 @@ pub mod Agree
 pub mod Cases
 pub mod Checks
 pub mod Looked
+pub mod Running

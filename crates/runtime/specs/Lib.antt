@@ -1,3 +1,4 @@
 pub mod Turn
 pub mod Looked
+pub mod Running
 pub mod Agree

@@ -1,0 +1,13 @@
+-- `body::moved` meets its contract: a core with another place and count. Assumes nothing.
+use mathlib.Core.Path.{refl}
+use Rattle.runtime.proofs.body.moved.Statement.{statement}
+use Rattle.runtime.proofs.body.moved.Tie as tie
+
+returns : tie.Need-returns
+returns c = refl
+
+pub moved-spec : {M : Type 1} → statement M
+moved-spec =
+    tie.close
+    (tie.spec
+    returns)

@@ -1,0 +1,17 @@
+-- `body::stored` meets its contract: by what `moved` ensures. Assumes nothing.
+use borrow.Author.Needs.{needs}
+use Rattle.runtime.proofs.body.stored.Statement.{statement}
+use Rattle.runtime.proofs.body.stored.Tie as tie
+
+moved-requires : tie.Need-moved-requires
+moved-requires c κs = search needs
+
+returns : tie.Need-returns
+returns c = rw (c .moved .ensures)
+
+pub stored-spec : {M : Type 1} → statement M
+stored-spec =
+    tie.close
+    (tie.spec
+    moved-requires
+    returns)
