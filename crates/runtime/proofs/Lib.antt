@@ -1,6 +1,2 @@
 -- The laws that belong to no one function.
-pub mod Agree
 pub mod Cases
-pub mod Checks
-pub mod Looked
-pub mod Running

@@ -7,10 +7,11 @@ ghost use Rattle.model.specs.Device.{handlerStep, copyStep, chooseStep, begun, 
 ghost use Rattle.model.specs.Program.{word};
 ghost use Rattle.model.specs.Store.{view};
 ghost use Rattle.store.specs.Shaped.{Shaped};
-ghost use Rattle.runtime.specs.Looked.{Looked};
-ghost use Rattle.runtime.specs.Turn.{device, after, result};
-use crate::Core;
-use crate::Turn;
+ghost use Rattle.device.specs.Looked.{Looked};
+ghost use Rattle.device.specs.Turn.{device, after, result};
+use device::Core;
+use device::Turn;
+use device::turns;
 use model::Answer;
 use model::Body;
 use model::Handler;
@@ -58,54 +59,16 @@ fn working(c: Core, h: Handler, a: Answer) -> Turn
     }
 }
 
-// A refusal: the device stays as it is.
-pub fn refuse(c: Core, why: Refusal) -> Turn
-    ensures { λ t. ⌜ t ≡ record { answer = Answer.Refused why; core = c } ⌝ }
-{
-    Turn {
-        answer: Answer::Refused(why),
-        core: c,
-    }
-}
-
-// The device at another place with another log count, and an answer.
-pub fn at(c: Core, place: Place, count: u16, answer: Answer) -> Turn
-    ensures { λ t. ⌜ t ≡ record { answer = answer; core = record { on = c .on; place = place; count = count; handler = c .handler } } ⌝ }
-{
-    let handler = c.handler;
-    Turn {
-        answer,
-        core: Core {
-            on: c.on,
-            place,
-            count,
-            handler,
-        },
-    }
-}
-
-// The off value turned on.
-pub fn turned_on(r: &mut [u16; 8], answer: Answer) -> Turn
-    ensures { λ t. ⌜ ((s : List ℕ) → after t (now (r .exit)) s ≡ record { answer = answer; device = turnedOn; store = s }) ⌝ }
-{
-    *r = [0; 8];
-    Turn {
-        answer,
-        core: Core {
-            on: true,
-            place: Place::Free(0),
-            count: 0,
-            handler: Handler::Resting,
-        },
-    }
-}
-
 // "Registers become 0, except that register 0 gets an event's data. The log count becomes 0."
 fn begin(r: &mut [u16; 8], c: Core, b: Body, x: u16) -> Turn
     ensures { λ t. ⌜ ((s : List ℕ) → after t (now (r .exit)) s ≡ record { answer = Answer.Chosen b; device = begun (device c (now (r .entry))) b x; store = s }) ⌝ }
 {
     *r = [x, 0, 0, 0, 0, 0, 0, 0];
-    at(c, Place::Run(b, 0, 0), 0, Answer::Chosen(b))
+    let m = turns::moved(c, Place::Run(b, 0, 0), 0);
+    Turn {
+        answer: Answer::Chosen(b),
+        core: m,
+    }
 }
 
 // "if word 10 is 0 and the queue isn't empty, the event at head; otherwise the current task"
@@ -122,7 +85,7 @@ pub fn choose_step(p: &[u16], s: &[u16], r: &mut [u16; 8], c: Core) -> Turn
     let head = s[14];
     let e = queue::event(s, head);
     if e >= p[2] {
-        return refuse(c, Refusal::Control(s[7] + 2 * head));
+        return turns::refused(c, Refusal::Control(s[7] + 2 * head));
     }
     begin(r, c, Body::Event(e), queue::datum(s, head))
 }

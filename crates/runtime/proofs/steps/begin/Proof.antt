@@ -3,16 +3,16 @@ use borrow.Author.Needs.{needs}
 use Rattle.runtime.proofs.steps.begin.Statement.{statement}
 use Rattle.runtime.proofs.steps.begin.Tie as tie
 
-at-requires : tie.Need-at-requires
-at-requires c κs = search needs
+moved-requires : tie.Need-moved-requires
+moved-requires c κs = search needs
 
 returns : tie.Need-returns
 unfolding begun moved
-returns c = λ s. simp (c .at .ensures)
+returns c = λ s. simp (c .moved .ensures)
 
 pub begin-spec : {M : Type 1} → statement M
 begin-spec =
     tie.close
     (tie.spec
-    at-requires
+    moved-requires
     returns)

@@ -4,14 +4,14 @@ use Rattle.model.specs.Program.{word, memoryWords}
 use Rattle.model.specs.Store.{queueAt}
 use Rattle.model.specs.declared.Answer.{Answer}
 use Rattle.model.specs.declared.Refusal.{Refusal}
-use Rattle.runtime.specs.Turn.{after}
-use Rattle.runtime.specs.declared.Turn.{Turn}
+use Rattle.device.specs.Turn.{after}
+use Rattle.device.specs.declared.Turn.{Turn}
 use mathlib.Core.Path.{sym, ap, _∙_}
 use denote.Ref.{now}
 use Rattle.model.specs.Device.{Out}
 use Rattle.model.specs.Store.{settled, view}
 use Rattle.runtime.proofs.Cases.{choose-open, choose-empty, choose-refused, choose-event}
-use Rattle.runtime.specs.Turn.{device, result}
+use Rattle.device.specs.Turn.{device, result}
 use borrow.Author.Needs.{needs}
 use Rattle.runtime.proofs.steps.choose_step.Statement.{statement}
 use Rattle.runtime.proofs.steps.choose_step.Tie as tie
@@ -64,8 +64,8 @@ mul-t23 c = search needs
 add-t24 : tie.Need-add-t24
 add-t24 c = search needs
 
-refuse-requires : tie.Need-refuse-requires
-refuse-requires c κs = search needs
+refused-requires : tie.Need-refused-requires
+refused-requires c κs = search needs
 
 returns-3 : tie.Need-returns-3
 unfolding settled
@@ -76,7 +76,7 @@ returns-3 c =
     let core = c .before .before .before .before .before .before .before .before .before .before .before .before .args .c in
     let q = c .before .before .before .before .before .before .before .before .before .before .before .before .pre .shaped in
     let starts : word s 7 ≡ queueAt (memoryWords p) (word s 2) = q .shaped .queueStart ∙ ap (λ (m : ℕ). queueAt m (word s 2)) (q .memory) in
-    ap (λ (t : Turn). after t r s) (c .refuse .ensures)
+    ap (λ (t : Turn). after t r s) (c .refused .ensures)
     ∙ ap (λ (w : ℕ). after (record { answer = Answer.Refused (Refusal.Control (w + 2 * word s 14)); core = core }) r s) starts
     ∙ ap (λ (o : Out). result s o)
     (sym
@@ -118,7 +118,7 @@ choose-step-spec =
     shared-slice-read-t22
     mul-t23
     add-t24
-    refuse-requires
+    refused-requires
     returns-3
     datum-requires
     begin-requires-3

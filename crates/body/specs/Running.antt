@@ -1,0 +1,43 @@
+-- A body at an instruction: what its steps rest on, what fetching its instruction gives. A fetch makes the
+-- checks of `bodySound` that hold for every place: those of a free place, which asks nothing of the instruction's effect.
+-- proofs/Running.antt has the laws that lead from the early checks to `Running`, and from a fetch to `placeStep`. Assumes nothing.
+use Prim.Native.Nat.{ℕ, _≤_, _<_}
+use mathlib.Core.List.{List}
+use mathlib.Core.Path.{_≡_}
+use Rattle.model.specs.Device.{endStores, bodySound}
+use Rattle.model.specs.Program.{word, tasks, bodies, number, effectAt}
+use Rattle.model.specs.Store.{Store}
+use Rattle.model.specs.declared.Body.{Body}
+use Rattle.model.specs.declared.Checked.{Checked}
+use Rattle.model.specs.declared.Effect.{Effect}
+use Rattle.model.specs.declared.Place.{Place}
+use Rattle.model.specs.declared.Place.the-variants.{Free}
+use Rattle.program.specs.Accepted.{Contents, HasInstruction}
+use Rattle.program.specs.Legal.{LegalEffect}
+use Rattle.body.specs.declared.Fetched.{Fetched}
+use Rattle.store.specs.Shaped.{ShapedFor}
+
+-- body b may run: there is such a body, word 9's task and word 14's slot are there
+pub record Running (p s : List ℕ) (b : Body) : Type 0 where
+  pub contents : Contents p
+  pub shaped : ShapedFor p s
+  pub body : number p b < bodies p
+  pub phase : word s 8 ≡ 0
+  pub task : word s 9 < tasks p
+  pub head : word s 14 ≤ word s 3
+  pub endsTask : number p b < tasks p → endStores b ≡ 4
+  pub endsEvent : tasks p ≤ number p b → endStores b ≡ 3
+
+-- its instruction j is there, with what it does
+pub record Fetches (p : List ℕ) (b : Body) (j : ℕ) (f : Effect) : Type 0 where
+  pub instruction : HasInstruction p (number p b) j
+  pub legal : LegalEffect p (number p b) j f
+
+unfoldable pub does : Checked → Effect → Fetched
+does Checked.Accepted f = Fetched.Does f
+does (Checked.Refused r) f = Fetched.Refused r
+
+unfoldable pub fetched : List ℕ → Store → List ℕ → Body → ℕ → Fetched
+fetched p v r b j =
+    let f = effectAt p (number p b) j r in
+    does (bodySound p v (Free 0) b j f) f

@@ -1,0 +1,4 @@
+-- The laws that belong to no one function.
+pub mod Agree
+pub mod Checks
+pub mod Looked

@@ -1,0 +1,17 @@
+-- `runtime::look::cut` meets its contract. Assumes nothing.
+use mathlib.Core.Path.{refl}
+use Rattle.model.specs.Device.{fresh, cut}
+use Rattle.model.specs.Store.{settled}
+use borrow.Author.Needs.{needs}
+use Rattle.device.proofs.look.cut.Statement.{statement}
+use Rattle.device.proofs.look.cut.Tie as tie
+
+returns : tie.Need-returns
+unfolding cut fresh settled
+returns c = λ s. refl
+
+pub cut-spec : {M : Type 1} → statement M
+cut-spec =
+    tie.close
+    (tie.spec
+    returns)

@@ -1,0 +1,70 @@
+-- `runtime::look::post_check` meets its contract. Each answer is the first refusal in a row of checks; what `look` gives bounds
+-- the reads after it. Assumes nothing.
+use mathlib.Core.Bool.{not}
+use mathlib.Core.Path.{sym, ap, _∙_}
+use native.Mathlib.Omega.{arith}
+use borrow.Author.Needs.{needs}
+use borrow.Author.Tests.{lt-ltb, le-ltb}
+use Rattle.model.specs.Device.{atRest, postCheck}
+use Rattle.program.proofs.Checks.{then-stop, then-go}
+use Rattle.device.proofs.Checks.{must-refuses, must-accepts, must-stop, must-go}
+use Rattle.device.proofs.look.post_check.Statement.{statement}
+use Rattle.device.proofs.look.post_check.Tie as tie
+
+look-at-requires : tie.Need-look-at-requires
+look-at-requires c κs = search needs
+
+enum-told : tie.Need-enum-told
+enum-told c = search needs
+
+enum-told-2 : tie.Need-enum-told-2
+enum-told-2 c = search needs
+
+returns : tie.Need-returns
+unfolding postCheck
+returns c = then-stop _ _ (c .before .before .look-at .ensures .0) (c .enum-told2 .given .1)
+
+shared-slice-read-if1 : tie.Need-shared-slice-read-if1
+shared-slice-read-if1 c = let l = c .before .before .before .look-at .ensures .1 (c .before .enum-told .given .1) in omega (arith, l .contents .six)
+
+returns-2 : tie.Need-returns-2
+unfolding postCheck
+returns-2 c = must-stop _ _ (le-ltb _ _ (c .if1 .taken)) ∙ then-go _ _ (c .before .before .before .before .look-at .ensures .0) (c .before .before .enum-told .given .1)
+
+enum-told-3 : tie.Need-enum-told-3
+enum-told-3 c = search needs
+
+enum-told-4 : tie.Need-enum-told-4
+enum-told-4 c = search needs
+
+returns-3 : tie.Need-returns-3
+unfolding postCheck atRest
+returns-3 c = must-stop _ _ (simp (c .enum-told4 .given .1)) ∙ must-go _ _ (lt-ltb _ _ (c .before .before .if1 .left)) ∙ then-go _ _ (c .before .before .before .before .before .before .look-at .ensures .0) (c .before .before .before .before .enum-told .given .1)
+
+is-full-requires : tie.Need-is-full-requires
+is-full-requires c κs = let l = c .before .before .before .before .before .before .look-at .ensures .1 (c .before .before .before .before .enum-told .given .1) in (l .shaped .shaped, l .early .control .tail-in)
+
+returns-4 : tie.Need-returns-4
+unfolding postCheck atRest
+returns-4 c = must-refuses _ (ap not (sym (c .before .is-full .ensures) ∙ c .if2 .taken)) ∙ must-go _ _ (simp (c .before .before .enum-told3 .given .1)) ∙ must-go _ _ (lt-ltb _ _ (c .before .before .before .before .if1 .left)) ∙ then-go _ _ (c .before .before .before .before .before .before .before .before .look-at .ensures .0) (c .before .before .before .before .before .before .enum-told .given .1)
+
+returns-5 : tie.Need-returns-5
+unfolding postCheck atRest
+returns-5 c = must-accepts _ (ap not (sym (c .before .is-full .ensures) ∙ c .if2 .left)) ∙ must-go _ _ (simp (c .before .before .enum-told3 .given .1)) ∙ must-go _ _ (lt-ltb _ _ (c .before .before .before .before .if1 .left)) ∙ then-go _ _ (c .before .before .before .before .before .before .before .before .look-at .ensures .0) (c .before .before .before .before .before .before .enum-told .given .1)
+
+pub post-check-spec : {M : Type 1} → statement M
+post-check-spec =
+    tie.close
+    (tie.spec
+    look-at-requires
+    enum-told
+    enum-told-2
+    returns
+    shared-slice-read-if1
+    returns-2
+    enum-told-3
+    enum-told-4
+    returns-3
+    is-full-requires
+    returns-4
+    returns-5)

@@ -1,0 +1,23 @@
+-- Document 01: "the contract equates the answer, the store, the device state .. after the call with defined ones. Only the place in 7
+-- is free; of it the contract says that it is the word of some broken rule, as 7 has it." Assumes nothing.
+use Prim.Native.Nat.{ℕ}
+use mathlib.Core.Bool.{true}
+use mathlib.Core.List.{List}
+use mathlib.Core.Path.{_≡_}
+use Rattle.model.specs.Control.{Rule, rules, blames}
+use Rattle.model.specs.Device.{Out}
+use Rattle.model.specs.Store.{view, settled}
+use Rattle.model.specs.declared.Answer.{Answer}
+use Rattle.model.specs.declared.Refusal.{Refusal}
+use Rattle.device.specs.Turn.{Result}
+
+-- Equal up to the place in 7: what is told, of any type whose refusals are `refused`, against what is defined, under the rules rs.
+pub record Agrees {A : Type 0} (rs : List Rule) (refused : Refusal → A) (defined actual : A) : Type 0 where
+  pub same : ((w : ℕ) → defined ≡ refused (Refusal.Control w) → ⊥) → actual ≡ defined
+  pub placed : (w : ℕ) → defined ≡ refused (Refusal.Control w) → (x : ℕ) × (actual ≡ refused (Refusal.Control x)) × (blames rs x ≡ true)
+
+-- A call on the words s left r, where the outcome o is defined.
+pub record Performs (p s : List ℕ) (o : Out) (r : Result) : Type 0 where
+  pub answer : Agrees (rules p (view s)) Answer.Refused (o .answer) (r .answer)
+  pub device : r .device ≡ o .device
+  pub store : r .store ≡ settled s (o .write)

@@ -1,4 +1,0 @@
-pub mod Turn
-pub mod Looked
-pub mod Running
-pub mod Agree
