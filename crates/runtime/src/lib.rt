@@ -1,2 +1,105 @@
-// Step and run: document 01's four cases, over a program, a lent store and a device.
+// Step: document 01's four cases, first that applies, over a program, a lent store and a device.
+ghost use Prim.Native.Nat.{ℕ};
+ghost use mathlib.Core.List.{List};
+ghost use mathlib.Core.Path.{_≡_};
+ghost use Rattle.model.specs.Device.{placeStep, nextStep, step};
+ghost use Rattle.model.specs.Store.{view};
+ghost use Rattle.device.specs.Agree.{Performs};
+ghost use Rattle.device.specs.Looked.{Looked};
+ghost use Rattle.device.specs.Turn.{device, after, afterCall, result};
+use body;
+use device::Core;
+use device::Stepped;
+use device::Turn;
+use device::look;
+use device::turns;
+use model::Answer;
+use model::Checked;
+use model::Device;
+use model::Handler;
+use model::Place;
+
+pub mod copying;
 pub mod steps;
+
+// With no body running: in phase 0 one is chosen, else a commit makes its next store.
+fn free_step(p: &[u16], s: &mut [u16], r: &mut [u16; 8], c: Core, n: u16) -> Turn
+    requires { ⌜ Looked (now p) (now s) (device c (now r)) ⌝ }
+    requires { ⌜ c .place ≡ Place.Free n ⌝ }
+    ensures { λ t. ⌜ after t (now (r .exit)) (now (s .exit)) ≡ result (now (s .entry)) (placeStep (now (p .entry)) (view (now (s .entry))) (device c (now (r .entry))) (Place.Free n)) ⌝ }
+{
+    if s[8] == 0 {
+        return steps::choose_step(p, s, r, c);
+    }
+    copying::copy_step(p, s, r, c, n)
+}
+
+// The step of a handler at rest.
+fn place_step(p: &[u16], s: &mut [u16], r: &mut [u16; 8], c: Core) -> Turn
+    requires { ⌜ Looked (now p) (now s) (device c (now r)) ⌝ }
+    ensures { λ t. ⌜ after t (now (r .exit)) (now (s .exit)) ≡ result (now (s .entry)) (placeStep (now (p .entry)) (view (now (s .entry))) (device c (now (r .entry))) (c .place)) ⌝ }
+{
+    let place = c.place;
+    match place {
+        Place::Free(n) => free_step(p, s, r, c, n),
+        Place::Run(b, j, n) => body::run_step(p, s, r, c, b, j, n),
+        Place::Half(b, j) => body::half_step(p, s, r, c, b, j),
+    }
+}
+
+// "First that applies", after the early checks.
+fn next_step(p: &[u16], s: &mut [u16], r: &mut [u16; 8], c: Core) -> Turn
+    requires { ⌜ Looked (now p) (now s) (device c (now r)) ⌝ }
+    ensures { λ t. ⌜ after t (now (r .exit)) (now (s .exit)) ≡ result (now (s .entry)) (nextStep (now (p .entry)) (view (now (s .entry))) (device c (now (r .entry))) (c .handler)) ⌝ }
+{
+    let handler = c.handler;
+    match handler {
+        Handler::Resting => place_step(p, s, r, c),
+        Handler::Storing(n, e, x) => steps::handler_step(s, c, n, e, x),
+    }
+}
+
+// A step on lent registers, the rest of the device by value.
+pub fn step_in(p: &[u16], s: &mut [u16], r: &mut [u16; 8], c: Core) -> Turn
+    ensures { λ t. ⌜ after t (now (r .exit)) (now (s .exit)) ≡ result (now (s .entry)) (step (now (p .entry)) (now (s .entry)) (device c (now (r .entry)))) ⌝ }
+{
+    let found = look::look(p, s, r, c);
+    match found {
+        Checked::Accepted => next_step(p, s, r, c),
+        Checked::Refused(why) => turns::refused(c, why),
+    }
+}
+
+// A device from its core and its registers.
+pub fn whole(c: Core, regs: [u16; 8]) -> Device
+    ensures { λ d. ⌜ d ≡ device c regs ⌝ }
+{
+    let place = c.place;
+    let handler = c.handler;
+    Device {
+        on: c.on,
+        regs,
+        place,
+        count: c.count,
+        handler,
+    }
+}
+
+// An answer with the whole device.
+fn packed(t: Turn, regs: [u16; 8]) -> Stepped
+    ensures { λ x. ⌜ ((s : List ℕ) → afterCall x s ≡ after t regs s) ⌝ }
+{
+    let answer = t.answer;
+    let core = t.core;
+    let device = whole(core, regs);
+    Stepped { answer, device }
+}
+
+// Step: at most one store, on the lent words.
+pub fn step(p: &[u16], s: &mut [u16], d: Device) -> Stepped
+    ensures { λ x. ⌜ Performs (now (p .entry)) (now (s .entry)) (step (now (p .entry)) (now (s .entry)) d) (afterCall x (now (s .exit))) ⌝ }
+{
+    let mut r = d.regs;
+    let t = step_in(p, s, &mut r, look::core_of(d));
+    packed(t, r)
+}

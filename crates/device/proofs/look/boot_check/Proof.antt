@@ -1,4 +1,4 @@
--- `runtime::look::boot_check` meets its contract. Each answer is the first refusal in a row of checks; what the checks before
+-- `look::boot_check` meets its contract. Each answer is the first refusal in a row of checks; what the checks before
 -- give is what the next one asks. Assumes nothing.
 use mathlib.Core.Bool.{not}
 use mathlib.Core.Path.{ap, _∙_}

@@ -1,4 +1,4 @@
--- `runtime::look::core_of` meets its contract. Assumes nothing.
+-- `look::core_of` meets its contract. Assumes nothing.
 use mathlib.Core.Path.{refl}
 use borrow.Author.Needs.{needs}
 use Rattle.device.proofs.look.core_of.Statement.{statement}

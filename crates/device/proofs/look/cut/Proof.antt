@@ -1,4 +1,4 @@
--- `runtime::look::cut` meets its contract. Assumes nothing.
+-- `look::cut` meets its contract. Assumes nothing.
 use mathlib.Core.Path.{refl}
 use Rattle.model.specs.Device.{fresh, cut}
 use Rattle.model.specs.Store.{settled}

@@ -1,4 +1,4 @@
--- `runtime::look::device_sound` meets its contract. Assumes nothing.
+-- `look::device_sound` meets its contract. Assumes nothing.
 use borrow.Author.Tests.{le-leb, lt-leb, eq-eqb, ne-eqb}
 use Rattle.model.specs.Device.{deviceSound}
 use Rattle.model.specs.Test.{pick, _and_}

@@ -1,4 +1,4 @@
--- `runtime::look::end_stores` meets its contract. Assumes nothing.
+-- `look::end_stores` meets its contract. Assumes nothing.
 use Rattle.model.specs.Device.{endStores}
 use borrow.Author.Needs.{needs}
 use Rattle.device.proofs.look.end_stores.Statement.{statement}

@@ -1,4 +1,4 @@
--- `runtime::look::handled` meets its contract. Assumes nothing.
+-- `look::handled` meets its contract. Assumes nothing.
 use mathlib.Core.Path.{refl}
 use Rattle.model.specs.Device.{handled}
 use borrow.Author.Needs.{needs}

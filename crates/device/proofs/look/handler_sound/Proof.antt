@@ -1,4 +1,4 @@
--- `runtime::look::handler_sound` meets its contract. Assumes nothing.
+-- `look::handler_sound` meets its contract. Assumes nothing.
 use borrow.Author.Tests.{lt-ltb, le-ltb}
 use Rattle.model.specs.Device.{handlerSound}
 use Rattle.model.specs.Test.{_and_}

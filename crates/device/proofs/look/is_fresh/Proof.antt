@@ -1,4 +1,4 @@
--- `runtime::look::is_fresh` meets its contract. Assumes nothing.
+-- `look::is_fresh` meets its contract. Assumes nothing.
 use Rattle.model.specs.Device.{isFresh}
 use borrow.Author.Needs.{needs}
 use Rattle.device.proofs.look.is_fresh.Statement.{statement}

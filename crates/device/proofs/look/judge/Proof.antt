@@ -1,4 +1,4 @@
--- `runtime::look::judge` meets its contract. Assumes nothing.
+-- `look::judge` meets its contract. Assumes nothing.
 use Rattle.model.specs.Device.{judged}
 use Rattle.model.specs.Store.{settled}
 use borrow.Author.Needs.{needs}

@@ -1,4 +1,4 @@
--- `runtime::look::last_stores` meets its contract. Assumes nothing.
+-- `look::last_stores` meets its contract. Assumes nothing.
 use borrow.Author.Tests.{eq-eqb, ne-eqb}
 use Rattle.model.specs.Device.{lastStores, taskLastStores, eventLastStores}
 use Rattle.model.specs.Test.{pick}

@@ -1,4 +1,4 @@
--- `runtime::look::look` meets its contract. Each answer is the first refusal in a row of checks; what the checks before give is
+-- `look::look` meets its contract. Each answer is the first refusal in a row of checks; what the checks before give is
 -- what the next one asks. Assumes nothing.
 use mathlib.Core.Path.{sym, _∙_}
 use borrow.Author.Tests.{not-true, not-false}

@@ -1,4 +1,4 @@
--- `runtime::look::look_at` meets its contract. A device is its core with its registers. Assumes nothing.
+-- `look::look_at` meets its contract. A device is its core with its registers. Assumes nothing.
 use mathlib.Core.Path.{ap, _∙_}
 use borrow.Author.Needs.{needs}
 use Rattle.model.specs.Device.{look}

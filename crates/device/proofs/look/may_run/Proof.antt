@@ -1,4 +1,4 @@
--- `runtime::look::may_run` meets its contract. Assumes nothing.
+-- `look::may_run` meets its contract. Assumes nothing.
 use mathlib.Core.Bool.{not}
 use mathlib.Core.Path.{ap}
 use borrow.Author.Tests.{lt-ltb, le-ltb, eq-eqb, ne-eqb}

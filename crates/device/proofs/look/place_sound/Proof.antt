@@ -1,4 +1,4 @@
--- `runtime::look::place_sound` meets its contract. The sum of word 11 and the last stores fits: in phases 1 and 2 word 11 is at
+-- `look::place_sound` meets its contract. The sum of word 11 and the last stores fits: in phases 1 and 2 word 11 is at
 -- most L. Assumes nothing.
 use native.Mathlib.Omega.{arith}
 use borrow.Author.Tests.{eq-eqb, ne-eqb}

@@ -1,4 +1,4 @@
--- `runtime::look::post` meets its contract. The device and the store are the defined ones, and so is the answer: it agrees up
+-- `look::post` meets its contract. The device and the store are the defined ones, and so is the answer: it agrees up
 -- to the place in 7. Assumes nothing.
 use mathlib.Core.Path.{_∙_}
 use Rattle.model.specs.Calls.{Post, call}

@@ -1,4 +1,4 @@
--- `runtime::look::post_check` meets its contract. Each answer is the first refusal in a row of checks; what `look` gives bounds
+-- `look::post_check` meets its contract. Each answer is the first refusal in a row of checks; what `look` gives bounds
 -- the reads after it. Assumes nothing.
 use mathlib.Core.Bool.{not}
 use mathlib.Core.Path.{sym, ap, _∙_}

@@ -1,4 +1,4 @@
--- `runtime::look::turned_on` meets its contract. Assumes nothing.
+-- `look::turned_on` meets its contract. Assumes nothing.
 use mathlib.Core.Path.{refl}
 use Rattle.model.specs.Device.{fresh}
 use borrow.Author.Needs.{needs}

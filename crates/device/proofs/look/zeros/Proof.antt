@@ -1,4 +1,4 @@
--- `runtime::look::zeros` meets its contract. The loop's invariant: the registers below i are 0. Assumes nothing.
+-- `look::zeros` meets its contract. The loop's invariant: the registers below i are 0. Assumes nothing.
 use Prim.Native.Nat.{ℕ, zero, suc, _+_, _-_, _≤_, _<_}
 use mathlib.Core.Bool.{Bool, true, false}
 use mathlib.Core.List.{List}

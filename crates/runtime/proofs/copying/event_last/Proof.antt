@@ -1,0 +1,56 @@
+-- `copying::event_last` meets its contract, by the number of the stores made. Assumes nothing.
+use mathlib.Core.Path.{_≡_}
+use native.Mathlib.Omega.{arith}
+use Rattle.model.specs.Device.{fresh, storing, eventLastStores, moved}
+use Rattle.model.specs.Store.{settled, index}
+use Rattle.model.specs.Test.{pick}
+use borrow.Author.Needs.{needs}
+use Rattle.runtime.proofs.copying.event_last.Statement.{statement}
+use Rattle.runtime.proofs.copying.event_last.Tie as tie
+
+slice-read-s : tie.Need-slice-read-s
+slice-read-s c = search needs
+
+slice-write-s : tie.Need-slice-write-s
+slice-write-s c = search needs
+
+add-t8 : tie.Need-add-t8
+add-t8 c = search needs
+
+stored-requires : tie.Need-stored-requires
+stored-requires c κs = search needs
+
+same-length : tie.Need-same-length
+same-length c = search needs
+
+returns : tie.Need-returns
+unfolding storing eventLastStores moved pick settled index fresh
+returns c = simp (c .before .before .if1 .taken, c .stored .ensures)
+
+slice-write-s-2 : tie.Need-slice-write-s-2
+slice-write-s-2 c = search needs
+
+turned-on-requires : tie.Need-turned-on-requires
+turned-on-requires c κs = search needs
+
+same-length-2 : tie.Need-same-length-2
+same-length-2 c = search needs
+
+returns-2 : tie.Need-returns-2
+unfolding storing eventLastStores moved pick settled index fresh
+returns-2 c = let e : c .before .before .before .before .args .k ≡ 1 = omega arith in rw (e, c .turned-on .ensures .0, c .turned-on .ensures .1)
+
+pub event-last-spec : {M : Type 1} → statement M
+event-last-spec =
+    tie.close
+    (tie.spec
+    slice-read-s
+    slice-write-s
+    add-t8
+    stored-requires
+    same-length
+    returns
+    slice-write-s-2
+    turned-on-requires
+    same-length-2
+    returns-2)

@@ -1,0 +1,57 @@
+-- `next_step` meets its contract, by the handler. Assumes nothing.
+use mathlib.Core.Path.{sym, ap, _∙_}
+use denote.Ref.{now}
+use Rattle.device.specs.Turn.{device, result}
+use Rattle.model.specs.Device.{nextStep}
+use Rattle.model.specs.Store.{view}
+use Rattle.model.specs.declared.Handler.{Handler}
+use borrow.Author.Needs.{needs}
+use Rattle.runtime.proofs.next_step.Statement.{statement}
+use Rattle.runtime.proofs.next_step.Tie as tie
+
+enum-told : tie.Need-enum-told
+enum-told c = search needs
+
+place-step-requires : tie.Need-place-step-requires
+place-step-requires c κs = c .before .before .before .before .before .before .pre
+
+enum-known-handler : tie.Need-enum-known-handler
+enum-known-handler c = search needs
+
+handler-step-requires : tie.Need-handler-step-requires
+handler-step-requires c κs = (c .before .before .before .before .before .before .pre .shaped .shaped, c .before .before .before .before .before .before .pre .early .control .tail-in)
+
+same-length : tie.Need-same-length
+same-length c = search needs
+
+returns : tie.Need-returns
+unfolding nextStep
+returns c =
+    let s = now (c .before .before .before .before .before .before .before .before .before .args .s) in
+    let p = now (c .before .before .before .before .before .before .before .before .before .args .p) in
+    let d = device (c .before .before .before .before .before .before .before .before .before .args .c) (now (c .before .before .before .before .before .before .before .before .before .args .r)) in
+    c .before .before .place-step .ensures ∙ ap (λ (h : Handler). result s (nextStep p (view s) d h)) (sym (c .before .before .before .before .before .enum-told .given .1))
+
+same-length-2 : tie.Need-same-length-2
+same-length-2 c = search needs
+
+returns-2 : tie.Need-returns-2
+unfolding nextStep
+returns-2 c =
+    let s = now (c .before .before .before .before .before .before .before .before .before .args .s) in
+    let p = now (c .before .before .before .before .before .before .before .before .before .args .p) in
+    let d = device (c .before .before .before .before .before .before .before .before .before .args .c) (now (c .before .before .before .before .before .before .before .before .before .args .r)) in
+    c .before .before .handler-step .ensures (now (c .before .before .before .before .before .before .before .before .before .args .r)) ∙ ap (λ (h : Handler). result s (nextStep p (view s) d h)) (sym (c .before .before .before .before .before .handler .given .1))
+
+pub next-step-spec : {M : Type 1} → statement M
+next-step-spec =
+    tie.close
+    (tie.spec
+    enum-told
+    place-step-requires
+    enum-known-handler
+    handler-step-requires
+    same-length
+    returns
+    same-length-2
+    returns-2)

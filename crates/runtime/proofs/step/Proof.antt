@@ -1,0 +1,40 @@
+-- `step` meets its contract: the device is taken apart and put together again. Assumes nothing.
+use mathlib.Core.Path.{ap, _∙_}
+use denote.Ref.{now}
+use Rattle.device.proofs.Agree.{performs}
+use Rattle.device.specs.Turn.{result}
+use Rattle.model.specs.Calls.{Step, call}
+use Rattle.model.specs.Device.{step}
+use Rattle.model.specs.declared.Device.{Device}
+use borrow.Author.Needs.{needs}
+use Rattle.runtime.proofs.step.Statement.{statement}
+use Rattle.runtime.proofs.step.Tie as tie
+
+core-of-requires : tie.Need-core-of-requires
+core-of-requires c κs = search needs
+
+step-in-requires : tie.Need-step-in-requires
+step-in-requires c κs = search needs
+
+packed-requires : tie.Need-packed-requires
+packed-requires c κs = search needs
+
+same-length : tie.Need-same-length
+same-length c = search needs
+
+returns : tie.Need-returns
+unfolding call step
+returns c =
+    let s = now (c .before .before .before .before .before .before .before .before .before .before .args .s) in
+    let p = now (c .before .before .before .before .before .before .before .before .before .before .args .p) in
+    performs p s (c .before .before .before .before .before .before .before .before .before .before .args .d) Step (c .packed .ensures _ ∙ c .before .before .before .step-in .ensures ∙ ap (λ (d : Device). result s (step p s d)) (c .before .before .before .before .core-of .ensures))
+
+pub step-spec : {M : Type 1} → statement M
+step-spec =
+    tie.close
+    (tie.spec
+    core-of-requires
+    step-in-requires
+    packed-requires
+    same-length
+    returns)
