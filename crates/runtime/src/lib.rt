@@ -20,6 +20,7 @@ use model::Handler;
 use model::Place;
 
 pub mod copying;
+pub mod run;
 pub mod steps;
 
 // With no body running: in phase 0 one is chosen, else a commit makes its next store.

@@ -1,0 +1,104 @@
+-- The laws of a run: a step that is refused ends it and changes nothing, one that isn't leaves the rest of the run, and the place in 7
+-- is that of a rule that the store left breaks. Assumes nothing.
+use Prim.Native.Nat.{ℕ, zero, suc, _+_}
+use mathlib.Core.Bool.{true}
+use mathlib.Core.List.{List}
+use mathlib.Core.Path.{_≡_, refl, sym, ap, _∙_}
+use Rattle.device.specs.Agree.{Agrees}
+use Rattle.model.proofs.Blamed.{place-is-broken}
+use Rattle.model.proofs.Refused.{refused-is}
+use Rattle.model.specs.Calls.{Ran, Step, call, unlessRefused, counted, runFrom, run}
+use Rattle.model.specs.Control.{rules, blames}
+use Rattle.model.specs.Device.{Out, out, refuse, step}
+use Rattle.model.specs.Store.{view, none, settled}
+use Rattle.model.specs.declared.Answer.{Answer}
+use Rattle.model.specs.declared.Checked.{Checked}
+use Rattle.model.specs.declared.Device.{Device}
+use Rattle.model.specs.declared.Ended.{Ended}
+use Rattle.model.specs.declared.Refusal.{Refusal}
+use Rattle.model.specs.declared.Totals.{Totals}
+use Rattle.totals.proofs.Told.{counted-is-told}
+use Rattle.totals.specs.Told.{told}
+
+-- ---- is an answer a refusal?
+
+abbrev pub refusalOf : Answer → Checked
+refusalOf a = unlessRefused a Checked.Refused Checked.Accepted
+
+stops {ℓ} : {A : Type ℓ} (a : Answer) {f : Refusal} (stop : Refusal → A) (rest : A) → refusalOf a ≡ Checked.Refused f → (a ≡ Answer.Refused f) × (unlessRefused a stop rest ≡ stop f)
+unfolding unlessRefused
+stops Answer.Done stop rest e = (cc, cc)
+stops (Answer.Chosen b) stop rest e = (cc, cc)
+stops Answer.Worked stop rest e = (cc, cc)
+stops Answer.Stored stop rest e = (cc, cc)
+stops (Answer.Committed b) stop rest e = (cc, cc)
+stops Answer.Accepted stop rest e = (cc, cc)
+stops (Answer.Refused r) stop rest e = (cc, cc)
+
+goes {ℓ} : {A : Type ℓ} (a : Answer) (stop : Refusal → A) (rest : A) → refusalOf a ≡ Checked.Accepted → unlessRefused a stop rest ≡ rest
+unfolding unlessRefused
+goes Answer.Done stop rest e = refl
+goes (Answer.Chosen b) stop rest e = refl
+goes Answer.Worked stop rest e = refl
+goes Answer.Stored stop rest e = refl
+goes (Answer.Committed b) stop rest e = refl
+goes Answer.Accepted stop rest e = refl
+goes (Answer.Refused r) stop rest e = cc
+
+either {ℓ} : {A : Type ℓ} (P : A → Type 0) (a : Answer) (stop : Refusal → A) (rest : A) → ((f : Refusal) → a ≡ Answer.Refused f → P (stop f)) → P rest → P (unlessRefused a stop rest)
+unfolding unlessRefused
+either P Answer.Done stop rest s g = g
+either P (Answer.Chosen b) stop rest s g = g
+either P Answer.Worked stop rest s g = g
+either P Answer.Stored stop rest s g = g
+either P (Answer.Committed b) stop rest s g = g
+either P Answer.Accepted stop rest s g = g
+either P (Answer.Refused r) stop rest s g = s r refl
+
+-- ---- a run at its next step, n steps made
+
+abbrev pub ended : ℕ → Ended → List ℕ → Device → Totals → Ran
+ended n e s d t = record { steps = n; ended = e; store = s; device = d; totals = t }
+
+pub run-spent : (p : List ℕ) (n : ℕ) (s : List ℕ) (d : Device) (t : Totals) → runFrom p 0 n s d t ≡ ended n Ended.Spent s d t
+unfolding runFrom
+run-spent p n s d t = refl
+
+module _ (p : List ℕ) (k j n : ℕ) (s : List ℕ) (d : Device) (t : Totals) (left : k ≡ suc j) where
+  abbrev o : Out
+  o = step p s d
+
+  pub run-stops : {f : Refusal} → refusalOf (o .answer) ≡ Checked.Refused f → runFrom p k n s d t ≡ ended n (Ended.Refused f) (settled s (o .write)) (o .device) t
+  unfolding runFrom call settled
+  run-stops {f = f} e =
+      let h = stops (o .answer) (λ f. ended n (Ended.Refused f) s d t) (runFrom p j (n + 1) (settled s (o .write)) (o .device) (counted t o)) e in
+      let q : o ≡ refuse d f = refused-is p s d Step f (h .0) in
+      rw left (h .1 ∙ ap (λ (x : Out). ended n (Ended.Refused f) (settled s (x .write)) (x .device) t) (sym q))
+
+  pub run-goes : refusalOf (o .answer) ≡ Checked.Accepted → runFrom p k n s d t ≡ runFrom p j (n + 1) (settled s (o .write)) (o .device) (told t (o .answer))
+  unfolding runFrom
+  run-goes e =
+      rw left
+      (goes (o .answer) (λ f. ended n (Ended.Refused f) s d t) _ e
+      ∙ ap (λ (x : Totals). runFrom p j (n + 1) (settled s (o .write)) (o .device) x) (counted-is-told p s t d))
+
+-- ---- the place in 7
+
+abbrev Blames : List ℕ → Ran → Type 0
+Blames p x = (w : ℕ) → x .ended ≡ Ended.Refused (Refusal.Control w) → blames (rules p (view (x .store))) w ≡ true
+
+same-refusal : {a b : Refusal} → Ended.Refused a ≡ Ended.Refused b → a ≡ b
+same-refusal e = cc
+
+run-blames : (p : List ℕ) (k n : ℕ) (s : List ℕ) (d : Device) (t : Totals) → Blames p (runFrom p k n s d t)
+unfolding runFrom call
+run-blames p zero n s d t = λ w e. cc
+run-blames p (suc k) n s d t =
+    either (Blames p) (step p s d .answer) _ _
+    (λ f e w q. place-is-broken p s d Step w (e ∙ ap Answer.Refused (same-refusal q)))
+    (run-blames p k (n + 1) (settled s (step p s d .write)) (step p s d .device) (counted t (step p s d)))
+
+-- a defined end agrees with itself
+pub run-agrees : (p : List ℕ) (k : ℕ) (s : List ℕ) (d : Device) (t : Totals) → Agrees (rules p (view (run p k s d t .store))) Ended.Refused (run p k s d t .ended) (run p k s d t .ended)
+unfolding run
+run-agrees p k s d t = record { same = λ _. refl; placed = λ w e. (w, e, run-blames p k 0 s d t w e) }

@@ -1,0 +1,2 @@
+-- What an answer adds to the host's totals.
+pub mod Told

@@ -1,0 +1,73 @@
+-- The words of a device state are its own. `back`: the words of a device state are read as that state, so no two states share their
+-- words. `forth`: 18 words that are read as a device state are its words. `other`: 18 words that are no device state's are read as
+-- none. Assumes nothing.
+use Prim.Native.Nat.{ℕ}
+use mathlib.Core.Bool.{Bool, true, false}
+use mathlib.Core.List.{List, _∷_, _++_}
+use mathlib.Core.Path.{_≡_, refl, sym, ap}
+use lib.Dec.{leb}
+use lib.ListN.{length}
+use Rattle.model.proofs.TestLaws.{and-left, and-right, clash}
+use Rattle.model.specs.Program.{word}
+use Rattle.model.specs.Test.{pick, _and_}
+use Rattle.model.specs.declared.Device.{Device}
+use Rattle.words.specs.declared.Read.{Read}
+use Rattle.words.specs.Words.{flag, placeWords, handlerWords, deviceWords}
+use Rattle.words.specs.Words.{isPlace, isHandler, known, unknown, isState, stateOf, deviceOf}
+use Rattle.words.proofs.Parts.{spelt, spelt-all, place-spelt, handler-spelt}
+use Rattle.words.proofs.Parts.{flag-is, flag-back, flag-forth, place-is, place-back, place-forth}
+use Rattle.words.proofs.Parts.{handler-is, handler-back, handler-forth}
+
+-- ---- back
+
+-- 18 words, each written out
+abbrev written : Device → List ℕ
+written d =
+    flag (d .on)
+    ∷ (spelt (d .regs) 0 8 ++ (spelt (placeWords (d .place)) 0 5 ++ (d .count ∷ spelt (handlerWords (d .handler)) 0 3)))
+
+written-all : (d : Device) → deviceWords d ≡ written d
+unfolding deviceWords spelt
+written-all d = sym (simp (place-spelt, handler-spelt))
+
+pub back : (d : Device) → length (d .regs) ≡ 8 → deviceOf (deviceWords d) ≡ known d
+unfolding deviceOf isState stateOf spelt pick _and_
+back d h =
+    rw (written-all d)
+    (simp (flag-is, flag-back, place-is, place-back, handler-is, handler-back, spelt-all (d .regs) 8 h))
+
+-- ---- forth
+
+state-forth : (w : List ℕ) → length w ≡ 18 → isState w ≡ true → deviceWords (stateOf w) ≡ w
+unfolding deviceWords isState stateOf spelt
+state-forth w h e =
+    let on = leb (word w 0) 1 in
+    let place = isPlace (word w 9) (word w 10) (word w 11) (word w 12) (word w 13) in
+    let handler = isHandler (word w 15) (word w 16) (word w 17) in
+    let rest : (place and handler) ≡ true = and-right on (place and handler) e in
+    simp (
+      flag-forth (word w 0) (and-left on (place and handler) e),
+      place-forth (word w 9) (word w 10) (word w 11) (word w 12) (word w 13) (and-left place handler rest),
+      handler-forth (word w 15) (word w 16) (word w 17) (and-right place handler rest),
+    )
+    (spelt-all w 18 h)
+
+pub forth : (w : List ℕ) (d : Device) → length w ≡ 18 → deviceOf w ≡ known d → deviceWords d ≡ w
+unfolding deviceOf pick
+forth w d h e = go (isState w) refl
+  where
+    go : (b : Bool) → isState w ≡ b → deviceWords d ≡ w
+    go true t =
+        let k : known (stateOf w) ≡ known d = rw t at e in
+        rw (sym (ap (λ (r : Read). r .device) k)) (state-forth w h t)
+    go false t =
+        let k : unknown ≡ known d = rw t at e in
+        clash refl (sym (ap (λ (r : Read). r .found) k))
+
+pub other : (w : List ℕ) → length w ≡ 18 → ((d : Device) → length (d .regs) ≡ 8 → deviceWords d ≡ w → ⊥) → deviceOf w ≡ unknown
+unfolding deviceOf stateOf pick
+other w h apart = go (isState w) refl
+  where
+    go : (b : Bool) → isState w ≡ b → deviceOf w ≡ unknown
+    go true t = absurd (apart (stateOf w) refl (state-forth w h t))
+    go false t = simp t

@@ -1,0 +1,19 @@
+-- `words::flag` meets its contract: both ways of its test. Assumes nothing.
+use Rattle.words.specs.Words.{flag}
+use Rattle.words.proofs.flag.Statement.{statement}
+use Rattle.words.proofs.flag.Tie as tie
+
+returns : tie.Need-returns
+unfolding flag
+returns c = simp (c .if1 .taken)
+
+returns-2 : tie.Need-returns-2
+unfolding flag
+returns-2 c = simp (c .if1 .left)
+
+pub flag-spec : {M : Type 1} → statement M
+flag-spec =
+    tie.close
+    (tie.spec
+    returns
+    returns-2)

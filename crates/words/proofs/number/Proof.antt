@@ -1,0 +1,28 @@
+-- `words::number` meets its contract: one line for each case. Assumes nothing.
+use Rattle.words.specs.Words.{number}
+use borrow.Author.Needs.{needs}
+use Rattle.words.proofs.number.Statement.{statement}
+use Rattle.words.proofs.number.Tie as tie
+
+enum-known-b : tie.Need-enum-known-b
+enum-known-b c = search needs
+
+enum-known-b-2 : tie.Need-enum-known-b-2
+enum-known-b-2 c = search needs
+
+returns : tie.Need-returns
+unfolding number
+returns c = simp (c .before .b .given .1)
+
+returns-2 : tie.Need-returns-2
+unfolding number
+returns-2 c = simp (c .before .b2 .given .1)
+
+pub number-spec : {M : Type 1} → statement M
+number-spec =
+    tie.close
+    (tie.spec
+    enum-known-b
+    enum-known-b-2
+    returns
+    returns-2)

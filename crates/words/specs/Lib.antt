@@ -1,0 +1,2 @@
+-- Device states, answers and refusals as words.
+pub mod Words

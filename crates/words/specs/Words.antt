@@ -1,0 +1,153 @@
+-- Device states, answers and refusals as words, for a boundary that no enum crosses; conformance/include/runtime.h has the forms for C.
+-- What a case doesn't have is 0. A refusal's number and place are those of the model's Answer.antt. Words that aren't the words
+-- of some device state stand for none: proofs/Words.antt has that, and that a device state is read back from its words. Assumes nothing.
+use Prim.Native.Nat.{ℕ}
+use mathlib.Core.Bool.{Bool, true, false}
+use mathlib.Core.List.{List, [], _∷_, _++_}
+use lib.Dec.{eqb, leb}
+use Rattle.model.specs.Answer.{refusal}
+use Rattle.model.specs.Device.{off}
+use Rattle.model.specs.Program.{word}
+use Rattle.model.specs.Test.{pick, _and_}
+use Rattle.model.specs.declared.Answer.{Answer}
+use Rattle.model.specs.declared.Body.{Body}
+use Rattle.model.specs.declared.Checked.{Checked}
+use Rattle.model.specs.declared.Device.{Device}
+use Rattle.model.specs.declared.Ended.{Ended}
+use Rattle.model.specs.declared.Handler.{Handler}
+use Rattle.model.specs.declared.Handler.the-variants.{Resting, Storing}
+use Rattle.model.specs.declared.Next.{Next}
+use Rattle.model.specs.declared.Place.{Place}
+use Rattle.model.specs.declared.Place.the-variants.{Free, Run, Half}
+use Rattle.model.specs.declared.Refusal.{Refusal}
+use Rattle.words.specs.declared.Read.{Read}
+
+-- ---- A device state as 18 words
+
+-- a test is a word, 1 or 0
+unfoldable pub flag : Bool → ℕ
+flag true = 1
+flag false = 0
+
+-- a body is two words: its kind, task or event, and its number
+unfoldable pub kind : Body → ℕ
+kind (Body.Task n) = 0
+kind (Body.Event n) = 1
+
+unfoldable pub number : Body → ℕ
+number (Body.Task n) = n
+number (Body.Event n) = n
+
+-- words 9 to 13: no body, running or half a SAVE; kind of body; its number; its instruction; commit place, or ending stores made
+unfoldable pub placeWords : Place → List ℕ
+placeWords (Free c) = 0 ∷ 0 ∷ 0 ∷ 0 ∷ c ∷ []
+placeWords (Run b j c) = 1 ∷ kind b ∷ number b ∷ j ∷ c ∷ []
+placeWords (Half b j) = 2 ∷ kind b ∷ number b ∷ j ∷ 0 ∷ []
+
+-- the number of a handler's next store; 0 is a handler at rest
+unfoldable pub nextWord : Next → ℕ
+nextWord Next.Event = 1
+nextWord Next.Data = 2
+nextWord Next.Tail = 3
+
+-- words 15 to 17: at rest or the next store; its event; its data
+unfoldable pub handlerWords : Handler → List ℕ
+handlerWords Resting = 0 ∷ 0 ∷ 0 ∷ []
+handlerWords (Storing n e x) = nextWord n ∷ e ∷ x ∷ []
+
+-- word 0: on; words 1 to 8: the registers; word 14: the log count
+unfoldable pub deviceWords : Device → List ℕ
+deviceWords d =
+    let r = d .regs in
+    (flag (d .on) ∷ word r 0 ∷ word r 1 ∷ word r 2 ∷ word r 3 ∷ word r 4 ∷ word r 5 ∷ word r 6 ∷ word r 7 ∷ placeWords (d .place))
+    ++ (d .count ∷ handlerWords (d .handler))
+
+-- ---- 18 words as a device state
+
+-- the body of its two words
+unfoldable pub bodyOf : ℕ → ℕ → Body
+bodyOf k n = pick (eqb k 0) (Body.Task n) (Body.Event n)
+
+-- the place of words 9 to 13, and whether they are the words of a place
+unfoldable pub placeOf : ℕ → ℕ → ℕ → ℕ → ℕ → Place
+placeOf p k n j c = pick (eqb p 0) (Free c) (pick (eqb p 1) (Run (bodyOf k n) j c) (Half (bodyOf k n) j))
+
+unfoldable pub isPlace : ℕ → ℕ → ℕ → ℕ → ℕ → Bool
+isPlace p k n j c =
+    pick (eqb p 0) (eqb k 0 and eqb n 0 and eqb j 0) (leb k 1 and pick (eqb p 1) true (eqb p 2 and eqb c 0))
+
+-- a handler's next store of its number
+unfoldable pub nextOf : ℕ → Next
+nextOf h = pick (eqb h 1) Next.Event (pick (eqb h 2) Next.Data Next.Tail)
+
+-- the handler of words 15 to 17, and whether they are the words of a handler
+unfoldable pub handlerOf : ℕ → ℕ → ℕ → Handler
+handlerOf h e x = pick (eqb h 0) Resting (Storing (nextOf h) e x)
+
+unfoldable pub isHandler : ℕ → ℕ → ℕ → Bool
+isHandler h e x = pick (eqb h 0) (eqb e 0 and eqb x 0) (leb h 3)
+
+-- what reading finds: a device state, or none, with the off value in its place
+abbrev pub known : Device → Read
+known d = record { found = true; device = d }
+
+abbrev pub unknown : Read
+unknown = record { found = false; device = off }
+
+-- the device state of 18 words, and whether they are the words of one
+unfoldable pub isState : List ℕ → Bool
+isState w =
+    leb (word w 0) 1
+    and isPlace (word w 9) (word w 10) (word w 11) (word w 12) (word w 13)
+    and isHandler (word w 15) (word w 16) (word w 17)
+
+unfoldable pub stateOf : List ℕ → Device
+stateOf w =
+    record {
+      on = eqb (word w 0) 1;
+      regs = word w 1 ∷ word w 2 ∷ word w 3 ∷ word w 4 ∷ word w 5 ∷ word w 6 ∷ word w 7 ∷ word w 8 ∷ [];
+      place = placeOf (word w 9) (word w 10) (word w 11) (word w 12) (word w 13);
+      count = word w 14;
+      handler = handlerOf (word w 15) (word w 16) (word w 17);
+    }
+
+-- the device state whose words these are, if there is one
+unfoldable pub deviceOf : List ℕ → Read
+deviceOf w = pick (isState w) (known (stateOf w)) unknown
+
+-- ---- Answers as 5 words: case, kind of body, number (of the body or of the refusal), place (two words)
+
+-- a case that has a body, and one that has nothing more to say
+abbrev pub bodyAnswer : ℕ → Body → List ℕ
+bodyAnswer a b = a ∷ kind b ∷ number b ∷ 0 ∷ 0 ∷ []
+
+abbrev pub plainAnswer : ℕ → List ℕ
+plainAnswer a = a ∷ 0 ∷ 0 ∷ 0 ∷ 0 ∷ []
+
+-- a refusal: its number and place as the model has them
+unfoldable pub refusedWords : Refusal → List ℕ
+refusedWords e = 6 ∷ 0 ∷ refusal e .number ∷ refusal e .first ∷ refusal e .second ∷ []
+
+-- what a call answers
+unfoldable pub answerWords : Answer → List ℕ
+answerWords Answer.Done = plainAnswer 0
+answerWords (Answer.Chosen b) = bodyAnswer 1 b
+answerWords Answer.Worked = plainAnswer 2
+answerWords Answer.Stored = plainAnswer 3
+answerWords (Answer.Committed b) = bodyAnswer 4 b
+answerWords Answer.Accepted = plainAnswer 5
+answerWords (Answer.Refused e) = refusedWords e
+
+-- how a run ends: spent, or a refusal as in an answer
+unfoldable pub endedWords : Ended → List ℕ
+endedWords Ended.Spent = plainAnswer 7
+endedWords (Ended.Refused e) = refusedWords e
+
+-- what a check finds: accepted is done, a refusal as in an answer
+unfoldable pub checkedWords : Checked → List ℕ
+checkedWords Checked.Accepted = plainAnswer 0
+checkedWords (Checked.Refused e) = refusedWords e
+
+-- where the device words stand for no device state
+unfoldable pub unknownWords : List ℕ
+unknownWords = plainAnswer 8
