@@ -1,0 +1,38 @@
+-- `runtime_boot` meets its contract, by whether the device words are those of a device state. Assumes nothing.
+use mathlib.Core.Path.{refl}
+use denote.Ref.{now}
+use Rattle.exports.proofs.OnDevice.{on-state, on-none}
+use borrow.Author.Needs.{needs}
+use Rattle.exports.proofs.runtime_boot.Statement.{statement}
+use Rattle.exports.proofs.runtime_boot.Tie as tie
+
+read-device-requires : tie.Need-read-device-requires
+read-device-requires c κs = search needs
+
+write-unknown-requires : tie.Need-write-unknown-requires
+write-unknown-requires c κs = search needs
+
+returns : tie.Need-returns
+returns c = on-none (now (c .before .before .before .before .before .before .before .before .args .device)) _ _ (c .before .before .before .before .read-device .result) (c .before .before .before .before .read-device .ensures) (c .before .before .if1 .taken) (c .write-unknown .ensures, refl)
+
+boot-requires : tie.Need-boot-requires
+boot-requires c κs = search needs
+
+tell-requires : tie.Need-tell-requires
+tell-requires c κs = search needs
+
+returns-2 : tie.Need-returns-2
+returns-2 c =
+    on-state (now (c .before .before .before .before .before .before .before .before .before .before .before .args .device)) _ _ (c .before .before .before .before .before .before .before .read-device .result) (c .before .before .before .before .before .before .before .read-device .ensures) (c .before .before .before .before .before .if1 .left)
+    (c .before .before .before .boot .result, c .before .before .before .boot .ensures, c .tell .ensures .0, c .tell .ensures .1)
+
+pub runtime-boot-spec : {M : Type 1} → statement M
+runtime-boot-spec =
+    tie.close
+    (tie.spec
+    read-device-requires
+    write-unknown-requires
+    returns
+    boot-requires
+    tell-requires
+    returns-2)
