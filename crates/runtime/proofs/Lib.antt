@@ -1,4 +1,4 @@
 -- The laws that belong to no one function.
 pub mod Cases
-pub mod Counts
 pub mod Runs
+pub mod Told

@@ -4,7 +4,7 @@ use denote.Ref.{now}
 use Rattle.exports.proofs.OnDevice.{on-state, on-none}
 use Rattle.exports.specs.Exported.{totalsOf, totalsWords}
 use Rattle.model.specs.declared.Totals.{Totals}
-use Rattle.runtime.proofs.Counts.{counts}
+use Rattle.runtime.proofs.Told.{told-is-counted}
 use Rattle.totals.specs.Told.{told}
 use borrow.Author.Needs.{needs}
 use Rattle.exports.proofs.runtime_step.Statement.{statement}
@@ -47,7 +47,7 @@ returns-2 c =
           ∙ ap totalsWords
           (c .before .before .before .before .before .counted .ensures
           ∙ ap (λ (t : Totals). told t (c .before .before .before .before .before .before .before .before .before .before .step .result .answer)) (c .before .before .before .before .before .before .totals-of .ensures)
-          ∙ counts p s _ (c .before .before .before .before .before .before .before .before .before .before .before .before .before .before .before .read-device .result .device) (c .before .before .before .before .before .before .before .before .before .before .step .result) (totalsOf (now (c .before .before .before .before .before .before .before .before .before .before .before .before .before .before .before .before .before .before .before .args .totals))) (c .before .before .before .before .before .before .before .before .before .before .step .ensures)),
+          ∙ told-is-counted p s _ (c .before .before .before .before .before .before .before .before .before .before .before .before .before .before .before .read-device .result .device) (c .before .before .before .before .before .before .before .before .before .before .step .result) (totalsOf (now (c .before .before .before .before .before .before .before .before .before .before .before .before .before .before .before .before .before .before .before .args .totals))) (c .before .before .before .before .before .before .before .before .before .before .step .ensures)),
     )
 
 pub runtime-step-spec : {M : Type 1} → statement M

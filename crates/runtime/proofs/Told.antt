@@ -1,9 +1,10 @@
--- The totals told by a step's answer are the totals counted, though the place in 7 is free. Assumes nothing.
+-- The totals told by a step's answer are the totals counted: the answer is the defined one but for the place in 7, and a refusal adds
+-- nothing whatever its place. Assumes nothing.
 use Prim.Native.Nat.{ℕ}
 use mathlib.Core.List.{List}
 use mathlib.Core.Path.{_≡_, refl, sym, ap, _∙_}
 use native.Mathlib.Omega.{arith}
-use Rattle.model.specs.Calls.{moreIf, isCommit, isAccept, counted}
+use Rattle.model.specs.Calls.{isCommit, isAccept, counted}
 use Rattle.model.specs.Control.{Rule}
 use Rattle.model.specs.Device.{step}
 use Rattle.model.specs.declared.Answer.{Answer}
@@ -16,11 +17,12 @@ use Rattle.device.specs.declared.Stepped.{Stepped}
 use Rattle.totals.proofs.Told.{counted-is-told}
 use Rattle.totals.specs.Told.{stores, told}
 
+-- answers that agree tell the same totals
 module _ (rs : List Rule) (t : Totals) where
   abbrev Same : Answer → Type 0
   Same a = (b : Answer) → Agrees rs Answer.Refused a b → told t b ≡ told t a
 
-  -- an answer that isn't 7
+  -- an answer that isn't 7, which `cc` shows as 0 ≡ 1
   other : (a : Answer) → ((w : ℕ) → a ≡ Answer.Refused (Refusal.Control w) → _≡_ {A = ℕ} 0 1) → Same a
   other a f b h = ap (told t) (h .same (λ w e. let z = f w e in omega arith))
 
@@ -52,5 +54,5 @@ module _ (rs : List Rule) (t : Totals) where
   same-told Answer.Accepted = other _ (λ w e. cc)
   same-told (Answer.Refused r) = same-refused r
 
-pub counts : (p s z : List ℕ) (d : Device) (r : Stepped) (t : Totals) → Performs p s (step p s d) (afterCall r z) → told t (r .answer) ≡ counted t (step p s d)
-counts p s z d r t h = same-told _ t (step p s d .answer) (r .answer) (h .answer) ∙ sym (counted-is-told p s t d)
+pub told-is-counted : (p s z : List ℕ) (d : Device) (r : Stepped) (t : Totals) → Performs p s (step p s d) (afterCall r z) → told t (r .answer) ≡ counted t (step p s d)
+told-is-counted p s z d r t h = same-told _ t (step p s d .answer) (r .answer) (h .answer) ∙ sym (counted-is-told p s t d)
