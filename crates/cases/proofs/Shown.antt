@@ -1,0 +1,52 @@
+-- The definitions' side of the cases: what a chain of calls shows, and two starred cases computed. Assumes nothing.
+use Prim.Native.Nat.{ℕ}
+use mathlib.Core.List.{List, [], _∷_}
+use mathlib.Core.Path.{_≡_, refl}
+use lib.ListN.{replicate}
+use native.Mathlib.Omega.{arith}
+use Rattle.model.specs.Test.{pick, _and_, _or_, must, _then_, each}
+use Rattle.model.specs.Program.{programMark, decode, bounds, mayBeLast, signed, unsigned, shifted, less, effect, effectAt, newOpen, number}
+use Rattle.model.specs.Check.{contentsRule, rowsInside, limits, due, rowRule, rows, rowUsed, fieldsFit, lastFits, instructionRule, bodyRule, check}
+use Rattle.model.specs.Store.{storeMark, storeContents, index, settled, findFrom, find, after, formatted, sizesRule, storeRule, format, formatCheck, formatStore}
+use Rattle.model.specs.Control.{obey, obeyAll, upTo, phaseRule, taskRule, openRule, openServing, countRule, pendingTaskRule, headRule, tailRule, pendingHeadRule, pendingOpenRule, addressRule, between, recordRule, controlRules, rules, earlyRules}
+use Rattle.model.specs.Device.{off, fresh, moved, handled, judged, storing, taskStores, eventStores, taskLastStores, eventLastStores, lastStores, mayRun, endStores, placeSound, handlerSound, isFresh, zeros, deviceSound, look, bootCheck, boot, cut, atRest, postCheck, post, handlerStep, pairSound, copyStep, begun, recordSound, chooseStep, headSound, namedRow, openSound, headIs, ends, saves, placeFits, bodySound, shown, saveStep, act, saveRest, placeStep, nextStep, step}
+use Rattle.model.specs.Calls.{unlessRefused, counted, more, moreIf, isCommit, isAccept, isStore, runFrom, run}
+use Rattle.model.specs.Starred.{counting}
+use Rattle.model.specs.declared.Answer.{Answer}
+use Rattle.model.specs.declared.Device.{Device}
+use Rattle.model.specs.declared.Refusal.{Refusal}
+use Rattle.cases.specs.Seen.{none, storeAfter, cutAfter, furtherPost}
+
+-- ---- from the calls' contracts to what is seen: s₁ is formatted, d₁ booted
+
+module _ (p s : List ℕ) {s₁ s₂ : List ℕ} {d₁ : Device} (formatted : s₁ ≡ format p 1 1 s) (on : d₁ ≡ boot p s₁ off .device) where
+  pub cut-seen : (n m : ℕ) {s₃ : List ℕ} {d₂ : Device}
+      → s₂ ≡ run p n s₁ d₁ none .store
+      → d₂ ≡ boot p s₂ (cut .device) .device
+      → s₃ ≡ run p m s₂ d₂ none .store
+      → s₃ ≡ storeAfter p s n m
+  unfolding storeAfter
+  cut-seen n m a b e = rw (e, b, a, on, formatted)
+
+  pub post-seen : (n : ℕ) {d₂ d₃ : Device}
+      → d₂ ≡ post p s₁ d₁ 0 7 .device
+      → s₂ ≡ run p n s₁ d₂ none .store
+      → d₃ ≡ run p n s₁ d₂ none .device
+      → post p s₂ d₃ 0 7 .answer ≡ furtherPost p s n
+  unfolding furtherPost
+  post-seen n a b e = rw (e, b, a, on, formatted)
+
+-- ---- the cases
+
+pub record Cases : Type 0 where
+  pub nine : cutAfter 9 0 ≡ 0 ∷ 0 ∷ 0 ∷ []
+  pub ten : cutAfter 10 4 ≡ 0 ∷ 1 ∷ 0 ∷ []
+  pub ten-but-one : cutAfter 10 3 ≡ 1 ∷ 1 ∷ 0 ∷ []
+  pub further : furtherPost counting (replicate 24 0) 3 ≡ Answer.Refused Refusal.QueueFull
+
+pub cases : Cases
+unfolding storeAfter cutAfter furtherPost pick _and_ _or_ must _then_ each programMark decode bounds mayBeLast signed unsigned shifted less effect effectAt newOpen number contentsRule rowsInside limits due rowRule rows rowUsed fieldsFit lastFits instructionRule bodyRule check storeMark storeContents index settled findFrom find after formatted sizesRule storeRule format formatCheck formatStore obey obeyAll upTo phaseRule taskRule openRule openServing countRule pendingTaskRule headRule tailRule pendingHeadRule pendingOpenRule addressRule between recordRule controlRules rules earlyRules fresh moved handled judged storing taskStores eventStores taskLastStores eventLastStores lastStores mayRun endStores placeSound handlerSound isFresh zeros deviceSound look bootCheck boot cut atRest postCheck post handlerStep pairSound copyStep begun recordSound chooseStep headSound namedRow openSound headIs ends saves placeFits bodySound shown saveStep act saveRest placeStep nextStep step unlessRefused counted more moreIf isCommit isAccept isStore runFrom run counting
+cases = record { nine = refl; ten = refl; ten-but-one = refl; further = refl }
+
+pub queue-full-is-not-7 : {w : ℕ} → Answer.Refused Refusal.QueueFull ≡ Answer.Refused (Refusal.Control w) → ⊥
+queue-full-is-not-7 e = let z : _≡_ {A = ℕ} 0 1 = cc in omega arith

@@ -1,0 +1,16 @@
+-- `counting` meets its contract: the words. Assumes nothing.
+use mathlib.Core.Path.{refl}
+use Rattle.model.specs.Starred.{counting}
+use borrow.Author.Needs.{needs}
+use Rattle.cases.proofs.counting.Statement.{statement}
+use Rattle.cases.proofs.counting.Tie as tie
+
+returns : tie.Need-returns
+unfolding counting
+returns c = refl
+
+pub counting-spec : {M : Type 1} → statement M
+counting-spec =
+    tie.close
+    (tie.spec
+    returns)

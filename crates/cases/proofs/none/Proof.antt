@@ -1,0 +1,14 @@
+-- `none` meets its contract. Assumes nothing.
+use mathlib.Core.Path.{refl}
+use borrow.Author.Needs.{needs}
+use Rattle.cases.proofs.none.Statement.{statement}
+use Rattle.cases.proofs.none.Tie as tie
+
+returns : tie.Need-returns
+returns c = refl
+
+pub none-spec : {M : Type 1} → statement M
+none-spec =
+    tie.close
+    (tie.spec
+    returns)
