@@ -2,6 +2,7 @@
 //! are held against, a generator of programs and schedules, and a driver that compares two implementations
 //! call by call.
 
+pub mod cases;
 pub mod compare;
 pub mod foreign;
 pub mod generate;
@@ -13,3 +14,4 @@ pub mod scenario;
 pub mod selfrun;
 pub mod serial;
 pub mod shorten;
+pub mod standin;
