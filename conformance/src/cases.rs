@@ -424,6 +424,8 @@ pub const CASES: [(&str, fn(&dyn Runtime)); 20] = [
 
 /// Every case on an implementation. Whether all hold.
 pub fn all(runtime: &dyn Runtime) -> bool {
+    let before = std::panic::take_hook();
+    std::panic::set_hook(Box::new(|what| println!("{what}")));
     let mut well = true;
     for (name, case) in CASES {
         let held = std::panic::catch_unwind(std::panic::AssertUnwindSafe(|| case(runtime)));
@@ -432,5 +434,6 @@ pub fn all(runtime: &dyn Runtime) -> bool {
             well = false;
         }
     }
+    std::panic::set_hook(before);
     well
 }

@@ -6,6 +6,8 @@ pub mod cases;
 pub mod compare;
 pub mod foreign;
 pub mod generate;
+#[cfg(feature = "library")]
+pub mod library;
 pub mod many;
 pub mod mutants;
 pub mod reference;

@@ -179,11 +179,11 @@ pub struct Wanted {
 /// The cases and many scenarios, or a replay, as asked for. Whether all is well.
 pub fn command(first: &dyn Runtime, second: &dyn Runtime, wanted: &Wanted) -> bool {
     let Some(file) = &wanted.replay else {
-        if !cases::all(second) {
-            return false;
+        let hold = cases::all(first) && cases::all(second);
+        if hold {
+            println!("{} cases of the counting program and others hold", cases::CASES.len());
         }
-        println!("{} cases hold", cases::CASES.len());
-        return many(first, second, wanted.seed, wanted.calls);
+        return many(first, second, wanted.seed, wanted.calls) && hold;
     };
     let mut text = String::new();
     let read = match file.as_str() {

@@ -2,7 +2,7 @@
 //! still catches it, and what isn't a mistake passes. Also the boundary to C functions and the text form.
 
 use conformance::compare::{self, Counts};
-use conformance::foreign::Foreign;
+use conformance::foreign::{Foreign, Functions};
 use conformance::generate::scenario;
 use conformance::mutants::{LastPlace, Mistake, Mutant, MISTAKES};
 use conformance::reference::Reference;
@@ -108,5 +108,88 @@ fn the_boundary_to_c_functions() {
     // Each call that is given the device met words that are none.
     for kind in 2..7 {
         assert!(counts.no_device[kind] > 0);
+    }
+}
+
+// C functions with a mistake at the boundary, each beside right ones.
+
+unsafe extern "C" fn cut_of_any_words(device: *mut u16, answer: *mut u16) {
+    std::slice::from_raw_parts_mut(device, 18).fill(0);
+    std::slice::from_raw_parts_mut(answer, 5).fill(0);
+}
+
+unsafe extern "C" fn cut_without_an_answer(device: *mut u16, _answer: *mut u16) {
+    let mut answer = [0; 5];
+    standin::cut(device, answer.as_mut_ptr());
+}
+
+unsafe extern "C" fn cut_with_19_words(device: *mut u16, answer: *mut u16) {
+    standin::cut(device, answer);
+    *device.add(18) = 0;
+}
+
+unsafe extern "C" fn check_with_six_words(program: *const u16, length: usize, answer: *mut u16) {
+    standin::check(program, length, answer);
+    *answer.add(5) = 0;
+}
+
+unsafe extern "C" fn check_by_another_case(program: *const u16, length: usize, answer: *mut u16) {
+    standin::check(program, length, answer);
+    if *answer == 0 {
+        *answer = 7;
+    }
+}
+
+/// Words 11 and 12 aren't looked at where no body runs.
+unsafe extern "C" fn step_reads_loosely(
+    program: *const u16,
+    length: usize,
+    store: *mut u16,
+    store_length: usize,
+    device: *mut u16,
+    totals: *mut u32,
+    answer: *mut u16,
+) {
+    if *device.add(9) == 0 {
+        *device.add(11) = 0;
+        *device.add(12) = 0;
+    }
+    standin::step(program, length, store, store_length, device, totals, answer)
+}
+
+/// A run without a device counts a step.
+unsafe extern "C" fn run_counts_without_a_device(
+    program: *const u16,
+    length: usize,
+    store: *mut u16,
+    store_length: usize,
+    device: *mut u16,
+    totals: *mut u32,
+    budget: u32,
+    answer: *mut u16,
+) -> u32 {
+    let steps = standin::run(program, length, store, store_length, device, totals, budget, answer);
+    steps + (*answer == 8) as u32
+}
+
+#[test]
+fn mistakes_at_the_boundary_are_caught() {
+    let right = standin::FUNCTIONS;
+    let wrong = [
+        Functions { cut: cut_of_any_words, ..right },
+        Functions { cut: cut_without_an_answer, ..right },
+        Functions { cut: cut_with_19_words, ..right },
+        Functions { check: check_with_six_words, ..right },
+        Functions { check: check_by_another_case, ..right },
+        Functions { step: step_reads_loosely, ..right },
+        Functions { run: run_counts_without_a_device, ..right },
+    ];
+    for (index, functions) in wrong.into_iter().enumerate() {
+        let foreign = Foreign { functions };
+        let caught = (0..300).any(|seed| {
+            let list = scenario(seed, true);
+            compare::drive(&Reference, &foreign, &list, &mut Counts::default()).is_err()
+        });
+        assert!(caught, "mistake {index} isn't caught");
     }
 }
