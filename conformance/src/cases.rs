@@ -358,8 +358,8 @@ fn words_that_are_no_device(runtime: &dyn Runtime) {
         let (mut store, mut device, mut totals) = (bench.store.clone(), words, bench.totals);
         let calls =
             [Call::Boot, Call::Step, Call::Post { event: 0, data: 1 }, Call::Cut, Call::Run { budget: u32::MAX }];
-        for call in calls {
-            let outcome = runtime.stray(&call, &COUNTING, &mut store, &mut device, &mut totals);
+        for call in calls.iter().filter(|call| call.looks_at_device()) {
+            let outcome = runtime.stray(call, &COUNTING, &mut store, &mut device, &mut totals);
             assert!(outcome.no_device(), "{call:?} on {words:?} answers {outcome:?}");
             if let Outcome::Run(answer) = outcome {
                 assert_eq!(answer.steps, 0);

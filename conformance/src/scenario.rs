@@ -54,6 +54,15 @@ impl Call {
     pub fn takes_device(&self) -> bool {
         matches!(self, Call::Boot | Call::Step | Call::Post { .. } | Call::Cut | Call::Run { .. })
     }
+
+    /// Whether it looks at it.
+    pub fn looks_at_device(&self) -> bool {
+        match self {
+            Call::Cut => CUT_LOOKS,
+            Call::Run { budget: 0 } => EMPTY_RUN_LOOKS,
+            _ => self.takes_device(),
+        }
+    }
 }
 
 /// What a call gave.
