@@ -1,9 +1,10 @@
 //! How fast the library is beside the reference: the same machine, the same input, one after the other in rounds.
 //! Prints Markdown.
 //!
-//!     bench [--rounds N] [--milliseconds N]   at least 9 rounds; about so long for each measurement of one side
+//!     bench [--rounds N] [--milliseconds N]   at least 9 rounds; about so long for each side in a round
 //!
-//! Each measurement starts from a formatted store and a booted device and makes the same calls on both sides; what both
+//! In a round the sides take turns ten times, and the best time of each counts, so that other work on the machine
+//! disturbs less. Each measurement starts from a formatted store and a booted device and makes the same calls on both sides; what both
 //! leave is compared. The library is called as a host calls it, on flat words; the reference on its own values, inlined.
 
 use conformance::cases::COUNTING;
@@ -232,30 +233,32 @@ struct Measured {
     reference: Vec<f64>,
 }
 
-/// All loads in rounds, the sides one after the other and in turns first.
+/// How often the sides take turns in a round.
+const TURNS: u32 = 10;
+
+/// All loads in rounds, the sides in turns.
 fn rounds(loads: &[(&Load, How)], rounds: usize, milliseconds: u64) -> Vec<Measured> {
     let mut turns = Vec::new();
     for (load, how) in loads {
         let guess = 1 + 20_000 / load.steps_in_a_turn();
         let (seconds, _) = measure::<Rust>(load, *how, guess);
-        let wanted = milliseconds as f64 / 1000.0 / (seconds * load.steps_in_a_turn() as f64);
+        let wanted = milliseconds as f64 / 1000.0 / TURNS as f64 / (seconds * load.steps_in_a_turn() as f64);
         turns.push(1 + wanted as u64);
     }
     let mut measured: Vec<Measured> =
         loads.iter().map(|_| Measured { library: Vec::new(), reference: Vec::new() }).collect();
-    for round in 0..rounds {
+    for _ in 0..rounds {
         for (index, (load, how)) in loads.iter().enumerate() {
-            let (library, reference);
-            if round % 2 == 0 {
-                library = measure::<Library>(load, *how, turns[index]);
-                reference = measure::<Rust>(load, *how, turns[index]);
-            } else {
-                reference = measure::<Rust>(load, *how, turns[index]);
-                library = measure::<Library>(load, *how, turns[index]);
+            let (mut library, mut reference) = (f64::INFINITY, f64::INFINITY);
+            for _ in 0..TURNS {
+                let (seconds, left) = measure::<Library>(load, *how, turns[index]);
+                let (other_seconds, other_left) = measure::<Rust>(load, *how, turns[index]);
+                assert!(left == other_left, "{}: the sides leave different words", load.name);
+                library = library.min(seconds);
+                reference = reference.min(other_seconds);
             }
-            assert!(library.1 == reference.1, "{}: the sides leave different words", load.name);
-            measured[index].library.push(library.0);
-            measured[index].reference.push(reference.0);
+            measured[index].library.push(library);
+            measured[index].reference.push(reference);
         }
     }
     measured
@@ -397,10 +400,10 @@ fn print_speed(loads: &[(&Load, How)], measured: &[Measured]) {
 
 fn print_flatness(loads: &[(&Load, How)], measured: &[Measured]) {
     println!("## Flatness\n");
-    println!("The counting program's step by `run`, in nanoseconds, inside larger programs and stores; then the library's middle beside its first row.\n");
+    println!("The counting program's step by `run`, in nanoseconds, inside larger programs and stores; then the library's least beside that of its first row.\n");
     println!("| Program words | Store words | Library, least | middle | largest | Reference, least | middle | largest | Library beside first row |");
     println!("|---:|---:|---:|---:|---:|---:|---:|---:|---:|");
-    let first = spread(measured[0].library.clone())[1];
+    let first = spread(measured[0].library.clone())[0];
     for ((load, _), Measured { library, reference }) in loads.iter().zip(measured) {
         let library = spread(library.clone());
         let reference = spread(reference.clone());
@@ -408,7 +411,7 @@ fn print_flatness(loads: &[(&Load, How)], measured: &[Measured]) {
         for seconds in library.iter().chain(&reference) {
             print!(" {:.1} |", seconds * 1e9);
         }
-        println!(" {:.2} |", library[1] / first);
+        println!(" {:.2} |", library[0] / first);
     }
     println!();
 }
@@ -441,7 +444,7 @@ fn main() {
     }
     println!("# Library and reference\n");
     println!(
-        "{}. {count} rounds, in each both sides one after the other, about {milliseconds} ms a side. Both built for release.\n",
+        "{}. {count} rounds; in each the sides take turns {TURNS} times, about {milliseconds} ms a side in all, and the best time of each counts. Both built for release; the stores are formatted before each measurement.\n",
         processor()
     );
     let loads = loads();
