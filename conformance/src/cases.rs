@@ -91,6 +91,7 @@ impl<'a> Bench<'a> {
         while self.store[8] != 0 {
             assert_eq!(self.step(), Answer::Stored);
             steps += 1;
+            assert!(steps < 100, "recovery doesn't end");
         }
         steps
     }
@@ -168,6 +169,7 @@ fn post_and_three_steps(runtime: &dyn Runtime) {
         assert_eq!(bench.post(0, 78), refused(21));
         bench.steps(1);
         steps += 1;
+        assert!(steps < 100, "the event isn't served");
     }
     // Chosen, two halves of SAVE, 11, 12, 8; one copy; head.
     assert_eq!(steps, 8);
