@@ -1,6 +1,7 @@
 //! The comparing driver: two implementations perform the same list of calls, and after every call the answer,
 //! the store, the device state and the totals must be equal. In refusal 7 the place is free: each side's must
-//! be the word of a broken rule. A refused call must have changed nothing. Also the counts of what came up.
+//! be the word of a broken rule. A refused call, and one without a device, must have changed nothing. Also the
+//! counts of what came up.
 
 use crate::reference::{broken_words, PHASE};
 use crate::runtime::*;
@@ -23,6 +24,8 @@ pub struct Counts {
     pub run_steps: u64,
     /// By `CALL_NAMES`, then by number.
     pub refusals: [[u64; 32]; 7],
+    /// By `CALL_NAMES`: calls with words in the device's place that stand for no device state.
+    pub no_device: [u64; 7],
     pub committed: u64,
     pub accepted: u64,
     /// Cuts while the phase is 1 or 2, and of these the ones after a boot into that phase.
@@ -31,6 +34,13 @@ pub struct Counts {
     pub cuts_in_half_save: u64,
     pub cuts_in_ending: u64,
     pub cuts_in_handler: u64,
+    /// Runs with a budget of 0, of 1, and of 2 to the 32 less 1: refused at once, and after some steps.
+    pub runs_of_0: u64,
+    pub runs_of_1: u64,
+    pub largest_at_once: u64,
+    pub largest_later: u64,
+    /// Steps, runs among them, that made a store while a total was at its largest value.
+    pub at_largest: u64,
 }
 
 impl Counts {
@@ -49,8 +59,14 @@ impl Counts {
         if let Some(refusal) = outcome.refusal() {
             self.refusals[kind][(refusal.number as usize).min(31)] += 1;
         }
-        if let Outcome::Run(answer) = outcome {
+        self.no_device[kind] += outcome.no_device() as u64;
+        if let (Outcome::Run(answer), Call::Run { budget }) = (outcome, call) {
             self.run_steps += answer.steps as u64;
+            let refused = outcome.refusal().is_some();
+            self.runs_of_0 += (*budget == 0) as u64;
+            self.runs_of_1 += (*budget == 1) as u64;
+            self.largest_at_once += (*budget == u32::MAX && refused && answer.steps == 0) as u64;
+            self.largest_later += (*budget == u32::MAX && refused && answer.steps > 0) as u64;
         }
         if *call == Call::Cut {
             let ending = matches!(device.place, Place::Running { ending, .. } if ending > 0);
@@ -63,29 +79,80 @@ impl Counts {
         }
     }
 
-    /// A table of the refusals, a row for each call.
-    pub fn refusal_table(&self) -> String {
-        let numbers = refusal_numbers();
-        let mut text = format!("{:>8}", "");
-        for number in &numbers {
-            text.push_str(&format!("{number:>9}"));
+    /// Add what came up elsewhere.
+    pub fn add_all(&mut self, other: &Counts) {
+        self.scenarios += other.scenarios;
+        for kind in 0..CALL_NAMES.len() {
+            self.calls[kind] += other.calls[kind];
+            self.no_device[kind] += other.no_device[kind];
+            for number in 0..32 {
+                self.refusals[kind][number] += other.refusals[kind][number];
+            }
+        }
+        for (sum, more) in self.singles_mut().into_iter().zip(other.singles()) {
+            *sum += more.1;
+        }
+    }
+
+    /// The counts that are one number each, with their names.
+    pub fn singles(&self) -> [(&'static str, u64); 13] {
+        [
+            ("steps in runs", self.run_steps),
+            ("bodies committed", self.committed),
+            ("events accepted", self.accepted),
+            ("cuts in a commit", self.cuts_in_commit),
+            ("cuts in a commit after a boot into it", self.cuts_in_recovery),
+            ("cuts in half a SAVE", self.cuts_in_half_save),
+            ("cuts between ending stores", self.cuts_in_ending),
+            ("cuts with a handler at work", self.cuts_in_handler),
+            ("runs, budget 0", self.runs_of_0),
+            ("runs, budget 1", self.runs_of_1),
+            ("runs, budget 4294967295, refused at once", self.largest_at_once),
+            ("runs, budget 4294967295, refused after steps", self.largest_later),
+            ("stores with a total at 4294967295", self.at_largest),
+        ]
+    }
+
+    fn singles_mut(&mut self) -> [&mut u64; 13] {
+        [
+            &mut self.run_steps,
+            &mut self.committed,
+            &mut self.accepted,
+            &mut self.cuts_in_commit,
+            &mut self.cuts_in_recovery,
+            &mut self.cuts_in_half_save,
+            &mut self.cuts_in_ending,
+            &mut self.cuts_in_handler,
+            &mut self.runs_of_0,
+            &mut self.runs_of_1,
+            &mut self.largest_at_once,
+            &mut self.largest_later,
+            &mut self.at_largest,
+        ]
+    }
+
+    /// The table: for each call how often it was made, met words that are no device, and each refusal.
+    pub fn table(&self) -> String {
+        let mut text = format!("{:>12}", "");
+        for name in CALL_NAMES.iter().chain(&["all"]) {
+            text.push_str(&format!("{name:>9}"));
         }
         text.push('\n');
-        for (kind, name) in CALL_NAMES.iter().enumerate() {
-            text.push_str(&format!("{name:>8}"));
-            for number in &numbers {
-                match self.refusals[kind][*number] {
+        let mut row = |name: String, counts: [u64; 7]| {
+            text.push_str(&format!("{name:>12}"));
+            for count in counts {
+                match count {
                     0 => text.push_str(&format!("{:>9}", ".")),
                     count => text.push_str(&format!("{count:>9}")),
                 }
             }
-            text.push('\n');
+            text.push_str(&format!("{:>9}\n", counts.iter().sum::<u64>()));
+        };
+        row("calls".into(), self.calls);
+        row("no device".into(), self.no_device);
+        for number in refusal_numbers() {
+            row(format!("refused {number:>2}"), self.refusals.map(|by_number| by_number[number]));
         }
-        text.push_str(&format!("{:>8}", "all"));
-        for number in &numbers {
-            text.push_str(&format!("{:>9}", self.refusals_of(*number)));
-        }
-        text.push('\n');
         text
     }
 }
@@ -145,7 +212,7 @@ pub fn place_is_right(refusal: &Refusal, program: &[u16], store: &[u16]) -> bool
 #[derive(Default)]
 struct Before {
     store: Vec<u16>,
-    device: Option<Device>,
+    device: [u16; DEVICE_WORDS],
     totals: Totals,
 }
 
@@ -153,12 +220,12 @@ impl Before {
     fn take(&mut self, machine: &Machine) {
         self.store.clear();
         self.store.extend_from_slice(&machine.store);
-        self.device = Some(machine.device);
+        self.device = machine.device_words();
         self.totals = machine.totals;
     }
 
     fn equals(&self, machine: &Machine) -> bool {
-        self.device == Some(machine.device) && self.totals == machine.totals && self.store == machine.store
+        self.device == machine.device_words() && self.totals == machine.totals && self.store == machine.store
     }
 }
 
@@ -173,10 +240,10 @@ fn compare_call(
     before.take(left);
     let call = &left.affordable(a, call);
     if let Call::Run { budget } = call {
-        // The first side refuses the first step of a run with a very large budget. So must the second, or
-        // it would run for hours.
-        if *budget > LARGE_BUDGET && !right.step_is_refused(b) {
-            return Err("the second side doesn't refuse the run's first step".into());
+        // The first side ends a run with a very large budget soon. So must the second, or it would run for
+        // hours.
+        if *budget > LARGE_BUDGET && !right.ends_within(b, LARGE_BUDGET) {
+            return Err(format!("the second side's run makes {LARGE_BUDGET} steps, the first side's ends"));
         }
     }
     let outcome = left.call(a, call).expect("a call of the runtime");
@@ -187,11 +254,14 @@ fn compare_call(
     if left.store != right.store {
         return Err(format!("{outcome:?}; stores differ: {}", word_difference(&left.store, &right.store)));
     }
-    if left.device != right.device {
-        return Err(format!("{outcome:?}; devices {:?} and {:?}", left.device, right.device));
+    if left.device_words() != right.device_words() {
+        return Err(format!("{outcome:?}; devices {:?} and {:?}", left.device_words(), right.device_words()));
     }
     if left.totals != right.totals {
         return Err(format!("{outcome:?}; totals {:?} and {:?}", left.totals, right.totals));
+    }
+    if outcome.no_device() && !before.equals(left) {
+        return Err(format!("{outcome:?} changed something"));
     }
     for (side, outcome) in [("first", &outcome), ("second", &other)] {
         let Some(refusal) = outcome.refusal() else { continue };
@@ -241,6 +311,8 @@ pub fn drive(
         counts.add(call, &device, phase, recovering, &outcome);
         counts.committed += (left.totals.committed - totals.committed) as u64;
         counts.accepted += (left.totals.accepted - totals.accepted) as u64;
+        let full = [totals.committed, totals.accepted, totals.stores].contains(&u32::MAX);
+        counts.at_largest += (full && before.store != left.store) as u64;
         match (call, &outcome) {
             (Call::Boot, Outcome::Answer(Answer::Done)) => recovering = phase != 0,
             (Call::Cut, _) => recovering = false,
@@ -250,6 +322,10 @@ pub fn drive(
                 }
             }
         }
+    }
+    if left.program != right.program {
+        let text = format!("programs differ: {}", word_difference(&left.program, &right.program));
+        return Err(Difference { index: None, text });
     }
     Ok(())
 }

@@ -1,12 +1,13 @@
 //! An implementation behind C functions: plain pointers and words on one side, the trait on the other. Nothing
 //! is linked here; whoever has the functions, from a static library say, fills in `Functions`.
 //!
-//! A device is 18 words (`Device::to_words`), totals are three 32-bit numbers (committed, accepted, stores).
-//! An answer is five words: case, kind of body (0 task, 1 event), number, and a place of two words.
-//! Cases: 0 done, 1 chosen, 2 worked, 3 stored, 4 committed, 5 accepted, 6 refused, 7 spent (of a run).
-//! Words that a case doesn't have are 0.
+//! The shapes are those of include/runtime.h. A device is 18 words (`Device::to_words`), totals are three 32-bit
+//! numbers (committed, accepted, stores). An answer is five words: case, kind of body (0 task, 1 event), number,
+//! and a place of two words. Cases: 0 done, 1 chosen, 2 worked, 3 stored, 4 committed, 5 accepted, 6 refused,
+//! 7 spent (of a run), 8 no device. Words that a case doesn't have are 0.
 
 use crate::runtime::*;
+use crate::scenario::{Call, Outcome};
 
 pub const ANSWER_WORDS: usize = 5;
 
@@ -28,9 +29,14 @@ pub struct Functions {
     pub run: unsafe extern "C" fn(*const u16, usize, *mut u16, usize, *mut u16, *mut u32, u32, *mut u16) -> u32,
 }
 
-/// Numbers that no call returns: they stand for words that are no answer, and for words that are no device.
+/// Numbers that no call returns. They stand for words that are no answer of the call, for words that come back
+/// and are no device, and for a word written outside device, totals or answer.
 pub const NO_ANSWER: u16 = 65535;
-pub const NO_DEVICE: u16 = 65534;
+pub const BAD_DEVICE: u16 = 65534;
+pub const OUTSIDE: u16 = 65533;
+
+/// What stands before and behind the lent words and, before a call, in the answer.
+const GUARD: u16 = 0xA5C3;
 
 pub struct Foreign {
     pub functions: Functions,
@@ -49,10 +55,24 @@ pub fn answer_words(answer: &Answer) -> [u16; ANSWER_WORDS] {
         Answer::Committed(body) => body_words(4, body),
         Answer::Accepted => [5, 0, 0, 0, 0],
         Answer::Refused(refusal) => [6, 0, refusal.number, refusal.place.0, refusal.place.1],
+        Answer::NoDevice => [8, 0, 0, 0, 0],
     }
 }
 
-pub fn answer_from_words(words: &[u16; ANSWER_WORDS]) -> Answer {
+pub fn end_words(end: &End) -> [u16; ANSWER_WORDS] {
+    match end {
+        End::Spent => [7, 0, 0, 0, 0],
+        End::Refused(refusal) => answer_words(&Answer::Refused(*refusal)),
+        End::NoDevice => answer_words(&Answer::NoDevice),
+    }
+}
+
+fn wrong(number: u16, words: &[u16]) -> Refusal {
+    Refusal { number, place: (words[0], words[1]) }
+}
+
+/// The answer of these words, or none.
+pub fn answer_from_words(words: &[u16; ANSWER_WORDS]) -> Option<Answer> {
     let body = if words[1] == 0 { Body::Task(words[2]) } else { Body::Event(words[2]) };
     let answer = match words[0] {
         0 => Answer::Done,
@@ -61,123 +81,142 @@ pub fn answer_from_words(words: &[u16; ANSWER_WORDS]) -> Answer {
         3 => Answer::Stored,
         4 => Answer::Committed(body),
         5 => Answer::Accepted,
-        _ => Answer::Refused(Refusal { number: words[2], place: (words[3], words[4]) }),
+        6 => Answer::Refused(Refusal { number: words[2], place: (words[3], words[4]) }),
+        _ => Answer::NoDevice,
     };
-    if answer_words(&answer) == *words {
-        answer
-    } else {
-        Answer::Refused(Refusal { number: NO_ANSWER, place: (words[0], words[1]) })
+    (answer_words(&answer) == *words).then_some(answer)
+}
+
+fn end_from_words(words: &[u16; ANSWER_WORDS]) -> Option<End> {
+    if *words == end_words(&End::Spent) {
+        return Some(End::Spent);
+    }
+    match answer_from_words(words)? {
+        Answer::Refused(refusal) => Some(End::Refused(refusal)),
+        Answer::NoDevice => Some(End::NoDevice),
+        _ => None,
     }
 }
 
-/// Take a device back from its words.
-fn take_device(words: &[u16; DEVICE_WORDS], device: &mut Device) -> bool {
-    match Device::from_words(words) {
-        Some(new) => {
-            *device = new;
-            true
+impl Foreign {
+    /// A call on flat words, whatever they are.
+    fn flat(
+        &self,
+        call: &Call,
+        program: &[u16],
+        store: &mut [u16],
+        device: &mut [u16; DEVICE_WORDS],
+        totals: &mut Totals,
+    ) -> Outcome {
+        let Functions { check, format, boot, step, post, cut, run } = self.functions;
+        let (code, length) = (program.as_ptr(), program.len());
+        let (words, many) = (store.as_mut_ptr(), store.len());
+        let mut lent_device = [GUARD; DEVICE_WORDS + 2];
+        lent_device[1..=DEVICE_WORDS].copy_from_slice(device);
+        let numbers = [totals.committed, totals.accepted, totals.stores];
+        let mut lent_totals = [GUARD as u32, numbers[0], numbers[1], numbers[2], GUARD as u32];
+        let mut lent_answer = [GUARD; ANSWER_WORDS + 2];
+        let mut steps = None;
+        // Safety: the pointers are those of slices and arrays that live through the call, with their lengths.
+        unsafe {
+            let d = lent_device.as_mut_ptr().add(1);
+            let t = lent_totals.as_mut_ptr().add(1);
+            let answer = lent_answer.as_mut_ptr().add(1);
+            match *call {
+                Call::Check => check(code, length, answer),
+                Call::Format { log_pairs, queue_records } => {
+                    format(code, length, log_pairs, queue_records, words, many, answer)
+                }
+                Call::Boot => boot(code, length, words, many, d, answer),
+                Call::Step => step(code, length, words, many, d, t, answer),
+                Call::Post { event, data } => post(code, length, words, many, d, event, data, answer),
+                Call::Cut => cut(d, answer),
+                Call::Run { budget } => steps = Some(run(code, length, words, many, d, t, budget, answer)),
+                _ => unreachable!("a change isn't a call"),
+            }
         }
-        None => false,
+        device.copy_from_slice(&lent_device[1..=DEVICE_WORDS]);
+        *totals = Totals { committed: lent_totals[1], accepted: lent_totals[2], stores: lent_totals[3] };
+        let guards = [lent_device[0], lent_device[DEVICE_WORDS + 1], lent_answer[0], lent_answer[ANSWER_WORDS + 1]];
+        let outside = guards != [GUARD; 4] || [lent_totals[0], lent_totals[4]] != [GUARD as u32; 2];
+        let mut answer = [0; ANSWER_WORDS];
+        answer.copy_from_slice(&lent_answer[1..=ANSWER_WORDS]);
+        match steps {
+            None if outside => Outcome::Answer(Answer::Refused(wrong(OUTSIDE, &answer))),
+            None => Outcome::Answer(
+                answer_from_words(&answer).unwrap_or(Answer::Refused(wrong(NO_ANSWER, &answer))),
+            ),
+            Some(steps) if outside => {
+                Outcome::Run(RunAnswer { steps, end: End::Refused(wrong(OUTSIDE, &answer)) })
+            }
+            Some(steps) => {
+                let end = end_from_words(&answer).unwrap_or(End::Refused(wrong(NO_ANSWER, &answer)));
+                Outcome::Run(RunAnswer { steps, end })
+            }
+        }
     }
-}
 
-fn no_device() -> Answer {
-    Answer::Refused(Refusal { number: NO_DEVICE, place: (0, 0) })
+    /// A call on a device; the words that come back must be a device's.
+    fn valued(
+        &self,
+        call: &Call,
+        program: &[u16],
+        store: &mut [u16],
+        device: &mut Device,
+        totals: &mut Totals,
+    ) -> Outcome {
+        let mut words = device.to_words();
+        let outcome = self.flat(call, program, store, &mut words, totals);
+        let bad = Refusal { number: BAD_DEVICE, place: (0, 0) };
+        match (Device::from_words(&words), outcome) {
+            (Some(new), _) => {
+                *device = new;
+                outcome
+            }
+            (None, Outcome::Answer(_)) => Outcome::Answer(Answer::Refused(bad)),
+            (None, Outcome::Run(answer)) => Outcome::Run(RunAnswer { end: End::Refused(bad), ..answer }),
+        }
+    }
+
+    fn answer(
+        &self,
+        call: &Call,
+        program: &[u16],
+        store: &mut [u16],
+        device: &mut Device,
+        totals: &mut Totals,
+    ) -> Answer {
+        match self.valued(call, program, store, device, totals) {
+            Outcome::Answer(answer) => answer,
+            Outcome::Run(_) => unreachable!("only a run answers as one"),
+        }
+    }
 }
 
 impl Runtime for Foreign {
     fn check(&self, program: &[u16]) -> Answer {
-        let mut answer = [0; ANSWER_WORDS];
-        unsafe { (self.functions.check)(program.as_ptr(), program.len(), answer.as_mut_ptr()) };
-        answer_from_words(&answer)
+        self.answer(&Call::Check, program, &mut [], &mut Device::OFF.clone(), &mut Totals::default())
     }
 
     fn format(&self, program: &[u16], log_pairs: u16, queue_records: u16, store: &mut [u16]) -> Answer {
-        let mut answer = [0; ANSWER_WORDS];
-        unsafe {
-            (self.functions.format)(
-                program.as_ptr(),
-                program.len(),
-                log_pairs,
-                queue_records,
-                store.as_mut_ptr(),
-                store.len(),
-                answer.as_mut_ptr(),
-            )
-        };
-        answer_from_words(&answer)
+        let call = Call::Format { log_pairs, queue_records };
+        self.answer(&call, program, store, &mut Device::OFF.clone(), &mut Totals::default())
     }
 
     fn boot(&self, program: &[u16], store: &mut [u16], device: &mut Device) -> Answer {
-        let mut answer = [0; ANSWER_WORDS];
-        let mut words = device.to_words();
-        unsafe {
-            (self.functions.boot)(
-                program.as_ptr(),
-                program.len(),
-                store.as_mut_ptr(),
-                store.len(),
-                words.as_mut_ptr(),
-                answer.as_mut_ptr(),
-            )
-        };
-        if !take_device(&words, device) {
-            return no_device();
-        }
-        answer_from_words(&answer)
+        self.answer(&Call::Boot, program, store, device, &mut Totals::default())
     }
 
     fn step(&self, program: &[u16], store: &mut [u16], device: &mut Device, totals: &mut Totals) -> Answer {
-        let mut answer = [0; ANSWER_WORDS];
-        let mut words = device.to_words();
-        let mut numbers = [totals.committed, totals.accepted, totals.stores];
-        unsafe {
-            (self.functions.step)(
-                program.as_ptr(),
-                program.len(),
-                store.as_mut_ptr(),
-                store.len(),
-                words.as_mut_ptr(),
-                numbers.as_mut_ptr(),
-                answer.as_mut_ptr(),
-            )
-        };
-        *totals = Totals { committed: numbers[0], accepted: numbers[1], stores: numbers[2] };
-        if !take_device(&words, device) {
-            return no_device();
-        }
-        answer_from_words(&answer)
+        self.answer(&Call::Step, program, store, device, totals)
     }
 
     fn post(&self, program: &[u16], store: &mut [u16], device: &mut Device, event: u16, data: u16) -> Answer {
-        let mut answer = [0; ANSWER_WORDS];
-        let mut words = device.to_words();
-        unsafe {
-            (self.functions.post)(
-                program.as_ptr(),
-                program.len(),
-                store.as_mut_ptr(),
-                store.len(),
-                words.as_mut_ptr(),
-                event,
-                data,
-                answer.as_mut_ptr(),
-            )
-        };
-        if !take_device(&words, device) {
-            return no_device();
-        }
-        answer_from_words(&answer)
+        self.answer(&Call::Post { event, data }, program, store, device, &mut Totals::default())
     }
 
     fn cut(&self, device: &mut Device) -> Answer {
-        let mut answer = [0; ANSWER_WORDS];
-        let mut words = device.to_words();
-        unsafe { (self.functions.cut)(words.as_mut_ptr(), answer.as_mut_ptr()) };
-        if !take_device(&words, device) {
-            return no_device();
-        }
-        answer_from_words(&answer)
+        self.answer(&Call::Cut, &[], &mut [], device, &mut Totals::default())
     }
 
     fn run(
@@ -188,32 +227,20 @@ impl Runtime for Foreign {
         totals: &mut Totals,
         budget: u32,
     ) -> RunAnswer {
-        let mut answer = [0; ANSWER_WORDS];
-        let mut words = device.to_words();
-        let mut numbers = [totals.committed, totals.accepted, totals.stores];
-        let steps = unsafe {
-            (self.functions.run)(
-                program.as_ptr(),
-                program.len(),
-                store.as_mut_ptr(),
-                store.len(),
-                words.as_mut_ptr(),
-                numbers.as_mut_ptr(),
-                budget,
-                answer.as_mut_ptr(),
-            )
-        };
-        *totals = Totals { committed: numbers[0], accepted: numbers[1], stores: numbers[2] };
-        let end = if !take_device(&words, device) {
-            End::Refused(Refusal { number: NO_DEVICE, place: (0, 0) })
-        } else if answer == [7, 0, 0, 0, 0] {
-            End::Spent
-        } else {
-            match answer_from_words(&answer) {
-                Answer::Refused(refusal) => End::Refused(refusal),
-                _ => End::Refused(Refusal { number: NO_ANSWER, place: (answer[0], answer[1]) }),
-            }
-        };
-        RunAnswer { steps, end }
+        match self.valued(&Call::Run { budget }, program, store, device, totals) {
+            Outcome::Run(answer) => answer,
+            Outcome::Answer(_) => unreachable!("a run answers as one"),
+        }
+    }
+
+    fn stray(
+        &self,
+        call: &Call,
+        program: &[u16],
+        store: &mut [u16],
+        words: &mut [u16; DEVICE_WORDS],
+        totals: &mut Totals,
+    ) -> Outcome {
+        self.flat(call, program, store, words, totals)
     }
 }

@@ -460,11 +460,9 @@ impl Schedule {
     }
 
     fn budget(&mut self) -> u32 {
-        // The largest budgets only where the next step is refused.
-        if self.random.percent(10) {
-            if self.machine.step_is_refused(&Reference) {
-                return self.random.pick(&[u32::MAX, u32::MAX - 1, 1 << 31, 1 << 16]);
-            }
+        // The largest budgets only where the run ends soon.
+        if self.random.percent(10) && self.machine.ends_within(&Reference, 200) {
+            return self.random.pick(&[u32::MAX, u32::MAX - 1, 1 << 31, 1 << 16]);
         }
         match self.random.below(10) {
             0 => 0,
@@ -842,7 +840,53 @@ impl Schedule {
         }
     }
 
+    /// Words in the device's place, a device's or not: one word of a device changed, or several, or any words.
+    /// Where they are no device's, some calls on them.
+    fn device_words(&mut self) {
+        let mut words = self.machine.device.to_words();
+        let changes = match self.random.below(10) {
+            0..=5 => 1,
+            6 | 7 => self.random.from(2, 4),
+            _ => 0,
+        };
+        for _ in 0..changes {
+            let index = match self.random.below(3) {
+                0 => self.random.below(DEVICE_WORDS),
+                1 => self.random.pick(&[0, 9, 10, 15]),
+                _ => self.random.from(9, 17),
+            };
+            words[index] = match self.random.below(3) {
+                0 => self.random.below(6) as u16,
+                1 => self.random.pick(&[256, 257, 0x8000, 0xFF00, 0xFFFF]),
+                _ => self.telling_word(words[index]),
+            };
+        }
+        if changes == 0 {
+            let small = self.random.percent(50);
+            for word in words.iter_mut() {
+                *word = if small { self.random.below(4) as u16 } else { self.random.word() };
+            }
+        }
+        if let Some(device) = Device::from_words(&words) {
+            return self.make(Call::SetDevice(device));
+        }
+        self.make(Call::SetWords(words));
+        for _ in 0..self.random.from(1, 3) {
+            let call = match self.random.below(6) {
+                0 => Call::Boot,
+                1 => self.post(),
+                2 => Call::Cut,
+                3 => Call::Run { budget: self.random.pick(&[0, 1, 2, 50, u32::MAX]) },
+                _ => Call::Step,
+            };
+            self.make(call);
+        }
+    }
+
     fn damage_once(&mut self) {
+        if self.random.percent(6) {
+            return self.device_words();
+        }
         match self.random.below(100) {
             0..=29 => self.damage_program(),
             30..=34 => self.damage_program_length(),

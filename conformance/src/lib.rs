@@ -2,9 +2,12 @@
 //! are held against, a generator of programs and schedules, and a driver that compares two implementations
 //! call by call.
 
+pub mod cases;
 pub mod compare;
 pub mod foreign;
 pub mod generate;
+#[cfg(feature = "library")]
+pub mod library;
 pub mod many;
 pub mod mutants;
 pub mod reference;
@@ -13,3 +16,4 @@ pub mod scenario;
 pub mod selfrun;
 pub mod serial;
 pub mod shorten;
+pub mod standin;

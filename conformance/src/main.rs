@@ -2,10 +2,10 @@
 //! serial run after every call; all lists, damaged ones too, go through the comparing driver.
 //!
 //!     conformance [--seed S] [--calls N]   scenarios from seed S on, until N calls are made
-//!     conformance --replay FILE            one scenario in its text form, as a failure prints it
+//!     conformance --replay FILE            one scenario in its text form, as a failure prints it (-: standard input)
 //!     ... --mistake NAME                   with an implementation that has this mistake as the second side
 
-use conformance::many::{many, replay};
+use conformance::many::{command, Wanted};
 use conformance::mutants::{Mutant, MISTAKES};
 use conformance::reference::Reference;
 use conformance::runtime::Runtime;
@@ -18,17 +18,15 @@ fn usage() -> ! {
 }
 
 fn main() {
-    let mut seed = 1;
-    let mut calls = 2_000_000;
-    let mut file = None;
+    let mut wanted = Wanted { seed: 1, calls: 2_000_000, replay: None };
     let mut second: Box<dyn Runtime> = Box::new(Reference);
     let mut arguments = std::env::args().skip(1);
     while let Some(name) = arguments.next() {
         let value = arguments.next().unwrap_or_else(|| usage());
         match name.as_str() {
-            "--seed" => seed = value.parse().unwrap_or_else(|_| usage()),
-            "--calls" => calls = value.parse().unwrap_or_else(|_| usage()),
-            "--replay" => file = Some(value),
+            "--seed" => wanted.seed = value.parse().unwrap_or_else(|_| usage()),
+            "--calls" => wanted.calls = value.parse().unwrap_or_else(|_| usage()),
+            "--replay" => wanted.replay = Some(value),
             "--mistake" => {
                 let mistake = MISTAKES.iter().find(|mistake| format!("{mistake:?}") == value);
                 second = Box::new(Mutant(*mistake.unwrap_or_else(|| usage())));
@@ -36,15 +34,5 @@ fn main() {
             _ => usage(),
         }
     }
-    let well = match file {
-        Some(file) => match std::fs::read_to_string(&file) {
-            Ok(text) => replay(&Reference, &*second, &text),
-            Err(error) => {
-                println!("{file}: {error}");
-                false
-            }
-        },
-        None => many(&Reference, &*second, seed, calls),
-    };
-    exit(if well { 0 } else { 1 });
+    exit(if command(&Reference, &*second, &wanted) { 0 } else { 1 });
 }

@@ -470,7 +470,7 @@ impl Runtime for LastPlace {
             End::Refused(refusal) => {
                 RunAnswer { end: End::Refused(LastPlace::last(program, store, refusal)), ..answer }
             }
-            End::Spent => answer,
+            _ => answer,
         }
     }
 }

@@ -1,6 +1,6 @@
-//! The reference: the paper's runtime with plain loops and tables. A step is first decided without touching
-//! anything (`decide`: the answer, at most one store, the next device state), then carried out; so a refused
-//! call changes nothing by construction. The functions are in the order of the paper.
+//! The reference: the paper's runtime with plain loops and tables. Each function refuses before it touches anything;
+//! so a refused call changes nothing. The functions are in the order of the paper. Those of a step are inlined into
+//! one, since it is also what the library's speed is held against.
 
 use crate::runtime::*;
 
@@ -137,6 +137,7 @@ struct Instruction {
 }
 
 /// Refusals 1, 2 and 3, from words 0 to 5.
+#[inline(always)]
 fn head(program: &[u16]) -> Result<Head, Refusal> {
     if program.len() < 6 || program.len() != program[5] as usize {
         return Err(refusal(1));
@@ -163,6 +164,7 @@ fn head(program: &[u16]) -> Result<Head, Refusal> {
     })
 }
 
+#[inline(always)]
 fn row(program: &[u16], body: usize) -> Row {
     let at = 6 + 3 * body;
     Row {
@@ -173,6 +175,7 @@ fn row(program: &[u16], body: usize) -> Row {
 }
 
 /// A row's limits: count 1 to 256, transaction number at most 255, 0 for an event.
+#[inline(always)]
 fn within_limits(head: &Head, body: usize, row: &Row) -> bool {
     let most = if body < head.tasks { 255 } else { 0 };
     row.count >= 1 && row.count <= 256 && row.transaction <= most
@@ -198,6 +201,7 @@ fn check_rows(program: &[u16], head: &Head) -> Result<(), Refusal> {
 }
 
 /// Refusal 4 as a step has it: one body's row.
+#[inline(always)]
 fn use_row(program: &[u16], head: &Head, body: usize) -> Result<Row, Refusal> {
     if head.rows_end() > head.total {
         return Err(refusal(4));
@@ -216,6 +220,7 @@ fn instruction_words(program: &[u16], row: &Row, index: usize) -> (u16, u16) {
 }
 
 /// Refusal 5: one instruction of a body whose row is right.
+#[inline(always)]
 fn use_instruction(
     program: &[u16],
     head: &Head,
@@ -348,6 +353,7 @@ fn contents_words(memory: usize, log_pairs: usize, queue_records: usize) -> [u16
 }
 
 /// Refusal 6.
+#[inline(always)]
 fn contents(head: &Head, store: &[u16]) -> Result<Parts, Refusal> {
     if store.len() < 8 || !log_and_queue_within_limits(store[2], store[3]) {
         return Err(refusal(6));
@@ -364,13 +370,13 @@ fn contents(head: &Head, store: &[u16]) -> Result<Parts, Refusal> {
     Ok(Parts { log_pairs, queue_records, log, queue: log + 2 * log_pairs })
 }
 
-/// The words of the broken rules of 7 that need no row, log pair or record, in the order of the paper.
-fn broken_in_control(head: &Head, parts: &Parts, store: &[u16]) -> Vec<u16> {
+/// Name the words of the broken rules of 7 that need no row, log pair or record, in the order of the paper.
+#[inline(always)]
+fn broken_in_control(head: &Head, parts: &Parts, store: &[u16], mut name: impl FnMut(u16)) {
     let word = |index: usize| store[index] as usize;
-    let mut broken = Vec::new();
     let mut require = |holds: bool, place: usize| {
         if !holds {
-            broken.push(place as u16);
+            name(place as u16);
         }
     };
     let phase = word(PHASE);
@@ -392,13 +398,13 @@ fn broken_in_control(head: &Head, parts: &Parts, store: &[u16]) -> Vec<u16> {
         let moves = word(PENDING) == parts.after(word(HEAD)) && word(HEAD) != word(TAIL);
         require(stays || moves, PENDING);
     }
-    broken
 }
 
 /// The words of all broken rules of 7, in the order of the paper. A rule that needs a broken word, or a row
 /// that isn't in the program, is passed over.
 fn broken_in_store(program: &[u16], head: &Head, parts: &Parts, store: &[u16]) -> Vec<u16> {
-    let mut broken = broken_in_control(head, parts, store);
+    let mut broken = Vec::new();
+    broken_in_control(head, parts, store, |place| broken.push(place));
     let mut sound = [true; 16];
     for place in &broken {
         sound[*place as usize] = false;
@@ -452,11 +458,19 @@ pub fn broken_words(program: &[u16], store: &[u16]) -> Vec<u16> {
     broken_in_store(program, &head, &parts, store)
 }
 
-fn refuse_broken(broken: &[u16]) -> Result<(), Refusal> {
-    match broken.first() {
-        Some(place) => Err(refusal_at(7, *place as usize, 0)),
+fn refuse_broken(first: Option<u16>) -> Result<(), Refusal> {
+    match first {
+        Some(place) => Err(refusal_at(7, place as usize, 0)),
         None => Ok(()),
     }
+}
+
+/// The first broken rule of those that need no row, log pair or record.
+#[inline(always)]
+fn first_in_control(head: &Head, parts: &Parts, store: &[u16]) -> Option<u16> {
+    let mut first = None;
+    broken_in_control(head, parts, store, |place| first = first.or(Some(place)));
+    first
 }
 
 // ---------------------------------------------------------------------------------------------------------
@@ -480,6 +494,7 @@ impl Look {
 }
 
 /// The parts of 25 that need no row, instruction, log pair or record.
+#[inline(always)]
 fn state_unlike(look: &Look, store: &[u16], device: &Device) -> bool {
     if !device.on {
         return *device != Device::OFF;
@@ -531,10 +546,11 @@ fn state_unlike(look: &Look, store: &[u16], device: &Device) -> bool {
 }
 
 /// What step and post look at first: 1, 2, 3, 6, 7, 25, 22.
+#[inline(always)]
 fn look(program: &[u16], store: &[u16], device: &Device) -> Result<Look, Refusal> {
     let head = head(program)?;
     let parts = contents(&head, store)?;
-    refuse_broken(&broken_in_control(&head, &parts, store))?;
+    refuse_broken(first_in_control(&head, &parts, store))?;
     let look = Look { head, parts };
     if state_unlike(&look, store, device) {
         return Err(refusal(25));
@@ -545,52 +561,45 @@ fn look(program: &[u16], store: &[u16], device: &Device) -> Result<Look, Refusal
     Ok(look)
 }
 
-/// What a step does: its answer, its store if it makes one, and the device state after it.
-struct Effect {
-    answer: Answer,
-    store: Option<Store>,
-    device: Device,
+/// What a step touches. Each function below refuses before it touches anything.
+struct Node<'a> {
+    store: &'a mut [u16],
+    device: &'a mut Device,
+    totals: &'a mut Totals,
 }
 
-/// A step, decided.
-fn decide(program: &[u16], store: &[u16], device: &Device) -> Result<Effect, Refusal> {
-    let look = look(program, store, device)?;
-    if let Some(handler) = device.handler {
-        return Ok(handler_store(&look, store, device, handler));
-    }
-    match device.place {
-        Place::NoBody { commit } => {
-            if store[PHASE] != 0 {
-                commit_store(&look, store, device, commit as usize)
-            } else {
-                choose(&look, store, device)
-            }
-        }
-        Place::Running { body, instruction, ending } => {
-            step_body(&look, program, store, device, body, instruction as usize, ending, false)
-        }
-        Place::HalfSave { body, instruction } => {
-            step_body(&look, program, store, device, body, instruction as usize, 0, true)
-        }
+impl Node<'_> {
+    /// Make a store.
+    #[inline(always)]
+    fn make(&mut self, (index, word): Store) {
+        self.store[index] = word;
+        add_one(&mut self.totals.stores);
     }
 }
 
 /// A handler at work makes its next store: event, data, then tail.
-fn handler_store(look: &Look, store: &[u16], device: &Device, handler: Handler) -> Effect {
-    let tail = store[TAIL] as usize;
+#[inline(always)]
+fn handler_store(look: &Look, mut node: Node, handler: Handler) -> Answer {
+    let tail = node.store[TAIL] as usize;
     let slot = look.parts.slot(tail);
     let (answer, made, next) = match handler.next {
         Next::Event => (Answer::Stored, (slot, handler.event), Some(Next::Data)),
         Next::Data => (Answer::Stored, (slot + 1, handler.data), Some(Next::Tail)),
         Next::Tail => (Answer::Accepted, (TAIL, look.parts.after(tail) as u16), None),
     };
-    let handler = next.map(|next| Handler { next, ..handler });
-    Effect { answer, store: Some(made), device: Device { handler, ..*device } }
+    node.make(made);
+    if answer == Answer::Accepted {
+        add_one(&mut node.totals.accepted);
+    }
+    node.device.handler = next.map(|next| Handler { next, ..handler });
+    answer
 }
 
 /// A commit makes its next store after the commit store: n copies; 9 from 12 and 10 from 13, or 14 from 12;
 /// then 8 becomes 0.
-fn commit_store(look: &Look, store: &[u16], device: &Device, commit: usize) -> Result<Effect, Refusal> {
+#[inline(always)]
+fn commit_store(look: &Look, mut node: Node, commit: usize) -> Result<Answer, Refusal> {
+    let store = &*node.store;
     let n = store[COUNT] as usize;
     let made = if commit < n {
         let pair = look.parts.pair(commit);
@@ -607,16 +616,19 @@ fn commit_store(look: &Look, store: &[u16], device: &Device, commit: usize) -> R
         };
         closing[commit - n]
     };
-    let device = if made.0 == PHASE {
-        Device::ON
+    node.make(made);
+    if made.0 == PHASE {
+        *node.device = Device::ON;
     } else {
-        Device { place: Place::NoBody { commit: commit as u16 + 1 }, ..*device }
-    };
-    Ok(Effect { answer: Answer::Stored, store: Some(made), device })
+        node.device.place = Place::NoBody { commit: commit as u16 + 1 };
+    }
+    Ok(Answer::Stored)
 }
 
 /// With no body running, one is chosen.
-fn choose(look: &Look, store: &[u16], device: &Device) -> Result<Effect, Refusal> {
+#[inline(always)]
+fn choose(look: &Look, node: Node) -> Result<Answer, Refusal> {
+    let store = &*node.store;
     let mut registers = [0; 8];
     let body = if store[OPEN] == 0 && !look.queue_empty(store) {
         let slot = look.parts.slot(store[HEAD] as usize);
@@ -628,22 +640,36 @@ fn choose(look: &Look, store: &[u16], device: &Device) -> Result<Effect, Refusal
     } else {
         Body::Task(store[TASK])
     };
-    let place = Place::Running { body, instruction: 0, ending: 0 };
-    let device = Device { registers, place, log_count: 0, ..*device };
-    Ok(Effect { answer: Answer::Chosen(body), store: None, device })
+    node.device.registers = registers;
+    node.device.log_count = 0;
+    node.device.place = Place::Running { body, instruction: 0, ending: 0 };
+    Ok(Answer::Chosen(body))
+}
+
+/// Where a running body stands.
+#[derive(Clone, Copy)]
+struct Stand {
+    body: Body,
+    index: usize,
+    /// Ending stores made.
+    ending: u16,
+    /// Half a SAVE is made.
+    half: bool,
+}
+
+impl Stand {
+    /// The body at an instruction.
+    #[inline(always)]
+    fn at(&self, index: usize) -> Place {
+        Place::Running { body: self.body, instruction: index as u16, ending: 0 }
+    }
 }
 
 /// A step of a running body: an instruction, the second half of a SAVE, or an ending store.
-fn step_body(
-    look: &Look,
-    program: &[u16],
-    store: &[u16],
-    device: &Device,
-    body: Body,
-    index: usize,
-    ending: u16,
-    half: bool,
-) -> Result<Effect, Refusal> {
+#[inline(always)]
+fn step_body(look: &Look, program: &[u16], node: Node, stand: Stand) -> Result<Answer, Refusal> {
+    let Stand { body, index, ending, half } = stand;
+    let store = &*node.store;
     let head = &look.head;
     let number = head.body_number(body);
 
@@ -690,44 +716,49 @@ fn step_body(
     }
 
     if half {
-        return Ok(second_half(look, device, body, index, &instruction));
+        return Ok(second_half(look, node, stand, &instruction));
     }
     if opcode == GO {
-        let n = device.log_count;
+        let n = node.device.log_count;
         let stores = [(COUNT, n), (PENDING, instruction.k), (PENDING_OPEN, new_open), (PHASE, 1)];
-        return Ok(ending_store(device, body, index, ending, &stores));
+        return Ok(ending_store(node, stand, &stores));
     }
     if opcode == DONE {
-        let n = device.log_count;
+        let n = node.device.log_count;
         let head_after = look.parts.after(store[HEAD] as usize) as u16;
         let stores = [(COUNT, n), (PENDING, head_after), (PHASE, 2)];
-        return Ok(ending_store(device, body, index, ending, &stores));
+        return Ok(ending_store(node, stand, &stores));
     }
-    execute(look, store, device, body, index, &instruction)
+    execute(look, node, stand, &instruction)
 }
 
 /// The second half of a SAVE stores the value, without looking again at address or log.
-fn second_half(look: &Look, device: &Device, body: Body, index: usize, instruction: &Instruction) -> Effect {
-    let pair = look.parts.pair(device.log_count as usize);
-    let place = Place::Running { body, instruction: index as u16 + 1, ending: 0 };
-    Effect {
-        answer: Answer::Stored,
-        store: Some((pair + 1, device.registers[instruction.a])),
-        device: Device { place, log_count: device.log_count + 1, ..*device },
-    }
+#[inline(always)]
+fn second_half(look: &Look, mut node: Node, stand: Stand, instruction: &Instruction) -> Answer {
+    let pair = look.parts.pair(node.device.log_count as usize);
+    node.make((pair + 1, node.device.registers[instruction.a]));
+    node.device.log_count += 1;
+    node.device.place = stand.at(stand.index + 1);
+    Answer::Stored
 }
 
 /// One of the stores that end a body; the last is the commit store.
-fn ending_store(device: &Device, body: Body, index: usize, ending: u16, stores: &[Store]) -> Effect {
+#[inline(always)]
+fn ending_store(mut node: Node, stand: Stand, stores: &[Store]) -> Answer {
+    let Stand { body, index, ending, .. } = stand;
     let made = stores[ending as usize];
+    node.make(made);
     if made.0 == PHASE {
-        return Effect { answer: Answer::Committed(body), store: Some(made), device: Device::ON };
+        add_one(&mut node.totals.committed);
+        *node.device = Device::ON;
+        return Answer::Committed(body);
     }
-    let place = Place::Running { body, instruction: index as u16, ending: ending + 1 };
-    Effect { answer: Answer::Stored, store: Some(made), device: Device { place, ..*device } }
+    node.device.place = Place::Running { body, instruction: index as u16, ending: ending + 1 };
+    Answer::Stored
 }
 
 /// The log's pair for an address, among the first `log_count`: the first found, or none.
+#[inline(always)]
 fn search(look: &Look, store: &[u16], log_count: u16, address: usize) -> Option<usize> {
     for number in 0..log_count as usize {
         let pair = look.parts.pair(number);
@@ -747,19 +778,13 @@ fn signed(word: u16) -> i32 {
 }
 
 /// One instruction, neither GO nor DONE.
-fn execute(
-    look: &Look,
-    store: &[u16],
-    device: &Device,
-    body: Body,
-    index: usize,
-    instruction: &Instruction,
-) -> Result<Effect, Refusal> {
+#[inline(always)]
+fn execute(look: &Look, mut node: Node, stand: Stand, instruction: &Instruction) -> Result<Answer, Refusal> {
     let Instruction { opcode, a, b, k } = *instruction;
-    let ra = device.registers[a];
-    let rb = device.registers[b];
-    let mut registers = device.registers;
-    let mut next = index + 1;
+    let ra = node.device.registers[a];
+    let rb = node.device.registers[b];
+    let log_count = node.device.log_count;
+    let mut next = stand.index + 1;
 
     // The address of the four that have one, 23 included.
     let address = match opcode {
@@ -770,8 +795,9 @@ fn execute(
     if has_address && address >= look.head.memory {
         return Err(refusal(23));
     }
-    let found = if has_address { search(look, store, device.log_count, address) } else { None };
+    let found = if has_address { search(look, node.store, log_count, address) } else { None };
 
+    let registers = &mut node.device.registers;
     match opcode {
         SET => registers[a] = k,
         MOV => registers[a] = rb,
@@ -787,22 +813,22 @@ fn execute(
         }
         LOAD | LOADX => {
             registers[a] = match found {
-                Some(pair) => store[pair + 1],
-                None => store[MEMORY + address],
+                Some(pair) => node.store[pair + 1],
+                None => node.store[MEMORY + address],
             }
         }
         SAVE | SAVEX => {
-            let (made, place) = match found {
-                Some(pair) => ((pair + 1, ra), Place::Running { body, instruction: next as u16, ending: 0 }),
-                None => {
-                    if device.log_count as usize == look.parts.log_pairs {
-                        return Err(refusal(24));
-                    }
-                    let pair = look.parts.pair(device.log_count as usize);
-                    ((pair, address as u16), Place::HalfSave { body, instruction: index as u16 })
-                }
-            };
-            return Ok(Effect { answer: Answer::Stored, store: Some(made), device: Device { place, ..*device } });
+            if let Some(pair) = found {
+                node.make((pair + 1, ra));
+                node.device.place = stand.at(next);
+                return Ok(Answer::Stored);
+            }
+            if log_count as usize == look.parts.log_pairs {
+                return Err(refusal(24));
+            }
+            node.make((look.parts.pair(log_count as usize), address as u16));
+            node.device.place = Place::HalfSave { body: stand.body, instruction: stand.index as u16 };
+            return Ok(Answer::Stored);
         }
         JUMP => next = k as usize,
         JZ => {
@@ -817,8 +843,8 @@ fn execute(
         }
         _ => {}
     }
-    let place = Place::Running { body, instruction: next as u16, ending: 0 };
-    Ok(Effect { answer: Answer::Worked, store: None, device: Device { registers, place, ..*device } })
+    node.device.place = stand.at(next);
+    Ok(Answer::Worked)
 }
 
 // ---------------------------------------------------------------------------------------------------------
@@ -859,7 +885,7 @@ fn format(program: &[u16], log_pairs: u16, queue_records: u16, store: &mut [u16]
 fn boot(program: &[u16], store: &[u16], device: &mut Device) -> Result<(), Refusal> {
     let head = check_program(program)?;
     let parts = contents(&head, store)?;
-    refuse_broken(&broken_in_store(program, &head, &parts, store))?;
+    refuse_broken(broken_in_store(program, &head, &parts, store).first().copied())?;
     if device.on {
         return Err(refusal(26));
     }
@@ -882,24 +908,34 @@ fn post(program: &[u16], store: &[u16], device: &mut Device, event: u16, data: u
     Ok(())
 }
 
+#[inline(always)]
 fn step(
     program: &[u16],
     store: &mut [u16],
     device: &mut Device,
     totals: &mut Totals,
 ) -> Result<Answer, Refusal> {
-    let effect = decide(program, store, device)?;
-    if let Some((index, word)) = effect.store {
-        store[index] = word;
-        add_one(&mut totals.stores);
+    let look = look(program, store, device)?;
+    let (place, handler) = (device.place, device.handler);
+    let node = Node { store, device, totals };
+    if let Some(handler) = handler {
+        return Ok(handler_store(&look, node, handler));
     }
-    match effect.answer {
-        Answer::Committed(_) => add_one(&mut totals.committed),
-        Answer::Accepted => add_one(&mut totals.accepted),
-        _ => {}
+    match place {
+        Place::NoBody { commit } => {
+            if node.store[PHASE] != 0 {
+                commit_store(&look, node, commit as usize)
+            } else {
+                choose(&look, node)
+            }
+        }
+        Place::Running { body, instruction, ending } => {
+            step_body(&look, program, node, Stand { body, index: instruction as usize, ending, half: false })
+        }
+        Place::HalfSave { body, instruction } => {
+            step_body(&look, program, node, Stand { body, index: instruction as usize, ending: 0, half: true })
+        }
     }
-    *device = effect.device;
-    Ok(effect.answer)
 }
 
 impl Runtime for Reference {

@@ -4,6 +4,8 @@
 //! A word is a `u16`. A program and a store are slices of words. The device state is a plain value, also
 //! available as 18 words (`Device::to_words`), which is the form for functions of another language.
 
+use crate::scenario::{Call, Outcome};
+
 /// A body: a task or an event, each with its own number counted from 0.
 #[derive(Clone, Copy, PartialEq, Eq, Debug)]
 pub enum Body {
@@ -28,6 +30,8 @@ pub enum Answer {
     Committed(Body),
     Accepted,
     Refused(Refusal),
+    /// The words in the device's place stand for no device state.
+    NoDevice,
 }
 
 /// How a run ended.
@@ -35,6 +39,8 @@ pub enum Answer {
 pub enum End {
     Spent,
     Refused(Refusal),
+    /// The words in the device's place stand for no device state.
+    NoDevice,
 }
 
 /// What a run answers: the steps made (a refused one isn't counted) and its end.
@@ -83,6 +89,11 @@ pub struct Device {
 
 /// The number of words in the flat form of a device state.
 pub const DEVICE_WORDS: usize = 18;
+
+/// Whether a cut, and a run with a budget of 0, look at the words in the device's place and answer that they stand for
+/// no device state. Otherwise such a cut turns any words into the off value's, and such a run is spent.
+pub const CUT_LOOKS: bool = true;
+pub const EMPTY_RUN_LOOKS: bool = true;
 
 impl Device {
     /// Off: one fixed value.
@@ -204,4 +215,26 @@ pub trait Runtime {
         totals: &mut Totals,
         budget: u32,
     ) -> RunAnswer;
+
+    /// A call with words in the device's place that are no device's flat form. Where the device is a value there
+    /// are no such words, and this is what the comparison expects of the others: no device, and nothing changes.
+    fn stray(
+        &self,
+        call: &Call,
+        _program: &[u16],
+        _store: &mut [u16],
+        words: &mut [u16; DEVICE_WORDS],
+        _totals: &mut Totals,
+    ) -> Outcome {
+        let looks = call.looks_at_device();
+        match call {
+            Call::Run { .. } if looks => Outcome::Run(RunAnswer { steps: 0, end: End::NoDevice }),
+            Call::Run { .. } => Outcome::Run(RunAnswer { steps: 0, end: End::Spent }),
+            Call::Cut if !looks => {
+                *words = Device::OFF.to_words();
+                Outcome::Answer(Answer::Done)
+            }
+            _ => Outcome::Answer(Answer::NoDevice),
+        }
+    }
 }

@@ -20,15 +20,16 @@ pub enum Call {
     /// Damage: a length. What is added is 0.
     ProgramLength(usize),
     StoreLength(usize),
-    /// Damage: the device state.
+    /// Damage: the device state, or words in its place that are no device's.
     SetDevice(Device),
+    SetWords([u16; DEVICE_WORDS]),
     SetTotals(Totals),
     /// Keep program, store, device and totals; go back to what was kept last, at first that after formatting.
     Keep,
     Restore,
 }
 
-/// Budgets above this one are for runs whose first step is refused.
+/// Budgets above this one are for runs that a refusal ends before it.
 pub const LARGE_BUDGET: u32 = 10_000;
 
 /// The calls of the runtime by name, for counting.
@@ -48,6 +49,20 @@ impl Call {
             _ => None,
         }
     }
+
+    /// Whether it is given the device.
+    pub fn takes_device(&self) -> bool {
+        matches!(self, Call::Boot | Call::Step | Call::Post { .. } | Call::Cut | Call::Run { .. })
+    }
+
+    /// Whether it looks at it.
+    pub fn looks_at_device(&self) -> bool {
+        match self {
+            Call::Cut => CUT_LOOKS,
+            Call::Run { budget: 0 } => EMPTY_RUN_LOOKS,
+            _ => self.takes_device(),
+        }
+    }
 }
 
 /// What a call gave.
@@ -64,6 +79,14 @@ impl Outcome {
             Outcome::Run(RunAnswer { end: End::Refused(refusal), .. }) => Some(*refusal),
             _ => None,
         }
+    }
+
+    /// Whether the words in the device's place stood for no device state.
+    pub fn no_device(&self) -> bool {
+        matches!(
+            self,
+            Outcome::Answer(Answer::NoDevice) | Outcome::Run(RunAnswer { end: End::NoDevice, .. })
+        )
     }
 }
 
@@ -90,6 +113,8 @@ pub struct Machine {
     pub program: Vec<u16>,
     pub store: Vec<u16>,
     pub device: Device,
+    /// Words in the device's place that are no device's.
+    pub stray: Option<[u16; DEVICE_WORDS]>,
     pub totals: Totals,
 }
 
@@ -101,6 +126,7 @@ impl Machine {
             program: scenario.program.clone(),
             store: unformatted(memory, scenario.log_pairs, scenario.queue_records),
             device: Device::OFF,
+            stray: None,
             totals: scenario.totals,
         }
     }
@@ -110,12 +136,26 @@ impl Machine {
         self.program.clone_from(&other.program);
         self.store.clone_from(&other.store);
         self.device = other.device;
+        self.stray = other.stray;
         self.totals = other.totals;
+    }
+
+    /// The words in the device's place.
+    pub fn device_words(&self) -> [u16; DEVICE_WORDS] {
+        self.stray.unwrap_or_else(|| self.device.to_words())
     }
 
     /// Perform a call of the runtime; none for a change.
     pub fn call(&mut self, runtime: &dyn Runtime, call: &Call) -> Option<Outcome> {
-        let Machine { program, store, device, totals } = self;
+        let Machine { program, store, device, stray, totals } = self;
+        if let (Some(words), true) = (stray.as_mut(), call.takes_device()) {
+            let outcome = runtime.stray(call, program, store, words, totals);
+            if let Some(new) = Device::from_words(words) {
+                *device = new;
+                *stray = None;
+            }
+            return Some(outcome);
+        }
         let answer = match *call {
             Call::Check => runtime.check(program),
             Call::Format { log_pairs, queue_records } => {
@@ -133,21 +173,21 @@ impl Machine {
         Some(Outcome::Answer(answer))
     }
 
-    /// The call itself, but a run with a very large budget only where its first step is refused; elsewhere,
-    /// as in a shortened list, it might take hours, and the budget becomes a smaller one.
+    /// The call itself, but a run with a very large budget only where it ends soon; elsewhere, as in a
+    /// shortened list, it might take hours, and the budget becomes a smaller one.
     pub fn affordable(&self, runtime: &dyn Runtime, call: &Call) -> Call {
         match call {
-            Call::Run { budget } if *budget > LARGE_BUDGET && !self.step_is_refused(runtime) => {
+            Call::Run { budget } if *budget > LARGE_BUDGET && !self.ends_within(runtime, LARGE_BUDGET) => {
                 Call::Run { budget: LARGE_BUDGET }
             }
             _ => *call,
         }
     }
 
-    /// Whether a step would be refused.
-    pub fn step_is_refused(&self, runtime: &dyn Runtime) -> bool {
-        let outcome = self.clone().call(runtime, &Call::Step);
-        matches!(outcome, Some(outcome) if outcome.refusal().is_some())
+    /// Whether a run ends before so many steps, by a refusal or for want of a device.
+    pub fn ends_within(&self, runtime: &dyn Runtime, steps: u32) -> bool {
+        let outcome = self.clone().call(runtime, &Call::Run { budget: steps });
+        matches!(outcome, Some(outcome) if outcome.refusal().is_some() || outcome.no_device())
     }
 
     /// Carry out a change; `kept` is for keeping and going back.
@@ -165,7 +205,11 @@ impl Machine {
             }
             Call::ProgramLength(length) => self.program.resize(length, 0),
             Call::StoreLength(length) => self.store.resize(length, 0),
-            Call::SetDevice(device) => self.device = device,
+            Call::SetDevice(device) => {
+                self.device = device;
+                self.stray = None;
+            }
+            Call::SetWords(words) => self.stray = Some(words),
             Call::SetTotals(totals) => self.totals = totals,
             Call::Keep => kept.copy_from(self),
             Call::Restore => self.copy_from(kept),
@@ -176,6 +220,11 @@ impl Machine {
 
 // ---------------------------------------------------------------------------------------------------------
 // The text form: one line for the program (hex), one for the sizes, one for the totals, then the calls.
+
+fn set_device(words: &[u16; DEVICE_WORDS]) -> String {
+    let words: Vec<String> = words.iter().map(|word| word.to_string()).collect();
+    format!("set-device {}", words.join(" "))
+}
 
 pub fn call_text(call: &Call) -> String {
     match call {
@@ -190,10 +239,8 @@ pub fn call_text(call: &Call) -> String {
         Call::SetStore { index, word } => format!("set-store {index} {word}"),
         Call::ProgramLength(length) => format!("program-length {length}"),
         Call::StoreLength(length) => format!("store-length {length}"),
-        Call::SetDevice(device) => {
-            let words: Vec<String> = device.to_words().iter().map(|word| word.to_string()).collect();
-            format!("set-device {}", words.join(" "))
-        }
+        Call::SetDevice(device) => set_device(&device.to_words()),
+        Call::SetWords(words) => set_device(words),
         Call::SetTotals(totals) => {
             format!("set-totals {} {} {}", totals.committed, totals.accepted, totals.stores)
         }
@@ -274,7 +321,10 @@ impl Scenario {
                     for (which, place) in words.iter_mut().enumerate() {
                         *place = word(which)?;
                     }
-                    Call::SetDevice(Device::from_words(&words).ok_or_else(wrong)?)
+                    match Device::from_words(&words) {
+                        Some(device) => Call::SetDevice(device),
+                        None => Call::SetWords(words),
+                    }
                 }
                 "set-totals" => {
                     Call::SetTotals(Totals { committed: get(0)?, accepted: get(1)?, stores: get(2)? })

@@ -101,7 +101,7 @@ fn any_words() {
         let program = program(&mut random);
         let store = store(&mut random, &program);
         let totals = Totals { committed: u32::MAX, accepted: 0, stores: u32::MAX - 1 };
-        let mut machine = Machine { program, store, device: device(&mut random), totals };
+        let mut machine = Machine { program, store, device: device(&mut random), stray: None, totals };
         for _ in 0..random.from(1, 6) {
             let call = match random.below(8) {
                 0 => Call::Check,

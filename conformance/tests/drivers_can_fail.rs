@@ -2,13 +2,13 @@
 //! still catches it, and what isn't a mistake passes. Also the boundary to C functions and the text form.
 
 use conformance::compare::{self, Counts};
-use conformance::foreign::{answer_words, Foreign, Functions, ANSWER_WORDS};
+use conformance::foreign::{Foreign, Functions};
 use conformance::generate::scenario;
 use conformance::mutants::{LastPlace, Mistake, Mutant, MISTAKES};
 use conformance::reference::Reference;
-use conformance::runtime::*;
+use conformance::runtime::CUT_LOOKS;
 use conformance::scenario::Scenario;
-use conformance::{selfrun, shorten};
+use conformance::{selfrun, shorten, standin};
 
 /// The calls until the comparison catches a mistake, and the shortened list.
 fn caught_by_comparison(mistake: Mistake) -> Option<(u64, Scenario)> {
@@ -95,134 +95,9 @@ fn a_scenario_is_its_text() {
     }
 }
 
-// The reference behind C functions.
-
-unsafe fn words<'a>(start: *const u16, length: usize) -> &'a [u16] {
-    std::slice::from_raw_parts(start, length)
-}
-
-unsafe fn words_mut<'a>(start: *mut u16, length: usize) -> &'a mut [u16] {
-    std::slice::from_raw_parts_mut(start, length)
-}
-
-unsafe fn put_answer(answer: Answer, out: *mut u16) {
-    words_mut(out, ANSWER_WORDS).copy_from_slice(&answer_words(&answer));
-}
-
-unsafe fn with_device<T>(device: *mut u16, work: impl FnOnce(&mut Device) -> T) -> T {
-    let mut flat = [0; DEVICE_WORDS];
-    flat.copy_from_slice(words(device, DEVICE_WORDS));
-    let mut value = Device::from_words(&flat).unwrap();
-    let result = work(&mut value);
-    words_mut(device, DEVICE_WORDS).copy_from_slice(&value.to_words());
-    result
-}
-
-unsafe fn with_totals<T>(totals: *mut u32, work: impl FnOnce(&mut Totals) -> T) -> T {
-    let numbers = std::slice::from_raw_parts_mut(totals, 3);
-    let mut value = Totals { committed: numbers[0], accepted: numbers[1], stores: numbers[2] };
-    let result = work(&mut value);
-    numbers.copy_from_slice(&[value.committed, value.accepted, value.stores]);
-    result
-}
-
-unsafe extern "C" fn c_check(program: *const u16, length: usize, out: *mut u16) {
-    put_answer(Reference.check(words(program, length)), out);
-}
-
-unsafe extern "C" fn c_format(
-    program: *const u16,
-    length: usize,
-    log_pairs: u16,
-    queue_records: u16,
-    store: *mut u16,
-    store_length: usize,
-    out: *mut u16,
-) {
-    let store = words_mut(store, store_length);
-    put_answer(Reference.format(words(program, length), log_pairs, queue_records, store), out);
-}
-
-unsafe extern "C" fn c_boot(
-    program: *const u16,
-    length: usize,
-    store: *mut u16,
-    store_length: usize,
-    device: *mut u16,
-    out: *mut u16,
-) {
-    let store = words_mut(store, store_length);
-    put_answer(with_device(device, |device| Reference.boot(words(program, length), store, device)), out);
-}
-
-unsafe extern "C" fn c_step(
-    program: *const u16,
-    length: usize,
-    store: *mut u16,
-    store_length: usize,
-    device: *mut u16,
-    totals: *mut u32,
-    out: *mut u16,
-) {
-    let store = words_mut(store, store_length);
-    let answer = with_device(device, |device| {
-        with_totals(totals, |totals| Reference.step(words(program, length), store, device, totals))
-    });
-    put_answer(answer, out);
-}
-
-unsafe extern "C" fn c_post(
-    program: *const u16,
-    length: usize,
-    store: *mut u16,
-    store_length: usize,
-    device: *mut u16,
-    event: u16,
-    data: u16,
-    out: *mut u16,
-) {
-    let store = words_mut(store, store_length);
-    let program = words(program, length);
-    put_answer(with_device(device, |device| Reference.post(program, store, device, event, data)), out);
-}
-
-unsafe extern "C" fn c_cut(device: *mut u16, out: *mut u16) {
-    put_answer(with_device(device, |device| Reference.cut(device)), out);
-}
-
-unsafe extern "C" fn c_run(
-    program: *const u16,
-    length: usize,
-    store: *mut u16,
-    store_length: usize,
-    device: *mut u16,
-    totals: *mut u32,
-    budget: u32,
-    out: *mut u16,
-) -> u32 {
-    let store = words_mut(store, store_length);
-    let answer = with_device(device, |device| {
-        with_totals(totals, |totals| Reference.run(words(program, length), store, device, totals, budget))
-    });
-    match answer.end {
-        End::Spent => words_mut(out, ANSWER_WORDS).copy_from_slice(&[7, 0, 0, 0, 0]),
-        End::Refused(refusal) => put_answer(Answer::Refused(refusal), out),
-    }
-    answer.steps
-}
-
 #[test]
 fn the_boundary_to_c_functions() {
-    let functions = Functions {
-        check: c_check,
-        format: c_format,
-        boot: c_boot,
-        step: c_step,
-        post: c_post,
-        cut: c_cut,
-        run: c_run,
-    };
-    let foreign = Foreign { functions };
+    let foreign = Foreign { functions: standin::FUNCTIONS };
     let mut counts = Counts::default();
     for seed in 0..300 {
         for damaged in [false, true] {
@@ -230,5 +105,92 @@ fn the_boundary_to_c_functions() {
             let result = compare::drive(&Reference, &foreign, &list, &mut counts);
             assert!(result.is_ok(), "seed {seed}: {result:?}");
         }
+    }
+    // Calls that look at the device met words that are none.
+    for kind in [2, 3, 4, 6] {
+        assert!(counts.no_device[kind] > 0);
+    }
+}
+
+// C functions with a mistake at the boundary, each beside right ones.
+
+unsafe extern "C" fn cut_of_any_words(device: *mut u16, answer: *mut u16) {
+    std::slice::from_raw_parts_mut(device, 18).fill(0);
+    std::slice::from_raw_parts_mut(answer, 5).fill(0);
+}
+
+unsafe extern "C" fn cut_without_an_answer(device: *mut u16, _answer: *mut u16) {
+    let mut answer = [0; 5];
+    standin::cut(device, answer.as_mut_ptr());
+}
+
+unsafe extern "C" fn cut_with_19_words(device: *mut u16, answer: *mut u16) {
+    standin::cut(device, answer);
+    *device.add(18) = 0;
+}
+
+unsafe extern "C" fn check_with_six_words(program: *const u16, length: usize, answer: *mut u16) {
+    standin::check(program, length, answer);
+    *answer.add(5) = 0;
+}
+
+unsafe extern "C" fn check_by_another_case(program: *const u16, length: usize, answer: *mut u16) {
+    standin::check(program, length, answer);
+    if *answer == 0 {
+        *answer = 7;
+    }
+}
+
+/// Words 11 and 12 aren't looked at where no body runs.
+unsafe extern "C" fn step_reads_loosely(
+    program: *const u16,
+    length: usize,
+    store: *mut u16,
+    store_length: usize,
+    device: *mut u16,
+    totals: *mut u32,
+    answer: *mut u16,
+) {
+    if *device.add(9) == 0 {
+        *device.add(11) = 0;
+        *device.add(12) = 0;
+    }
+    standin::step(program, length, store, store_length, device, totals, answer)
+}
+
+/// A run without a device counts a step.
+unsafe extern "C" fn run_counts_without_a_device(
+    program: *const u16,
+    length: usize,
+    store: *mut u16,
+    store_length: usize,
+    device: *mut u16,
+    totals: *mut u32,
+    budget: u32,
+    answer: *mut u16,
+) -> u32 {
+    let steps = standin::run(program, length, store, store_length, device, totals, budget, answer);
+    steps + (*answer == 8) as u32
+}
+
+#[test]
+fn mistakes_at_the_boundary_are_caught() {
+    let right = standin::FUNCTIONS;
+    let wrong = [
+        Functions { cut: if CUT_LOOKS { cut_of_any_words } else { cut_without_an_answer }, ..right },
+        Functions { cut: cut_without_an_answer, ..right },
+        Functions { cut: cut_with_19_words, ..right },
+        Functions { check: check_with_six_words, ..right },
+        Functions { check: check_by_another_case, ..right },
+        Functions { step: step_reads_loosely, ..right },
+        Functions { run: run_counts_without_a_device, ..right },
+    ];
+    for (index, functions) in wrong.into_iter().enumerate() {
+        let foreign = Foreign { functions };
+        let caught = (0..300).any(|seed| {
+            let list = scenario(seed, true);
+            compare::drive(&Reference, &foreign, &list, &mut Counts::default()).is_err()
+        });
+        assert!(caught, "mistake {index} isn't caught");
     }
 }

@@ -86,10 +86,10 @@ CHANGES = [
     ("            2\n        }\n    };", "            3\n        }\n    };"),
     ("        _ => device.log_count as usize == look.parts.log_pairs,", "        _ => false,"),
     # the order
-    ("    refuse_broken(&broken_in_control(&head, &parts, store))?;\n    let look = Look { head, parts };\n    if state_unlike(&look, store, device) {\n        return Err(refusal(25));\n    }", "    let look = Look { head, parts };\n    refuse_broken(&broken_in_control(&look.head, &look.parts, store))?;\n    if device.on && state_unlike(&look, store, device) {\n        return Err(refusal(25));\n    }"),
+    ("    refuse_broken(first_in_control(&head, &parts, store))?;\n    let look = Look { head, parts };\n    if state_unlike(&look, store, device) {\n        return Err(refusal(25));\n    }", "    let look = Look { head, parts };\n    refuse_broken(first_in_control(&look.head, &look.parts, store))?;\n    if device.on && state_unlike(&look, store, device) {\n        return Err(refusal(25));\n    }"),
     ("    if event as usize >= look.head.events {\n        return Err(refusal(8));\n    }\n    if device.handler.is_some() {\n        return Err(refusal(20));\n    }", "    if device.handler.is_some() {\n        return Err(refusal(20));\n    }\n    if event as usize >= look.head.events {\n        return Err(refusal(8));\n    }"),
     ("    if device.handler.is_some() {\n        return Err(refusal(20));\n    }\n    if look.queue_full(store) {\n        return Err(refusal(21));\n    }", "    if look.queue_full(store) {\n        return Err(refusal(21));\n    }\n    if device.handler.is_some() {\n        return Err(refusal(20));\n    }", "same meaning"),
-    ("    refuse_broken(&broken_in_store(program, &head, &parts, store))?;\n    if device.on {\n        return Err(refusal(26));\n    }", "    if device.on {\n        return Err(refusal(26));\n    }\n    refuse_broken(&broken_in_store(program, &head, &parts, store))?;"),
+    ("    refuse_broken(broken_in_store(program, &head, &parts, store).first().copied())?;\n    if device.on {\n        return Err(refusal(26));\n    }", "    if device.on {\n        return Err(refusal(26));\n    }\n    refuse_broken(broken_in_store(program, &head, &parts, store).first().copied())?;"),
     ("        unlike = store[slot] != event;", "        if store[slot] != event {\n            return Err(refusal(25));\n        }"),
     ("        unlike = store[slot] != event;", "        unlike = false;\n        let _ = event;"),
     ("        if store[slot] as usize >= head.events {\n            return Err(refusal_at(7, slot, 0));\n        }\n        unlike = store[slot] != event;", "        unlike = store[slot] != event;"),
@@ -98,29 +98,29 @@ CHANGES = [
     ("    let mut instruction = None;\n    if index < row.count {", "    let mut instruction = None;\n    if index >= row.count {\n        return Err(refusal(25));\n    } else {"),
     ("    if half && opcode != SAVE && opcode != SAVEX {", "    if half && opcode != SAVE {"),
     ("    if ending > 0 && opcode != GO && opcode != DONE {", "    if false {"),
-    ("    let row = use_row(program, head, number)?;\n", "    if half && device.log_count == 0 && store[OPEN] != 0 && Some(&store[OPEN]) != program.get(8 + 3 * number) { return Err(refusal_at(7, OPEN, 0)); }\n    let row = use_row(program, head, number)?;\n"),
+    ("    let row = use_row(program, head, number)?;\n", "    if half && node.device.log_count == 0 && store[OPEN] != 0 && Some(&store[OPEN]) != program.get(8 + 3 * number) { return Err(refusal_at(7, OPEN, 0)); }\n    let row = use_row(program, head, number)?;\n"),
     # the order, finer
     ("    // 4: at GO, task k's row; with it the new open number.\n", "    if matches!(body, Body::Task(_)) && store[OPEN] != 0 && store[OPEN] != row.transaction {\n        return Err(refusal_at(7, OPEN, 0));\n    }\n"),
     ("    let mut instruction = None;\n    if index < row.count {", "    if matches!(body, Body::Task(_)) && store[OPEN] != 0 && store[OPEN] != row.transaction {\n        return Err(refusal_at(7, OPEN, 0));\n    }\n    let mut instruction = None;\n    if index < row.count {"),
     ("            return Err(refusal_at(7, slot, 0));\n        }\n        unlike = store[slot] != event;", "            use_row(program, head, number)?;\n            return Err(refusal_at(7, slot, 0));\n        }\n        unlike = store[slot] != event;"),
     ("    // The rest of 7: a running task", "    if half && instruction.as_ref().map_or(true, |i| i.opcode != SAVE && i.opcode != SAVEX) {\n        return Err(refusal(25));\n    }\n    // The rest of 7: a running task"),
     ("    // The rest of 7: a running task", "    if ending > 0 && instruction.as_ref().map_or(true, |i| i.opcode != GO && i.opcode != DONE) {\n        return Err(refusal(25));\n    }\n    // The rest of 7: a running task"),
-    ("    if has_address && address >= look.head.memory {\n        return Err(refusal(23));\n    }\n    let found = if has_address { search(look, store, device.log_count, address) } else { None };", "    let found = if has_address { search(look, store, device.log_count, address) } else { None };\n    if (opcode == SAVE || opcode == SAVEX) && found.is_none() && device.log_count as usize == look.parts.log_pairs {\n        return Err(refusal(24));\n    }\n    if has_address && address >= look.head.memory {\n        return Err(refusal(23));\n    }"),
-    ("    if let Some(handler) = device.handler {\n        return Ok(", "    if let (Some(_), Place::Running { body, .. }) = (device.handler, device.place) {\n        use_row(program, &look.head, look.head.body_number(body))?;\n    }\n    if let Some(handler) = device.handler {\n        return Ok("),
-    ("    let look = look(program, store, device)?;\n    if event as usize", "    let look = look(program, store, device)?;\n    refuse_broken(&broken_in_store(program, &look.head, &look.parts, store))?;\n    if event as usize"),
-    ("            if store[PHASE] != 0 {\n", "            if store[PHASE] != 0 {\n                refuse_broken(&broken_in_store(program, &look.head, &look.parts, store))?;\n"),
-    ("                choose(&look, store, device)\n", "                if store[OPEN] != 0 || look.queue_empty(store) { use_row(program, &look.head, store[TASK] as usize)?; }\n                choose(&look, store, device)\n"),
-    ("        return Ok(second_half(look, device, body, index, &instruction));", "        if device.registers[instruction.b] as usize + instruction.k as usize >= head.memory && opcode == SAVEX { return Err(refusal(23)); }\n        return Ok(second_half(look, device, body, index, &instruction));"),
-    ("    let pair = look.parts.pair(device.log_count as usize);\n    let place = Place::Running { body, instruction: index as u16 + 1, ending: 0 };\n    Effect", "    let pair = look.parts.pair(device.log_count as usize);\n    let place = Place::Running { body, instruction: index as u16 + 1, ending: 0 };\n    let pair = if device.log_count == 63 { pair - 2 } else { pair };\n    Effect"),
+    ("    if has_address && address >= look.head.memory {\n        return Err(refusal(23));\n    }\n    let found = if has_address { search(look, node.store, log_count, address) } else { None };", "    let found = if has_address { search(look, node.store, log_count, address) } else { None };\n    if (opcode == SAVE || opcode == SAVEX) && found.is_none() && log_count as usize == look.parts.log_pairs {\n        return Err(refusal(24));\n    }\n    if has_address && address >= look.head.memory {\n        return Err(refusal(23));\n    }"),
+    ("    if let Some(handler) = handler {\n        return Ok(", "    if let (Some(_), Place::Running { body, .. }) = (handler, place) {\n        use_row(program, &look.head, look.head.body_number(body))?;\n    }\n    if let Some(handler) = handler {\n        return Ok("),
+    ("    let look = look(program, store, device)?;\n    if event as usize", "    let look = look(program, store, device)?;\n    refuse_broken(broken_in_store(program, &look.head, &look.parts, store).first().copied())?;\n    if event as usize"),
+    ("            if node.store[PHASE] != 0 {\n", "            if node.store[PHASE] != 0 {\n                refuse_broken(broken_in_store(program, &look.head, &look.parts, node.store).first().copied())?;\n"),
+    ("                choose(&look, node)\n", "                if node.store[OPEN] != 0 || look.queue_empty(node.store) { use_row(program, &look.head, node.store[TASK] as usize)?; }\n                choose(&look, node)\n"),
+    ("        return Ok(second_half(look, node, stand, &instruction));", "        if node.device.registers[instruction.b] as usize + instruction.k as usize >= head.memory && opcode == SAVEX { return Err(refusal(23)); }\n        return Ok(second_half(look, node, stand, &instruction));"),
+    ("    let pair = look.parts.pair(node.device.log_count as usize);\n    node.make", "    let pair = look.parts.pair(node.device.log_count as usize);\n    let pair = if node.device.log_count == 63 { pair - 2 } else { pair };\n    node.make"),
     ("    if device.on {\n        return Err(refusal(26));\n    }\n", "    if device.on {\n        return Err(refusal(26));\n    }\n    if *device != Device::OFF {\n        return Err(refusal(25));\n    }\n"),
     # meaning
     ("        if row.transaction == next_row.transaction {", "        if true {"),
     ("let closing: &[Store] = if store[PHASE] == 1 {\n            &[(TASK, store[PENDING]), (OPEN, store[PENDING_OPEN]), (PHASE, 0)]", "let closing: &[Store] = if store[PHASE] == 1 {\n            &[(OPEN, store[PENDING_OPEN]), (TASK, store[PENDING]), (PHASE, 0)]"),
     ("        if address >= look.head.memory {\n            return Err(refusal_at(7, pair, 0));", "        if address >= look.head.memory {\n            return Err(refusal(23));"),
-    ("    let device = if made.0 == PHASE {\n        Device::ON\n    }", "    let device = if made.0 == PHASE {\n        Device { place: Place::NoBody { commit: 0 }, ..*device }\n    }"),
-    ("        return Effect { answer: Answer::Committed(body), store: Some(made), device: Device::ON };", "        return Effect { answer: Answer::Committed(body), store: Some(made), device: Device { place: Place::NoBody { commit: 0 }, ..*device } };"),
+    ("    if made.0 == PHASE {\n        *node.device = Device::ON;", "    if made.0 == PHASE {\n        node.device.place = Place::NoBody { commit: 0 };"),
+    ("        *node.device = Device::ON;\n        return Answer::Committed(body);", "        node.device.place = Place::NoBody { commit: 0 };\n        return Answer::Committed(body);"),
     ("        registers[0] = store[slot + 1];\n", ""),
-    ("let device = Device { registers, place, log_count: 0, ..*device };", "let device = Device { registers, place, ..*device };"),
+    ("    node.device.log_count = 0;\n", ""),
     ("    let body = if store[OPEN] == 0 && !look.queue_empty(store) {", "    let body = if !look.queue_empty(store) {"),
     ("let head_after = look.parts.after(store[HEAD] as usize) as u16;", "let head_after = look.parts.after(store[if ending == 1 { HEAD } else { PENDING }] as usize) as u16;", "same meaning"),
     ("let stores = [(COUNT, n), (PENDING, head_after), (PHASE, 2)];", "let stores = [(PENDING, head_after), (COUNT, n), (PHASE, 2)];"),
@@ -137,13 +137,14 @@ CHANGES = [
     ("    let head = check_program(program)?;\n    let parts", "    let head = head(program)?;\n    check_rows(program, &head)?;\n    let parts"),
     ("        Next::Tail => (Answer::Accepted, (TAIL, look.parts.after(tail) as u16), None),", "        Next::Tail => (Answer::Accepted, (TAIL, (tail as u16 + 1) & 0x3F), None),"),
     ("    if *total < u32::MAX {\n        *total += 1;\n    }", "    *total = total.wrapping_add(1);"),
-    ("        Answer::Accepted => add_one(&mut totals.accepted),", "        Answer::Accepted => add_one(&mut totals.committed),"),
+    ("        add_one(&mut node.totals.accepted);", "        add_one(&mut node.totals.committed);"),
     ("        while steps < budget {", "        while steps < budget.min(299) {"),
 ]
 
 text = open(os.path.join(HERE, "src", "reference.rs")).read()
 shutil.rmtree(os.path.join(FOLDER, "src"), ignore_errors=True)
 shutil.copytree(os.path.join(HERE, "src"), os.path.join(FOLDER, "src"))
+shutil.copytree(os.path.join(HERE, "tools"), os.path.join(FOLDER, "tools"), dirs_exist_ok=True)
 shutil.copy(os.path.join(HERE, "Cargo.toml"), FOLDER)
 modules, rows = [], []
 for number, change in enumerate(CHANGES):
@@ -186,7 +187,9 @@ fn main() {
     }
 }
 """ % "\n".join(rows))
-subprocess.run(["cargo", "build", "--release", "--offline", "-j1", "-q"], cwd=FOLDER, check=True)
+# Many copies, each run for a short time: built quickly rather than well.
+quick = dict(os.environ, CARGO_PROFILE_RELEASE_LTO="off", CARGO_PROFILE_RELEASE_OPT_LEVEL="1", CARGO_PROFILE_RELEASE_CODEGEN_UNITS="16")
+subprocess.run(["cargo", "build", "--release", "--offline", "-j1", "-q"], cwd=FOLDER, check=True, env=quick)
 result = subprocess.run([os.path.join(FOLDER, "target/release/conformance"), str(SEEDS)], capture_output=True, text=True)
 failed = False
 for line in result.stdout.splitlines():

@@ -1,0 +1,457 @@
+//! How fast the library is beside the reference: the same machine, the same input, one after the other in rounds.
+//! Prints Markdown.
+//!
+//!     bench [--rounds N] [--milliseconds N]   at least 9 rounds; about so long for each side in a round
+//!
+//! In a round the sides take turns ten times, and the best time of each counts, so that other work on the machine
+//! disturbs less. Each measurement starts from a formatted store and a booted device and makes the same calls on both sides; what both
+//! leave is compared. The library is called as a host calls it, on flat words; the reference on its own values, inlined.
+
+use conformance::cases::COUNTING;
+use conformance::foreign::Functions;
+use conformance::library::FUNCTIONS;
+use conformance::reference::*;
+use conformance::runtime::*;
+use std::hint::black_box;
+use std::process::exit;
+use std::time::Instant;
+
+// ---------------------------------------------------------------------------------------------------------
+// The two sides
+
+/// Store, device and totals.
+type Left = (Vec<u16>, [u16; DEVICE_WORDS], [u32; 3]);
+
+trait Side<'a> {
+    /// Formatted and booted.
+    fn new(load: &'a Load) -> Self;
+    fn step(&mut self);
+    /// A run, all of whose budget is spent.
+    fn run(&mut self, budget: u32);
+    fn post(&mut self, event: u16, data: u16);
+    fn left(self) -> Left;
+}
+
+struct Library<'a> {
+    functions: Functions,
+    program: &'a [u16],
+    store: Vec<u16>,
+    device: [u16; DEVICE_WORDS],
+    totals: [u32; 3],
+    answer: [u16; 5],
+}
+
+struct Rust<'a> {
+    program: &'a [u16],
+    store: Vec<u16>,
+    device: Device,
+    totals: Totals,
+}
+
+/// A program with the sizes of its store, and what is done with it over and over.
+struct Load {
+    name: String,
+    program: Vec<u16>,
+    log_pairs: u16,
+    queue_records: u16,
+    /// In one turn: so many posts, each with three steps, then so many steps.
+    posts: u32,
+    steps: u32,
+}
+
+impl Load {
+    fn store(&self) -> Vec<u16> {
+        let (log, queue) = (self.log_pairs as usize, self.queue_records as usize);
+        let mut store = vec![0; 18 + self.program[3] as usize + 2 * log + 2 * queue];
+        let answer = Reference.format(&self.program, self.log_pairs, self.queue_records, &mut store);
+        assert_eq!(answer, Answer::Done, "{}", self.name);
+        store
+    }
+
+    fn steps_in_a_turn(&self) -> u64 {
+        3 * self.posts as u64 + self.steps as u64
+    }
+}
+
+impl<'a> Side<'a> for Library<'a> {
+    fn new(load: &'a Load) -> Self {
+        let mut side = Library {
+            functions: FUNCTIONS,
+            program: &load.program,
+            store: load.store(),
+            device: [0; DEVICE_WORDS],
+            totals: [0; 3],
+            answer: [0; 5],
+        };
+        let (program, store) = (side.program, &mut side.store);
+        // Safety, here and below: pointers and lengths are those of slices and arrays that live through the call.
+        unsafe {
+            (side.functions.boot)(
+                program.as_ptr(),
+                program.len(),
+                store.as_mut_ptr(),
+                store.len(),
+                side.device.as_mut_ptr(),
+                side.answer.as_mut_ptr(),
+            )
+        };
+        assert_eq!(side.answer, [0; 5]);
+        side
+    }
+
+    fn step(&mut self) {
+        let program = black_box(self.program);
+        unsafe {
+            (self.functions.step)(
+                program.as_ptr(),
+                program.len(),
+                self.store.as_mut_ptr(),
+                self.store.len(),
+                self.device.as_mut_ptr(),
+                self.totals.as_mut_ptr(),
+                self.answer.as_mut_ptr(),
+            )
+        };
+        assert!(black_box(self.answer)[0] < 6);
+    }
+
+    fn run(&mut self, budget: u32) {
+        let program = black_box(self.program);
+        let steps = unsafe {
+            (self.functions.run)(
+                program.as_ptr(),
+                program.len(),
+                self.store.as_mut_ptr(),
+                self.store.len(),
+                self.device.as_mut_ptr(),
+                self.totals.as_mut_ptr(),
+                black_box(budget),
+                self.answer.as_mut_ptr(),
+            )
+        };
+        assert_eq!((steps, black_box(self.answer)[0]), (budget, 7));
+    }
+
+    fn post(&mut self, event: u16, data: u16) {
+        let program = black_box(self.program);
+        unsafe {
+            (self.functions.post)(
+                program.as_ptr(),
+                program.len(),
+                self.store.as_mut_ptr(),
+                self.store.len(),
+                self.device.as_mut_ptr(),
+                black_box(event),
+                black_box(data),
+                self.answer.as_mut_ptr(),
+            )
+        };
+        assert_eq!(black_box(self.answer)[0], 0);
+    }
+
+    fn left(self) -> Left {
+        (self.store, self.device, self.totals)
+    }
+}
+
+impl<'a> Side<'a> for Rust<'a> {
+    fn new(load: &'a Load) -> Self {
+        let mut side = Rust {
+            program: &load.program,
+            store: load.store(),
+            device: Device::OFF,
+            totals: Totals::default(),
+        };
+        assert_eq!(Reference.boot(side.program, &mut side.store, &mut side.device), Answer::Done);
+        side
+    }
+
+    fn step(&mut self) {
+        let program = black_box(self.program);
+        let answer = Reference.step(program, &mut self.store, &mut self.device, &mut self.totals);
+        assert!(!matches!(black_box(answer), Answer::Refused(_)));
+    }
+
+    fn run(&mut self, budget: u32) {
+        let program = black_box(self.program);
+        let answer =
+            Reference.run(program, &mut self.store, &mut self.device, &mut self.totals, black_box(budget));
+        assert_eq!(black_box(answer), RunAnswer { steps: budget, end: End::Spent });
+    }
+
+    fn post(&mut self, event: u16, data: u16) {
+        let program = black_box(self.program);
+        let answer =
+            Reference.post(program, &mut self.store, &mut self.device, black_box(event), black_box(data));
+        assert_eq!(black_box(answer), Answer::Done);
+    }
+
+    fn left(self) -> Left {
+        let Totals { committed, accepted, stores } = self.totals;
+        (self.store, self.device.to_words(), [committed, accepted, stores])
+    }
+}
+
+// ---------------------------------------------------------------------------------------------------------
+// Measuring
+
+#[derive(Clone, Copy, PartialEq)]
+enum How {
+    Run,
+    Step,
+}
+
+fn turn<'a, S: Side<'a>>(side: &mut S, load: &Load, how: How) {
+    for post in 0..load.posts {
+        side.post(0, post as u16);
+        match how {
+            How::Run => side.run(3),
+            How::Step => (0..3).for_each(|_| side.step()),
+        }
+    }
+    match how {
+        How::Run => side.run(load.steps),
+        How::Step => (0..load.steps).for_each(|_| side.step()),
+    }
+}
+
+/// So many turns: seconds for a step, and what is left.
+fn measure<'a, S: Side<'a>>(load: &'a Load, how: How, turns: u64) -> (f64, Left) {
+    let mut side = S::new(load);
+    turn(&mut side, load, how);
+    let start = Instant::now();
+    for _ in 0..turns {
+        turn(&mut side, load, how);
+    }
+    let seconds = start.elapsed().as_secs_f64();
+    (seconds / (turns * load.steps_in_a_turn()) as f64, side.left())
+}
+
+/// Seconds for a step of each side, by rounds.
+struct Measured {
+    library: Vec<f64>,
+    reference: Vec<f64>,
+}
+
+/// How often the sides take turns in a round.
+const TURNS: u32 = 10;
+
+/// All loads in rounds, the sides in turns.
+fn rounds(loads: &[(&Load, How)], rounds: usize, milliseconds: u64) -> Vec<Measured> {
+    let mut turns = Vec::new();
+    for (load, how) in loads {
+        let guess = 1 + 20_000 / load.steps_in_a_turn();
+        let (seconds, _) = measure::<Rust>(load, *how, guess);
+        let wanted = milliseconds as f64 / 1000.0 / TURNS as f64 / (seconds * load.steps_in_a_turn() as f64);
+        turns.push(1 + wanted as u64);
+    }
+    let mut measured: Vec<Measured> =
+        loads.iter().map(|_| Measured { library: Vec::new(), reference: Vec::new() }).collect();
+    for _ in 0..rounds {
+        for (index, (load, how)) in loads.iter().enumerate() {
+            let (mut library, mut reference) = (f64::INFINITY, f64::INFINITY);
+            for _ in 0..TURNS {
+                let (seconds, left) = measure::<Library>(load, *how, turns[index]);
+                let (other_seconds, other_left) = measure::<Rust>(load, *how, turns[index]);
+                assert!(left == other_left, "{}: the sides leave different words", load.name);
+                library = library.min(seconds);
+                reference = reference.min(other_seconds);
+            }
+            measured[index].library.push(library);
+            measured[index].reference.push(reference);
+        }
+    }
+    measured
+}
+
+/// Least, middle and largest.
+fn spread(mut values: Vec<f64>) -> [f64; 3] {
+    values.sort_by(|a, b| a.total_cmp(b));
+    [values[0], values[values.len() / 2], values[values.len() - 1]]
+}
+
+// ---------------------------------------------------------------------------------------------------------
+// Loads
+
+fn code(opcode: u16, a: u16, b: u16, k: u16) -> [u16; 2] {
+    [opcode * 256 + a * 16 + b, k]
+}
+
+/// A program: tasks with their transaction numbers, then events.
+fn program(memory: u16, tasks: &[(u16, Vec<[u16; 2]>)], events: &[Vec<[u16; 2]>]) -> Vec<u16> {
+    let bodies: Vec<(u16, &Vec<[u16; 2]>)> =
+        tasks.iter().map(|(number, body)| (*number, body)).chain(events.iter().map(|body| (0, body))).collect();
+    let mut words = vec![PROGRAM_MARK, tasks.len() as u16, events.len() as u16, memory, 0, 0];
+    let mut start = 6 + 3 * bodies.len();
+    for (number, body) in &bodies {
+        words.extend([start as u16, body.len() as u16, *number]);
+        start += 2 * body.len();
+    }
+    for (_, body) in &bodies {
+        words.extend(body.iter().flatten());
+    }
+    words[5] = words.len() as u16;
+    assert_eq!(Reference.check(&words), Answer::Done);
+    words
+}
+
+/// The counting program's task.
+fn counting(task: u16) -> Vec<[u16; 2]> {
+    vec![code(LOAD, 0, 0, 0), code(SET, 1, 0, 1), code(ADD, 0, 1, 0), code(SAVE, 0, 0, 0), code(GO, 0, 0, task)]
+}
+
+/// The counting program's task as the last of so many tasks and events, each body of so many instructions.
+fn counting_inside(tasks: u16, events: u16, instructions: usize, memory: u16) -> Vec<u16> {
+    let last = tasks - 1;
+    let padded = |mut body: Vec<[u16; 2]>, with: [u16; 2]| {
+        body.resize(instructions.max(body.len()), with);
+        body
+    };
+    let task = |number: u16| (0, padded(counting(number), code(GO, 0, 0, last)));
+    let tasks: Vec<(u16, Vec<[u16; 2]>)> = (0..tasks).map(task).collect();
+    let event = padded(vec![code(SAVE, 0, 0, 1)], code(DONE, 0, 0, 0));
+    let events = vec![event; events as usize];
+    let mut words = program(memory, &tasks, &events);
+    words[4] = last;
+    words
+}
+
+fn load(name: &str, program: Vec<u16>, sizes: (u16, u16), posts: u32, steps: u32) -> Load {
+    Load { name: name.into(), program, log_pairs: sizes.0, queue_records: sizes.1, posts, steps }
+}
+
+fn loads() -> Vec<Load> {
+    let arithmetic = vec![
+        code(SET, 1, 0, 12345),
+        code(SET, 2, 0, 3),
+        code(ADD, 0, 1, 0),
+        code(SUB, 1, 2, 0),
+        code(XOR, 3, 0, 0),
+        code(AND, 4, 3, 0),
+        code(OR, 4, 1, 0),
+        code(SHR, 3, 0, 3),
+        code(MOV, 5, 3, 0),
+        code(JLT, 5, 4, 11),
+        code(JZ, 6, 0, 2),
+        code(JUMP, 0, 0, 2),
+    ];
+    let mut full = Vec::new();
+    for opcode in [SAVE, LOAD, SAVE] {
+        full.extend((0..64).map(|address| code(opcode, 1, 0, address)));
+    }
+    full.push(code(GO, 0, 0, 0));
+    let count = |next: u16, word: u16| {
+        vec![code(LOAD, 0, 0, word), code(SET, 1, 0, 1), code(ADD, 0, 1, 0), code(SAVE, 0, 0, word), code(GO, 0, 0, next)]
+    };
+    let event = vec![code(LOAD, 1, 0, 1), code(ADD, 1, 0, 0), code(SAVE, 1, 0, 1), code(DONE, 0, 0, 0)];
+    let transactions = [(7, count(1, 0)), (7, count(2, 1)), (7, count(3, 2)), (0, count(0, 3))];
+    vec![
+        load("the counting program", COUNTING.to_vec(), (1, 1), 0, 14_000),
+        load("arithmetic in a loop", program(1, &[(0, arithmetic)], &[]), (1, 1), 0, 14_000),
+        // Chosen, 64 SAVEs of two steps, 64 LOADs, 64 SAVEs of one, four stores, 64 copies, three stores.
+        load("a full log of 64 pairs", program(64, &[(0, full)], &[]), (64, 1), 0, 328 * 40),
+        // Chosen, LOAD, ADD, SAVE of two steps, three stores, one copy, two stores.
+        load("32 events queued and served", program(2, &[(0, counting(0))], &[event]), (1, 32), 32, 32 * 11),
+        load("transactions of three tasks", program(4, &transactions, &[]), (1, 1), 0, 14_000),
+    ]
+}
+
+/// Programs of 26 to 24,726 words, stores of 24 to 1,234.
+fn flat_loads() -> Vec<Load> {
+    let inside = |tasks: u16, events: u16, instructions: usize, memory: u16, sizes: (u16, u16)| {
+        load("", counting_inside(tasks, events, instructions, memory), sizes, 0, 14_000)
+    };
+    let mut loads = vec![load("", COUNTING.to_vec(), (1, 1), 0, 14_000)];
+    for (tasks, events, instructions) in [(2, 1, 14), (8, 4, 40), (16, 8, 100), (32, 16, 128), (32, 16, 256)] {
+        loads.push(inside(tasks, events, instructions, 2, (1, 1)));
+    }
+    for (memory, sizes) in [(64, (8, 8)), (256, (32, 16)), (1024, (64, 32))] {
+        let mut words = COUNTING.to_vec();
+        words[3] = memory;
+        loads.push(load("", words, sizes, 0, 14_000));
+    }
+    loads.push(inside(32, 16, 256, 1024, (64, 32)));
+    loads
+}
+
+// ---------------------------------------------------------------------------------------------------------
+// Tables
+
+fn print_speed(loads: &[(&Load, How)], measured: &[Measured]) {
+    println!("## Steps a second\n");
+    println!("Millions of steps a second, the middle of the rounds; then library/reference, round by round. Above 1 the library is faster.\n");
+    println!("| Input | Call | Library | Reference | Ratio, least | middle | largest |");
+    println!("|---|---|---:|---:|---:|---:|---:|");
+    for ((load, how), Measured { library, reference }) in loads.iter().zip(measured) {
+        let ratios = spread(library.iter().zip(reference).map(|(library, reference)| reference / library).collect());
+        println!(
+            "| {} | {} | {:.1} | {:.1} | {:.2} | {:.2} | {:.2} |",
+            load.name,
+            if *how == How::Run { "run" } else { "step" },
+            1e-6 / spread(library.clone())[1],
+            1e-6 / spread(reference.clone())[1],
+            ratios[0],
+            ratios[1],
+            ratios[2]
+        );
+    }
+    println!();
+}
+
+fn print_flatness(loads: &[(&Load, How)], measured: &[Measured]) {
+    println!("## Flatness\n");
+    println!("The counting program's step by `run`, in nanoseconds, inside larger programs and stores; then the library's least beside that of its first row.\n");
+    println!("| Program words | Store words | Library, least | middle | largest | Reference, least | middle | largest | Library beside first row |");
+    println!("|---:|---:|---:|---:|---:|---:|---:|---:|---:|");
+    let first = spread(measured[0].library.clone())[0];
+    for ((load, _), Measured { library, reference }) in loads.iter().zip(measured) {
+        let library = spread(library.clone());
+        let reference = spread(reference.clone());
+        print!("| {} | {} |", load.program.len(), load.store().len());
+        for seconds in library.iter().chain(&reference) {
+            print!(" {:.1} |", seconds * 1e9);
+        }
+        println!(" {:.2} |", library[0] / first);
+    }
+    println!();
+}
+
+fn usage() -> ! {
+    println!("bench [--rounds N] [--milliseconds N]");
+    exit(2);
+}
+
+fn processor() -> String {
+    let text = std::fs::read_to_string("/proc/cpuinfo").unwrap_or_default();
+    let line = text.lines().find(|line| line.starts_with("model name"));
+    line.and_then(|line| line.split(": ").nth(1)).unwrap_or("unknown processor").to_string()
+}
+
+fn main() {
+    let mut count = 15;
+    let mut milliseconds = 20;
+    let mut arguments = std::env::args().skip(1);
+    while let Some(name) = arguments.next() {
+        let value = arguments.next().unwrap_or_else(|| usage());
+        match name.as_str() {
+            "--rounds" => count = value.parse().unwrap_or_else(|_| usage()),
+            "--milliseconds" => milliseconds = value.parse().unwrap_or_else(|_| usage()),
+            _ => usage(),
+        }
+    }
+    if count < 9 {
+        usage();
+    }
+    println!("# Library and reference\n");
+    println!(
+        "{}. {count} rounds; in each the sides take turns {TURNS} times, about {milliseconds} ms a side in all, and the best time of each counts. Both built for release; the stores are formatted before each measurement.\n",
+        processor()
+    );
+    let loads = loads();
+    let all: Vec<(&Load, How)> =
+        loads.iter().flat_map(|load| [(load, How::Run), (load, How::Step)]).collect();
+    print_speed(&all, &rounds(&all, count, milliseconds));
+    let flat = flat_loads();
+    let all: Vec<(&Load, How)> = flat.iter().map(|load| (load, How::Run)).collect();
+    print_flatness(&all, &rounds(&all, count, milliseconds));
+}

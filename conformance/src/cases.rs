@@ -1,0 +1,441 @@
+//! The counting program of the paper and the cases under it, for any implementation. A case that fails panics
+//! with what differs; `all` catches that and prints the case's name.
+
+use crate::reference::{broken_words, DONE, GO, JLT, JUMP, LOADX, SAVE, SET, SHR};
+use crate::runtime::*;
+use crate::scenario::{Call, Outcome};
+
+pub const COUNTING: [u16; 26] = [
+    0xC0B1, 0x0001, 0x0001, 0x0002, 0x0000, 0x001A, // contents
+    0x000C, 0x0005, 0x0000, // the task's row
+    0x0016, 0x0002, 0x0000, // the event's row
+    0x0800, 0x0000, 0x0010, 0x0001, 0x0201, 0x0000, 0x0900, 0x0000, 0x0F00, 0x0000, // adds 1 to word 0
+    0x0900, 0x0001, 0x1000, 0x0000, // saves its data in word 1
+];
+
+fn refused(number: u16) -> Answer {
+    Answer::Refused(Refusal { number, place: (0, 0) })
+}
+
+fn refused_at(number: u16, first: u16, second: u16) -> Answer {
+    Answer::Refused(Refusal { number, place: (first, second) })
+}
+
+fn with(changes: &[(usize, u16)]) -> Vec<u16> {
+    let mut program = COUNTING.to_vec();
+    for (index, word) in changes {
+        program[*index] = *word;
+    }
+    program
+}
+
+/// A program, a formatted store, a device and totals.
+struct Bench<'a> {
+    runtime: &'a dyn Runtime,
+    program: Vec<u16>,
+    store: Vec<u16>,
+    device: Device,
+    totals: Totals,
+}
+
+impl<'a> Bench<'a> {
+    fn new(runtime: &'a dyn Runtime, program: &[u16], log_pairs: u16, queue_records: u16) -> Bench<'a> {
+        let length = 18 + program[3] as usize + 2 * log_pairs as usize + 2 * queue_records as usize;
+        let mut store = vec![0xAAAA; length];
+        assert_eq!(runtime.format(program, log_pairs, queue_records, &mut store), Answer::Done);
+        Bench { runtime, program: program.to_vec(), store, device: Device::OFF, totals: Totals::default() }
+    }
+
+    /// Formatted and booted.
+    fn booted(runtime: &'a dyn Runtime, program: &[u16], log_pairs: u16, queue_records: u16) -> Bench<'a> {
+        let mut bench = Bench::new(runtime, program, log_pairs, queue_records);
+        assert_eq!(bench.boot(), Answer::Done);
+        bench
+    }
+
+    fn counting(runtime: &'a dyn Runtime) -> Bench<'a> {
+        Bench::booted(runtime, &COUNTING, 1, 1)
+    }
+
+    fn boot(&mut self) -> Answer {
+        self.runtime.boot(&self.program, &mut self.store, &mut self.device)
+    }
+
+    fn step(&mut self) -> Answer {
+        self.runtime.step(&self.program, &mut self.store, &mut self.device, &mut self.totals)
+    }
+
+    fn steps(&mut self, count: usize) -> Answer {
+        let mut answer = Answer::Done;
+        for _ in 0..count {
+            answer = self.step();
+            assert!(!matches!(answer, Answer::Refused(_)), "{answer:?}");
+        }
+        answer
+    }
+
+    fn post(&mut self, event: u16, data: u16) -> Answer {
+        self.runtime.post(&self.program, &mut self.store, &mut self.device, event, data)
+    }
+
+    fn cut(&mut self) {
+        assert_eq!(self.runtime.cut(&mut self.device), Answer::Done);
+        assert_eq!(self.device, Device::OFF);
+    }
+
+    /// A cut, a boot, then steps while the phase isn't 0; the number of steps.
+    fn recover(&mut self) -> usize {
+        self.cut();
+        assert_eq!(self.boot(), Answer::Done);
+        let mut steps = 0;
+        while self.store[8] != 0 {
+            assert_eq!(self.step(), Answer::Stored);
+            steps += 1;
+            assert!(steps < 100, "recovery doesn't end");
+        }
+        steps
+    }
+
+    fn memory(&self) -> &[u16] {
+        &self.store[16..16 + self.program[3] as usize]
+    }
+}
+
+/// A program of one task with these instructions.
+fn one_task(memory: u16, code: &[(u16, u16, u16, u16)]) -> Vec<u16> {
+    let mut program = vec![0xC0B1, 1, 0, memory, 0, 0, 9, code.len() as u16, 0];
+    for (opcode, a, b, k) in code {
+        program.push(opcode * 256 + a * 16 + b);
+        program.push(*k);
+    }
+    program[5] = program.len() as u16;
+    program
+}
+
+fn accepted_and_lengths(runtime: &dyn Runtime) {
+    assert_eq!(runtime.check(&COUNTING), Answer::Done);
+    assert_eq!(runtime.check(&with(&[(5, 0x001B)])), refused(1));
+    assert_eq!(runtime.check(&COUNTING[..5]), refused(1));
+}
+
+fn tasks_and_last_instruction(runtime: &dyn Runtime) {
+    assert_eq!(runtime.check(&with(&[(1, 33)])), refused_at(3, 1, 0));
+    assert_eq!(runtime.check(&with(&[(24, 0x0200), (25, 0)])), refused_at(5, 1, 1));
+}
+
+fn load_address(runtime: &dyn Runtime) {
+    assert_eq!(runtime.check(&with(&[(13, 1)])), Answer::Done);
+    assert_eq!(runtime.check(&with(&[(13, 2)])), refused_at(5, 0, 0));
+}
+
+fn nine_steps_and_ten(runtime: &dyn Runtime) {
+    let mut bench = Bench::counting(runtime);
+    bench.steps(9);
+    bench.recover();
+    assert_eq!(bench.memory(), [0, 0]);
+
+    let mut bench = Bench::counting(runtime);
+    assert_eq!(bench.steps(10), Answer::Committed(Body::Task(0)));
+    assert_eq!(bench.recover(), 4);
+    assert_eq!(bench.memory(), [1, 0]);
+
+    let mut bench = Bench::counting(runtime);
+    bench.steps(13);
+    assert_eq!(bench.store[8], 1);
+    assert_eq!(bench.step(), Answer::Stored);
+    assert_eq!(bench.store[8], 0);
+    assert_eq!(bench.memory(), [1, 0]);
+    assert_eq!(bench.totals, Totals { committed: 1, accepted: 0, stores: 10 });
+}
+
+fn each_of_fourteen_steps(runtime: &dyn Runtime) {
+    let mut bench = Bench::counting(runtime);
+    let answers: Vec<Answer> = (0..14).map(|_| bench.step()).collect();
+    let mut expected = vec![Answer::Chosen(Body::Task(0))];
+    expected.extend([Answer::Worked; 3]);
+    expected.extend([Answer::Stored; 5]);
+    expected.push(Answer::Committed(Body::Task(0)));
+    expected.extend([Answer::Stored; 4]);
+    assert_eq!(answers, expected);
+}
+
+fn post_and_three_steps(runtime: &dyn Runtime) {
+    let mut bench = Bench::counting(runtime);
+    assert_eq!(bench.post(0, 77), Answer::Done);
+    assert_eq!(bench.steps(3), Answer::Accepted);
+    // A further post is refused until the event's commit has moved head.
+    let mut steps = 0;
+    while bench.store[14] == 0 {
+        assert_eq!(bench.post(0, 78), refused(21));
+        bench.steps(1);
+        steps += 1;
+        assert!(steps < 100, "the event isn't served");
+    }
+    // Chosen, two halves of SAVE, 11, 12, 8; one copy; head.
+    assert_eq!(steps, 8);
+    assert_eq!(bench.post(0, 78), Answer::Done);
+}
+
+fn post_while_a_handler_is_at_work(runtime: &dyn Runtime) {
+    let mut bench = Bench::counting(runtime);
+    assert_eq!(bench.post(0, 1), Answer::Done);
+    bench.steps(1);
+    assert_eq!(bench.post(0, 2), refused(20));
+
+    let mut bench = Bench::counting(runtime);
+    assert_eq!(bench.post(0, 1), Answer::Done);
+    bench.steps(2);
+    bench.recover();
+    assert_eq!(bench.store[14], bench.store[15]);
+    assert_eq!(bench.totals.accepted, 0);
+    // No answer accepted comes later either.
+    for _ in 0..100 {
+        assert_ne!(bench.step(), Answer::Accepted);
+    }
+}
+
+fn cut_after_the_head_store(runtime: &dyn Runtime) {
+    let mut bench = Bench::counting(runtime);
+    bench.post(0, 77);
+    bench.steps(3);
+    // Chosen, two halves of SAVE, 11, 12, 8; one copy; head.
+    bench.steps(8);
+    assert_eq!((bench.store[8], bench.store[14]), (2, 1));
+    assert_eq!(bench.recover(), 3);
+    assert_eq!((bench.store[8], bench.store[14], bench.store[15]), (0, 1, 1));
+    assert_eq!(bench.memory(), [0, 77]);
+}
+
+fn shift_right(runtime: &dyn Runtime) {
+    let shift = |word: u16, k: u16| {
+        let program = one_task(1, &[(SET, 0, 0, word), (SHR, 0, 0, k), (GO, 0, 0, 0)]);
+        let mut bench = Bench::booted(runtime, &program, 1, 1);
+        bench.steps(3);
+        bench.device.registers[0]
+    };
+    assert_eq!(shift(0x8000, 15), 0xFFFF);
+    assert_eq!(shift(0x7FFF, 15), 0);
+    assert_eq!(shift(0xFFFF, 1), 0xFFFF);
+    assert_eq!(shift(0x8001, 0), 0x8001);
+    let program = one_task(1, &[(SET, 0, 0, 1), (SHR, 0, 0, 16), (GO, 0, 0, 0)]);
+    assert_eq!(runtime.check(&program), refused_at(5, 0, 1));
+}
+
+fn less_than(runtime: &dyn Runtime) {
+    let less = |a: u16, b: u16| {
+        let code = [(SET, 1, 0, a), (SET, 2, 0, b), (JLT, 1, 2, 4), (JUMP, 0, 0, 3), (GO, 0, 0, 0)];
+        let mut bench = Bench::booted(runtime, &one_task(1, &code), 1, 1);
+        bench.steps(4);
+        bench.device.place == Place::Running { body: Body::Task(0), instruction: 4, ending: 0 }
+    };
+    assert!(less(0x8000, 0));
+    assert!(!less(0x7FFF, 0x8000));
+    assert!(less(0x8000, 0x7FFF));
+    assert!(!less(5, 5));
+}
+
+fn index_out_of_range(runtime: &dyn Runtime) {
+    let program = one_task(2, &[(SET, 3, 0, 0xFFFF), (LOADX, 0, 3, 1), (GO, 0, 0, 0)]);
+    let mut bench = Bench::booted(runtime, &program, 1, 1);
+    bench.steps(2);
+    assert_eq!(bench.step(), refused(23));
+    assert_eq!(bench.step(), refused(23));
+}
+
+fn log_of_one_pair(runtime: &dyn Runtime) {
+    let twice = one_task(2, &[(SAVE, 0, 0, 1), (SAVE, 0, 0, 1), (GO, 0, 0, 0)]);
+    let mut bench = Bench::booted(runtime, &twice, 1, 1);
+    // Chosen, two halves, one overwriting step, four ending stores.
+    assert_eq!(bench.steps(8), Answer::Committed(Body::Task(0)));
+
+    let two = one_task(2, &[(SAVE, 0, 0, 1), (SAVE, 0, 0, 0), (GO, 0, 0, 0)]);
+    let mut bench = Bench::booted(runtime, &two, 1, 1);
+    bench.steps(3);
+    assert_eq!(bench.step(), refused(24));
+    assert_eq!(bench.step(), refused(24));
+}
+
+fn store_of_24_words(runtime: &dyn Runtime) {
+    // Accepted: formatting, boot, a post and steps.
+    let mut bench = Bench::new(runtime, &COUNTING, 1, 1);
+    assert_eq!(bench.store.len(), 24);
+    assert_eq!(bench.boot(), Answer::Done);
+    assert_eq!(bench.post(0, 7), Answer::Done);
+    assert_eq!(bench.steps(3), Answer::Accepted);
+    // Of 23, and of 25: 6 from each call that has a store, and nothing changes.
+    let off = Refusal { number: 6, place: (0, 0) };
+    for length in [23, 25] {
+        let mut short = bench.store.clone();
+        short.resize(length, 0);
+        let before = short.clone();
+        let mut totals = bench.totals;
+        assert_eq!(runtime.format(&COUNTING, 1, 1, &mut short), refused(6));
+        let mut device = Device::OFF;
+        assert_eq!(runtime.boot(&COUNTING, &mut short, &mut device), refused(6));
+        assert_eq!(device, Device::OFF);
+        let mut device = bench.device;
+        assert_eq!(runtime.step(&COUNTING, &mut short, &mut device, &mut totals), refused(6));
+        assert_eq!(runtime.post(&COUNTING, &mut short, &mut device, 0, 7), refused(6));
+        let run = runtime.run(&COUNTING, &mut short, &mut device, &mut totals, 9);
+        assert_eq!(run, RunAnswer { steps: 0, end: End::Refused(off) });
+        assert_eq!((device, totals, short), (bench.device, bench.totals, before));
+    }
+}
+
+fn formatting(runtime: &dyn Runtime) {
+    let bench = Bench::new(runtime, &COUNTING, 1, 1);
+    let mut expected = vec![0xC0A1, 2, 1, 1, 8, 16, 18, 20];
+    expected.resize(24, 0);
+    assert_eq!(bench.store, expected);
+    for (log_pairs, queue_records) in [(0, 1), (65, 1), (1, 0), (1, 33)] {
+        let mut store = vec![0; 24];
+        assert_eq!(runtime.format(&COUNTING, log_pairs, queue_records, &mut store), refused(9));
+    }
+}
+
+fn budgets(runtime: &dyn Runtime) {
+    let mut bench = Bench::new(runtime, &COUNTING, 1, 1);
+    let run = |bench: &mut Bench, budget: u32| {
+        runtime.run(&bench.program, &mut bench.store, &mut bench.device, &mut bench.totals, budget)
+    };
+    // A budget of 0 looks at nothing.
+    let nothing = runtime.run(&[], &mut [], &mut bench.device, &mut bench.totals, 0);
+    assert_eq!(nothing, RunAnswer { steps: 0, end: End::Spent });
+    let off = Refusal { number: 22, place: (0, 0) };
+    assert_eq!(run(&mut bench, u32::MAX), RunAnswer { steps: 0, end: End::Refused(off) });
+    assert_eq!(bench.boot(), Answer::Done);
+    assert_eq!(run(&mut bench, 28), RunAnswer { steps: 28, end: End::Spent });
+    assert_eq!(bench.memory(), [2, 0]);
+}
+
+fn the_largest_budget(runtime: &dyn Runtime) {
+    let two = one_task(2, &[(SAVE, 0, 0, 1), (SAVE, 0, 0, 0), (GO, 0, 0, 0)]);
+    let full = End::Refused(Refusal { number: 24, place: (0, 0) });
+    for budget in [4, 5, u32::MAX - 1, u32::MAX] {
+        let mut bench = Bench::booted(runtime, &two, 1, 1);
+        let Bench { program, store, device, totals, .. } = &mut bench;
+        // Chosen and the two halves of the first SAVE; the second is refused.
+        assert_eq!(runtime.run(program, store, device, totals, budget), RunAnswer { steps: 3, end: full });
+        assert_eq!(runtime.run(program, store, device, totals, 1), RunAnswer { steps: 0, end: full });
+        assert_eq!(*totals, Totals { committed: 0, accepted: 0, stores: 2 });
+    }
+}
+
+fn totals_stay_at_the_largest_value(runtime: &dyn Runtime) {
+    let mut bench = Bench::counting(runtime);
+    bench.totals = Totals { committed: u32::MAX - 1, accepted: u32::MAX, stores: u32::MAX - 2 };
+    assert_eq!(bench.post(0, 7), Answer::Done);
+    // Accepted, the event committed, the task committed twice.
+    let Bench { program, store, device, totals, .. } = &mut bench;
+    let run = runtime.run(program, store, device, totals, 3 + 9 + 28);
+    assert_eq!(run, RunAnswer { steps: 40, end: End::Spent });
+    assert_eq!(*totals, Totals { committed: u32::MAX, accepted: u32::MAX, stores: u32::MAX });
+    assert_eq!(bench.memory(), [2, 7]);
+}
+
+fn words_that_are_no_device(runtime: &dyn Runtime) {
+    let bench = Bench::counting(runtime);
+    let on = bench.device.to_words();
+    // On as 2; a place, a kind and a handler out of range; and words that their case doesn't have.
+    let one: [&[(usize, u16)]; 12] = [
+        &[(0, 2)],
+        &[(0, 65535)],
+        &[(9, 3)],
+        &[(10, 1)],
+        &[(9, 1), (10, 2)],
+        &[(11, 1)],
+        &[(12, 1)],
+        &[(9, 2), (13, 1)],
+        &[(15, 4)],
+        &[(16, 1)],
+        &[(17, 1)],
+        &[(15, 65535)],
+    ];
+    for changes in one {
+        let mut words = on;
+        for (index, word) in changes {
+            words[*index] = *word;
+        }
+        assert_eq!(Device::from_words(&words), None);
+        let (mut store, mut device, mut totals) = (bench.store.clone(), words, bench.totals);
+        let calls =
+            [Call::Boot, Call::Step, Call::Post { event: 0, data: 1 }, Call::Cut, Call::Run { budget: u32::MAX }];
+        for call in calls.iter().filter(|call| call.looks_at_device()) {
+            let outcome = runtime.stray(call, &COUNTING, &mut store, &mut device, &mut totals);
+            assert!(outcome.no_device(), "{call:?} on {words:?} answers {outcome:?}");
+            if let Outcome::Run(answer) = outcome {
+                assert_eq!(answer.steps, 0);
+            }
+            assert_eq!((&store, device, totals), (&bench.store, words, bench.totals));
+        }
+    }
+}
+
+fn places_of_seven(runtime: &dyn Runtime) {
+    // Two broken rules that need no other, and one passed over.
+    let mut bench = Bench::counting(runtime);
+    bench.store[9] = 1;
+    bench.store[10] = 3;
+    bench.store[15] = 2;
+    assert_eq!(broken_words(&bench.program, &bench.store), [9, 15]);
+    // A waiting record of no event: slot 0 of the ring, at 20.
+    let mut bench = Bench::counting(runtime);
+    bench.store[15] = 1;
+    bench.store[20] = 1;
+    assert_eq!(broken_words(&bench.program, &bench.store), [20]);
+    assert_eq!(bench.step(), refused_at(7, 20, 0));
+    // In phase 2 with word 12 behind head, that record doesn't wait.
+    bench.store[8] = 2;
+    bench.store[12] = 1;
+    assert!(broken_words(&bench.program, &bench.store).is_empty());
+    // Log addresses count in phases 1 and 2.
+    bench.store[11] = 1;
+    bench.store[18] = 2;
+    assert_eq!(broken_words(&bench.program, &bench.store), [18]);
+    assert_eq!(bench.step(), refused_at(7, 18, 0));
+}
+
+fn an_event_ends_with_done_only(runtime: &dyn Runtime) {
+    assert_eq!(runtime.check(&with(&[(24, GO * 256)])), refused_at(5, 1, 1));
+    assert_eq!(runtime.check(&with(&[(20, DONE * 256)])), refused_at(5, 0, 4));
+}
+
+/// The cases by name.
+pub const CASES: [(&str, fn(&dyn Runtime)); 20] = [
+    ("accepted and lengths", accepted_and_lengths),
+    ("tasks and last instruction", tasks_and_last_instruction),
+    ("load address", load_address),
+    ("nine steps and ten", nine_steps_and_ten),
+    ("each of fourteen steps", each_of_fourteen_steps),
+    ("post and three steps", post_and_three_steps),
+    ("post while a handler is at work", post_while_a_handler_is_at_work),
+    ("cut after the head store", cut_after_the_head_store),
+    ("shift right", shift_right),
+    ("less than", less_than),
+    ("index out of range", index_out_of_range),
+    ("log of one pair", log_of_one_pair),
+    ("store of 24 words", store_of_24_words),
+    ("formatting", formatting),
+    ("budgets", budgets),
+    ("the largest budget", the_largest_budget),
+    ("totals stay at the largest value", totals_stay_at_the_largest_value),
+    ("words that are no device", words_that_are_no_device),
+    ("places of seven", places_of_seven),
+    ("an event ends with done only", an_event_ends_with_done_only),
+];
+
+/// Every case on an implementation. Whether all hold.
+pub fn all(runtime: &dyn Runtime) -> bool {
+    let before = std::panic::take_hook();
+    std::panic::set_hook(Box::new(|what| println!("{what}")));
+    let mut well = true;
+    for (name, case) in CASES {
+        let held = std::panic::catch_unwind(std::panic::AssertUnwindSafe(|| case(runtime)));
+        if held.is_err() {
+            println!("FAILED: case {name}");
+            well = false;
+        }
+    }
+    std::panic::set_hook(before);
+    well
+}
