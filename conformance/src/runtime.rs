@@ -90,11 +90,6 @@ pub struct Device {
 /// The number of words in the flat form of a device state.
 pub const DEVICE_WORDS: usize = 18;
 
-/// Whether a cut, and a run with a budget of 0, look at the words in the device's place and answer that they stand for
-/// no device state. Otherwise such a cut turns any words into the off value's, and such a run is spent.
-pub const CUT_LOOKS: bool = true;
-pub const EMPTY_RUN_LOOKS: bool = true;
-
 impl Device {
     /// Off: one fixed value.
     pub const OFF: Device = Device {
@@ -226,11 +221,9 @@ pub trait Runtime {
         words: &mut [u16; DEVICE_WORDS],
         _totals: &mut Totals,
     ) -> Outcome {
-        let looks = call.looks_at_device();
         match call {
-            Call::Run { .. } if looks => Outcome::Run(RunAnswer { steps: 0, end: End::NoDevice }),
-            Call::Run { .. } => Outcome::Run(RunAnswer { steps: 0, end: End::Spent }),
-            Call::Cut if !looks => {
+            Call::Run { .. } => Outcome::Run(RunAnswer { steps: 0, end: End::NoDevice }),
+            Call::Cut => {
                 *words = Device::OFF.to_words();
                 Outcome::Answer(Answer::Done)
             }

@@ -55,13 +55,9 @@ impl Call {
         matches!(self, Call::Boot | Call::Step | Call::Post { .. } | Call::Cut | Call::Run { .. })
     }
 
-    /// Whether it looks at it.
+    /// Whether it looks at it. A cut leaves the off value, whatever it finds.
     pub fn looks_at_device(&self) -> bool {
-        match self {
-            Call::Cut => CUT_LOOKS,
-            Call::Run { budget: 0 } => EMPTY_RUN_LOOKS,
-            _ => self.takes_device(),
-        }
+        self.takes_device() && *self != Call::Cut
     }
 }
 

@@ -127,9 +127,7 @@ pub unsafe extern "C" fn post(
 /// # Safety
 /// See `check`.
 pub unsafe extern "C" fn cut(device: *mut u16, out: *mut u16) {
-    if !CUT_LOOKS {
-        words_mut(device, DEVICE_WORDS).copy_from_slice(&Device::OFF.to_words());
-    }
+    words_mut(device, DEVICE_WORDS).copy_from_slice(&Device::OFF.to_words());
     let answer = with_device(device, |device| behind().cut(device));
     put(answer_words(&answer.unwrap_or(Answer::NoDevice)), out);
 }
@@ -151,8 +149,7 @@ pub unsafe extern "C" fn run(
     let answer = with_device(device, |device| {
         with_totals(totals, |totals| behind().run(program, store, device, totals, budget))
     });
-    let empty = budget == 0 && !EMPTY_RUN_LOOKS;
-    let answer = answer.unwrap_or(RunAnswer { steps: 0, end: if empty { End::Spent } else { End::NoDevice } });
+    let answer = answer.unwrap_or(RunAnswer { steps: 0, end: End::NoDevice });
     put(end_words(&answer.end), out);
     answer.steps
 }
