@@ -137,7 +137,7 @@ fn ends(f: Effect) -> bool
 }
 
 // "a commit begun in phase 0 without a body at GO or DONE": n stores of its end are made.
-fn fits(n: u16, f: Effect) -> bool
+pub fn fits(n: u16, f: Effect) -> bool
     ensures { λ a. ⌜ ((b : Body) (j : ℕ) → a ≡ placeFits (Place.Run b j n) f) ⌝ }
 {
     if n == 0 {
@@ -198,7 +198,7 @@ fn last_sound(p: &[u16], s: &[u16], b: Body) -> Checked
 }
 
 // The checks of a body at instruction j that hold for every place, and what the instruction does.
-fn fetch(p: &[u16], s: &[u16], r: &[u16; 8], b: Body, j: u16) -> Fetched
+pub fn fetch(p: &[u16], s: &[u16], r: &[u16; 8], b: Body, j: u16) -> Fetched
     requires { ⌜ Running (now p) (now s) b ⌝ }
     ensures { λ a. ⌜ a ≡ fetched (now (p .entry)) (view (now (s .entry))) (now (r .entry)) b j ⌝ }
     ensures given { λ a. ⌜ ((f : Effect) → a ≡ Fetched.Does f → Fetches (now (p .entry)) b j f) ⌝ }

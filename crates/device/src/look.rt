@@ -210,7 +210,7 @@ pub fn core_of(d: Device) -> Core
 }
 
 // The same of a whole device.
-fn look_at(p: &[u16], s: &[u16], d: Device) -> Checked
+pub fn look_at(p: &[u16], s: &[u16], d: Device) -> Checked
     ensures { λ x. ⌜ x ≡ look (now (p .entry)) (now (s .entry)) d ⌝ }
     ensures given { λ x. ⌜ (x ≡ Checked.Accepted → Looked (now (p .entry)) (now (s .entry)) d) ⌝ }
 {

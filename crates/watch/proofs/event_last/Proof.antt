@@ -1,0 +1,28 @@
+-- `event_last` meets its contract, by the number of the stores made. Assumes nothing.
+use native.Mathlib.Omega.{arith}
+use Rattle.model.specs.Device.{eventLastStores}
+use Rattle.model.specs.Store.{index}
+use Rattle.watch.proofs.Cases.{told-past}
+use Rattle.watch.specs.Target.{target}
+use Rattle.watch.proofs.event_last.Statement.{statement}
+use Rattle.watch.proofs.event_last.Tie as tie
+
+returns : tie.Need-returns
+unfolding eventLastStores target index
+returns c = λ s v. rw (c .match .keys1)
+
+returns-2 : tie.Need-returns-2
+unfolding eventLastStores target index
+returns-2 c = λ s v. rw (c .match .keys2)
+
+returns-3 : tie.Need-returns-3
+unfolding eventLastStores
+returns-3 c = λ s v. told-past s (eventLastStores v) (c .before .args .k) (omega arith)
+
+pub event-last-spec : {M : Type 1} → statement M
+event-last-spec =
+    tie.close
+    (tie.spec
+    returns
+    returns-2
+    returns-3)
