@@ -6,7 +6,6 @@ use conformance::foreign::{Foreign, Functions};
 use conformance::generate::scenario;
 use conformance::mutants::{LastPlace, Mistake, Mutant, MISTAKES};
 use conformance::reference::Reference;
-use conformance::runtime::CUT_LOOKS;
 use conformance::scenario::Scenario;
 use conformance::{selfrun, shorten, standin};
 
@@ -114,9 +113,12 @@ fn the_boundary_to_c_functions() {
 
 // C functions with a mistake at the boundary, each beside right ones.
 
-unsafe extern "C" fn cut_of_any_words(device: *mut u16, answer: *mut u16) {
-    std::slice::from_raw_parts_mut(device, 18).fill(0);
-    std::slice::from_raw_parts_mut(answer, 5).fill(0);
+/// A cut that answers words that are no device's with "no device".
+unsafe extern "C" fn cut_looks_at_the_words(device: *mut u16, answer: *mut u16) {
+    if *device <= 1 {
+        return standin::cut(device, answer);
+    }
+    std::slice::from_raw_parts_mut(answer, 5).copy_from_slice(&[8, 0, 0, 0, 0]);
 }
 
 unsafe extern "C" fn cut_without_an_answer(device: *mut u16, _answer: *mut u16) {
@@ -177,7 +179,7 @@ unsafe extern "C" fn run_counts_without_a_device(
 fn mistakes_at_the_boundary_are_caught() {
     let right = standin::FUNCTIONS;
     let wrong = [
-        Functions { cut: if CUT_LOOKS { cut_of_any_words } else { cut_without_an_answer }, ..right },
+        Functions { cut: cut_looks_at_the_words, ..right },
         Functions { cut: cut_without_an_answer, ..right },
         Functions { cut: cut_with_19_words, ..right },
         Functions { check: check_with_six_words, ..right },
