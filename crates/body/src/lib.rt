@@ -435,8 +435,8 @@ pub fn half_step(p: &[u16], s: &mut [u16], r: &[u16; 8], c: Core, b: Body, j: u1
     requires { ⌜ c .place ≡ Place.Half b j ⌝ }
     ensures { λ t. ⌜ after t (now (r .entry)) (now (s .exit)) ≡ result (now (s .entry)) (placeStep (now (p .entry)) (view (now (s .entry))) (device c (now (r .entry))) (Place.Half b j)) ⌝ }
 {
-    let got = fetch(p, s, r, b, j);
-    match got {
+    let rest = fetch(p, s, r, b, j);
+    match rest {
         Fetched::Refused(e) => turns::refused(c, e),
         Fetched::Does(f) => save_rest(s, c, b, j, f),
     }
