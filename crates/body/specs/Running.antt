@@ -13,7 +13,7 @@ use Rattle.model.specs.declared.Effect.{Effect}
 use Rattle.model.specs.declared.Place.{Place}
 use Rattle.model.specs.declared.Place.the-variants.{Free}
 use Rattle.program.specs.Accepted.{Contents, HasInstruction}
-use Rattle.program.specs.Legal.{LegalEffect}
+use Rattle.effects.specs.Legal.{LegalEffect}
 use Rattle.body.specs.declared.Fetched.{Fetched}
 use Rattle.store.specs.Shaped.{ShapedFor}
 

@@ -9,7 +9,7 @@ ghost use Rattle.model.specs.Program.{word, tasks, bodies, number, effectAt, ne
 ghost use Rattle.model.specs.Store.{view, find};
 ghost use Rattle.model.specs.Test.{must, _then_};
 ghost use Rattle.program.specs.Accepted.{Contents, RowsInside, HasBody, HasInstruction};
-ghost use Rattle.program.specs.Legal.{LegalEffect};
+ghost use Rattle.effects.specs.Legal.{LegalEffect};
 ghost use Rattle.store.specs.Shaped.{Shaped, ShapedFor};
 ghost use Rattle.device.specs.Looked.{Looked};
 ghost use Rattle.body.specs.Running.{Running, Fetches, does, fetched};
@@ -17,6 +17,7 @@ ghost use Rattle.device.specs.Turn.{device, after, result};
 use device::Core;
 use device::Turn;
 use device::turns;
+use effects;
 use model::Answer;
 use model::Body;
 use model::Checked;
@@ -26,7 +27,6 @@ use model::Handler;
 use model::Place;
 use model::Refusal;
 use program::code;
-use program::effects;
 use program::rows;
 use store::log;
 use store::memory;
@@ -435,8 +435,8 @@ pub fn half_step(p: &[u16], s: &mut [u16], r: &[u16; 8], c: Core, b: Body, j: u1
     requires { ⌜ c .place ≡ Place.Half b j ⌝ }
     ensures { λ t. ⌜ after t (now (r .entry)) (now (s .exit)) ≡ result (now (s .entry)) (placeStep (now (p .entry)) (view (now (s .entry))) (device c (now (r .entry))) (Place.Half b j)) ⌝ }
 {
-    let got = fetch(p, s, r, b, j);
-    match got {
+    let rest = fetch(p, s, r, b, j);
+    match rest {
         Fetched::Refused(e) => turns::refused(c, e),
         Fetched::Does(f) => save_rest(s, c, b, j, f),
     }

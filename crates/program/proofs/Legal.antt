@@ -1,4 +1,4 @@
--- From an accepted instruction rule to what it says of the instruction and of its effect. Assumes nothing.
+-- From an accepted instruction rule to what it says of the instruction. Assumes nothing.
 use Prim.Native.Nat.{ℕ, _+_, _≤_, _<_, zero-le}
 use mathlib.Core.Bool.{Bool, true, false}
 use mathlib.Core.List.{List}
@@ -8,11 +8,10 @@ use borrow.Author.Tests.{ltb-true, ltb-false, eqb-false}
 use lib.Dec.{ltb, eqb}
 use lib.ListN.{List·getD-eq-default}
 use Rattle.model.specs.Check.{fieldsFit, lastFits, instructionRule}
-use Rattle.model.specs.Program.{boundsTable, memoryWords, tasks, instructions, opcode, fieldA, fieldB, code, operand, Bounds, bounds, decode, mayBeLast, effect, effectAt}
+use Rattle.model.specs.Program.{boundsTable, memoryWords, tasks, instructions, opcode, fieldA, fieldB, code, operand, Bounds, bounds, decode, mayBeLast}
 use Rattle.model.specs.Test.{pick, _and_}
 use Rattle.model.specs.declared.Checked.{Checked}
-use Rattle.model.specs.declared.Instruction.{Instruction}
-use Rattle.program.specs.Legal.{instructionAt, Registers, Operands, Legal, LegalEffect}
+use Rattle.program.specs.Legal.{Registers, Operands, Legal}
 use Rattle.program.proofs.Checks.{must-true, must-then}
 use Rattle.signed.proofs.Range.{Each, within}
 
@@ -148,34 +147,3 @@ rule-given p i j place h =
     legal-op p i j (fieldA w) (fieldB w) (operand p i j) place (opcode w) (ltb-true _ _ (and-first _ _ (both .0)))
     (ltb-true _ _ (and-first _ _ rest)) (ltb-true _ _ (and-second _ _ rest)) (must-true _ _ (both .1)) in
     record { registers = l .0; operands = l .1 }
-
-pick-below : (b : Bool) {x y n : ℕ} → x < n → y < n → pick b x y < n
-unfolding pick
-pick-below true h l = h
-pick-below false h l = l
-
-instruction-effect : (p : List ℕ) (i j : ℕ) (r : List ℕ) (s : Instruction) →
-    Registers s → Operands p i j s → LegalEffect p i j (effect s r j)
-unfolding effect
-instruction-effect p i j r (Instruction.Set a k) x y = (x, y)
-instruction-effect p i j r (Instruction.Move a b) x y = (x .0, y)
-instruction-effect p i j r (Instruction.Add a b) x y = (x .0, y)
-instruction-effect p i j r (Instruction.Sub a b) x y = (x .0, y)
-instruction-effect p i j r (Instruction.And a b) x y = (x .0, y)
-instruction-effect p i j r (Instruction.Or a b) x y = (x .0, y)
-instruction-effect p i j r (Instruction.Xor a b) x y = (x .0, y)
-instruction-effect p i j r (Instruction.Shift a k) x y = (x .0, y)
-instruction-effect p i j r (Instruction.Load a k) x y = (x, y .1)
-instruction-effect p i j r (Instruction.Save a k) x y = y .1
-instruction-effect p i j r (Instruction.LoadX a b k) x y = (x .0, y .1)
-instruction-effect p i j r (Instruction.SaveX a b k) x y = y .1
-instruction-effect p i j r (Instruction.Jump k) x y = y
-instruction-effect p i j r (Instruction.JumpZero a k) x y = pick-below _ (y .0) (y .1)
-instruction-effect p i j r (Instruction.JumpLess a b k) x y = pick-below _ (y .0) (y .1)
-instruction-effect p i j r (Instruction.Go k) x y = y
-instruction-effect p i j r Instruction.Done x y = y
-instruction-effect p i j r Instruction.Unknown x y = y
-
-pub effect-given : (p : List ℕ) (i j : ℕ) (r : List ℕ) → Legal p i j → LegalEffect p i j (effectAt p i j r)
-unfolding effectAt
-effect-given p i j r l = instruction-effect p i j r (instructionAt p i j) (l .registers) (l .operands)

@@ -1,10 +1,9 @@
--- What an accepted instruction rule says of the instruction, case by case, and so of its effect: which registers there are to
--- index with, which addresses, places and tasks its k can be, and that an instruction that goes on has one after it.
--- proofs/Legal.antt has the laws that lead from an accepted rule to these.
+-- What an accepted instruction rule says of the instruction, case by case: which registers there are to index with, which
+-- addresses, places and tasks its k can be, and that an instruction that goes on has one after it.
+-- proofs/Legal.antt has the laws that lead from an accepted rule to these; crate `effects` has the same of an effect.
 use Prim.Native.Nat.{ℕ, _+_, _≤_, _<_}
 use mathlib.Core.List.{List}
 use Rattle.model.specs.Program.{memoryWords, tasks, instructions, opcode, fieldA, fieldB, code, operand, decode}
-use Rattle.model.specs.declared.Effect.{Effect}
 use Rattle.model.specs.declared.Instruction.{Instruction}
 
 -- instruction j of body i
@@ -56,13 +55,3 @@ Operands p i j Instruction.Unknown = ⊥
 pub record Legal (p : List ℕ) (i j : ℕ) : Type 0 where
   pub registers : Registers (instructionAt p i j)
   pub operands : Operands p i j (instructionAt p i j)
-
--- the same of what the instruction does
-abbrev pub LegalEffect : List ℕ → ℕ → ℕ → Effect → Type 0
-LegalEffect p i j (Effect.Compute a x) = (a < 8) × (j + 1 < instructions p i)
-LegalEffect p i j (Effect.Jump k) = k < instructions p i
-LegalEffect p i j (Effect.Read a x) = (a < 8) × (j + 1 < instructions p i)
-LegalEffect p i j (Effect.Write x y) = j + 1 < instructions p i
-LegalEffect p i j (Effect.EndTask k) = (k < tasks p) × (i < tasks p)
-LegalEffect p i j Effect.EndEvent = tasks p ≤ i
-LegalEffect p i j Effect.Unknown = ⊥

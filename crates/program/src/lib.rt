@@ -1,5 +1,5 @@
 // The program check of document 01, and its parts one by one, as a step uses them: the contents here, the rows in
-// rows.rt, the instructions in code.rt, what an instruction does in effects.rt.
+// rows.rt, the instructions in code.rt.
 // Each contract cites the definition of crates/model that it equals.
 ghost use mathlib.Core.Path.{_≡_};
 ghost use Rattle.model.specs.Check.{contentsRule, check};
@@ -8,7 +8,6 @@ use model::Checked;
 use model::Refusal;
 
 pub mod code;
-pub mod effects;
 pub mod rows;
 
 // "mark (hex C0B1)"

@@ -76,13 +76,13 @@ pub fn whole(c: Core, regs: [u16; 8]) -> Device
     ensures { λ d. ⌜ d ≡ device c regs ⌝ }
 {
     let place = c.place;
-    let handler = c.handler;
+    let h = c.handler;
     Device {
         on: c.on,
         regs,
         place,
         count: c.count,
-        handler,
+        handler: h,
     }
 }
 

@@ -3,11 +3,12 @@ ghost use Prim.Native.Nat.{_+_, _-_, _%_, _<_};
 ghost use mathlib.Core.Path.{_≡_};
 ghost use Rattle.model.specs.Program.{reg, effect, effectAt};
 ghost use Rattle.model.specs.Test.{pick};
 ghost use Rattle.program.specs.Accepted.{HasInstruction};
-ghost use Rattle.program.specs.Legal.{Registers, Legal, LegalEffect};
-use super::code;
+ghost use Rattle.program.specs.Legal.{Registers, Legal};
+ghost use Rattle.effects.specs.Legal.{LegalEffect};
 use model::Effect;
 use model::Instruction;
+use program::code;
 use signed::less;
 use signed::shr;
 

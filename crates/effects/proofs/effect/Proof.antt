@@ -1,9 +1,9 @@
--- `effects::effect` meets its contract, arm by arm: what the arm knows of the instruction, and what its calls ensure.
+-- `effect` meets its contract, arm by arm: what the arm knows of the instruction, and what its calls ensure.
 -- Assumes nothing.
 use borrow.Author.Needs.{needs}
 use Rattle.model.specs.Program.{effect}
-use Rattle.program.proofs.effects.effect.Statement.{statement}
-use Rattle.program.proofs.effects.effect.Tie as tie
+use Rattle.effects.proofs.effect.Statement.{statement}
+use Rattle.effects.proofs.effect.Tie as tie
 
 enum-known-s : tie.Need-enum-known-s
 enum-known-s c = search needs

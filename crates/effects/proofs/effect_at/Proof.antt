@@ -1,13 +1,13 @@
--- `effects::effect_at` meets its contract: a legal instruction names registers that are there, and its effect is legal.
+-- `effect_at` meets its contract: a legal instruction names registers that are there, and its effect is legal.
 -- Assumes nothing.
 use mathlib.Core.Path.{_≡_, sym, subst}
 use borrow.Author.Needs.{needs}
 use denote.Ref.{now}
 use Rattle.model.specs.Program.{effectAt}
-use Rattle.program.specs.Legal.{LegalEffect}
-use Rattle.program.proofs.Legal.{effect-given}
-use Rattle.program.proofs.effects.effect_at.Statement.{statement}
-use Rattle.program.proofs.effects.effect_at.Tie as tie
+use Rattle.effects.specs.Legal.{LegalEffect}
+use Rattle.effects.proofs.Legal.{effect-given}
+use Rattle.effects.proofs.effect_at.Statement.{statement}
+use Rattle.effects.proofs.effect_at.Tie as tie
 
 -- what the code answers
 answer : (c : tie.After-effect) →

@@ -1,8 +1,8 @@
--- `effects::target` meets its contract, by its two arms. Assumes nothing.
+-- `target` meets its contract, by its two arms. Assumes nothing.
 use borrow.Author.Needs.{needs}
 use Rattle.model.specs.Test.{pick}
-use Rattle.program.proofs.effects.target.Statement.{statement}
-use Rattle.program.proofs.effects.target.Tie as tie
+use Rattle.effects.proofs.target.Statement.{statement}
+use Rattle.effects.proofs.target.Tie as tie
 
 add-result : tie.Need-add-result
 add-result c = search needs

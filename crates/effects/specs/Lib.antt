@@ -1,0 +1,2 @@
+-- What the contract of `effect_at` cites beside the definitions of crates/model.
+pub mod Legal
