@@ -20,7 +20,7 @@
  *   5 accepted  step                             0
  *   6 refused   all but cut                      0, the refusal's number, its place
  *   7 spent     run                              0
- *   8           calls with a device              0: the 18 words stand for no device state
+ *   8 no device boot, step, post, run            0: the 18 words stand for no device state
  *
  * A refusal changes no word of store, device and totals; in a run this holds for the refused step, and the
  * steps before it stand. Nor does case 8 change any; a run then has made 0 steps.
@@ -42,13 +42,13 @@ void runtime_check(const uint16_t *program, size_t program_length, uint16_t answ
 void runtime_format(const uint16_t *program, size_t program_length, uint16_t log_pairs, uint16_t queue_records,
                     uint16_t *store, size_t store_length, uint16_t answer[5]);
 
-void runtime_boot(const uint16_t *program, size_t program_length, uint16_t *store, size_t store_length,
+void runtime_boot(const uint16_t *program, size_t program_length, const uint16_t *store, size_t store_length,
                   uint16_t device[18], uint16_t answer[5]);
 
 void runtime_step(const uint16_t *program, size_t program_length, uint16_t *store, size_t store_length,
                   uint16_t device[18], uint32_t totals[3], uint16_t answer[5]);
 
-void runtime_post(const uint16_t *program, size_t program_length, uint16_t *store, size_t store_length,
+void runtime_post(const uint16_t *program, size_t program_length, const uint16_t *store, size_t store_length,
                   uint16_t device[18], uint16_t event, uint16_t data, uint16_t answer[5]);
 
 void runtime_cut(uint16_t device[18], uint16_t answer[5]);
@@ -56,6 +56,11 @@ void runtime_cut(uint16_t device[18], uint16_t answer[5]);
 /* The number of steps made; a refused one isn't counted. */
 uint32_t runtime_run(const uint16_t *program, size_t program_length, uint16_t *store, size_t store_length,
                      uint16_t device[18], uint32_t totals[3], uint32_t budget, uint16_t answer[5]);
+
+/* Which word the next step stores, even where its value stays the same: its index in the store, or 65536 for
+ * none (a step that stores nothing or is refused, or words that stand for no device state). Changes nothing. */
+uint32_t runtime_next_store(const uint16_t *program, size_t program_length, const uint16_t *store,
+                            size_t store_length, const uint16_t device[18]);
 
 #ifdef __cplusplus
 }

@@ -246,6 +246,15 @@ fn compare_call(
             return Err(format!("the second side's run makes {LARGE_BUDGET} steps, the first side's ends"));
         }
     }
+    if *call == Call::Step {
+        let told = a.next_store(&left.program, &left.store, &left.device_words());
+        let other = b.next_store(&right.program, &right.store, &right.device_words());
+        if let (Some(told), Some(other)) = (told, other) {
+            if told != other {
+                return Err(format!("the step stores word {told} and word {other}"));
+            }
+        }
+    }
     let outcome = left.call(a, call).expect("a call of the runtime");
     let other = right.call(b, call).expect("a call of the runtime");
     if !agree(&outcome, &other) {

@@ -27,6 +27,8 @@ pub struct Functions {
     pub cut: unsafe extern "C" fn(*mut u16, *mut u16),
     /// program, its length, store, its length, device, totals, budget, answer; the steps made
     pub run: unsafe extern "C" fn(*const u16, usize, *mut u16, usize, *mut u16, *mut u32, u32, *mut u16) -> u32,
+    /// program, its length, store, its length, device; the word that the next step stores, or `NO_STORE`
+    pub next_store: Option<unsafe extern "C" fn(*const u16, usize, *const u16, usize, *const u16) -> u32>,
 }
 
 /// Numbers that no call returns. They stand for words that are no answer of the call, for words that come back
@@ -108,7 +110,7 @@ impl Foreign {
         device: &mut [u16; DEVICE_WORDS],
         totals: &mut Totals,
     ) -> Outcome {
-        let Functions { check, format, boot, step, post, cut, run } = self.functions;
+        let Functions { check, format, boot, step, post, cut, run, .. } = self.functions;
         let (code, length) = (program.as_ptr(), program.len());
         let (words, many) = (store.as_mut_ptr(), store.len());
         let mut lent_device = [GUARD; DEVICE_WORDS + 2];
@@ -231,6 +233,12 @@ impl Runtime for Foreign {
             Outcome::Run(answer) => answer,
             Outcome::Answer(_) => unreachable!("a run answers as one"),
         }
+    }
+
+    fn next_store(&self, program: &[u16], store: &[u16], device: &[u16; DEVICE_WORDS]) -> Option<u32> {
+        let next = self.functions.next_store?;
+        // Safety: as in `flat`.
+        Some(unsafe { next(program.as_ptr(), program.len(), store.as_ptr(), store.len(), device.as_ptr()) })
     }
 
     fn stray(

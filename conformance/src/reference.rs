@@ -566,6 +566,8 @@ struct Node<'a> {
     store: &'a mut [u16],
     device: &'a mut Device,
     totals: &'a mut Totals,
+    /// The index of the word stored.
+    made: &'a mut Option<usize>,
 }
 
 impl Node<'_> {
@@ -573,6 +575,7 @@ impl Node<'_> {
     #[inline(always)]
     fn make(&mut self, (index, word): Store) {
         self.store[index] = word;
+        *self.made = Some(index);
         add_one(&mut self.totals.stores);
     }
 }
@@ -914,10 +917,11 @@ fn step(
     store: &mut [u16],
     device: &mut Device,
     totals: &mut Totals,
+    made: &mut Option<usize>,
 ) -> Result<Answer, Refusal> {
     let look = look(program, store, device)?;
     let (place, handler) = (device.place, device.handler);
-    let node = Node { store, device, totals };
+    let node = Node { store, device, totals, made };
     if let Some(handler) = handler {
         return Ok(handler_store(&look, node, handler));
     }
@@ -952,7 +956,7 @@ impl Runtime for Reference {
     }
 
     fn step(&self, program: &[u16], store: &mut [u16], device: &mut Device, totals: &mut Totals) -> Answer {
-        match step(program, store, device, totals) {
+        match step(program, store, device, totals, &mut None) {
             Ok(answer) => answer,
             Err(refusal) => Answer::Refused(refusal),
         }
@@ -977,11 +981,19 @@ impl Runtime for Reference {
     ) -> RunAnswer {
         let mut steps = 0;
         while steps < budget {
-            if let Err(refusal) = step(program, store, device, totals) {
+            if let Err(refusal) = step(program, store, device, totals, &mut None) {
                 return RunAnswer { steps, end: End::Refused(refusal) };
             }
             steps += 1;
         }
         RunAnswer { steps, end: End::Spent }
+    }
+
+    fn next_store(&self, program: &[u16], store: &[u16], device: &[u16; DEVICE_WORDS]) -> Option<u32> {
+        let mut made = None;
+        if let Some(mut device) = Device::from_words(device) {
+            let _ = step(program, &mut store.to_vec(), &mut device, &mut Totals::default(), &mut made);
+        }
+        Some(made.map_or(NO_STORE, |index| index as u32))
     }
 }

@@ -90,6 +90,9 @@ pub struct Device {
 /// The number of words in the flat form of a device state.
 pub const DEVICE_WORDS: usize = 18;
 
+/// In the place of a word's index: no word is stored.
+pub const NO_STORE: u32 = 65536;
+
 impl Device {
     /// Off: one fixed value.
     pub const OFF: Device = Device {
@@ -210,6 +213,12 @@ pub trait Runtime {
         totals: &mut Totals,
         budget: u32,
     ) -> RunAnswer;
+
+    /// The word that the next step stores, or `NO_STORE`; any words may stand in the device's place. None where the
+    /// implementation doesn't tell.
+    fn next_store(&self, _program: &[u16], _store: &[u16], _device: &[u16; DEVICE_WORDS]) -> Option<u32> {
+        None
+    }
 
     /// A call with words in the device's place that are no device's flat form. Where the device is a value there
     /// are no such words, and this is what the comparison expects of the others: no device, and nothing changes.

@@ -154,4 +154,18 @@ pub unsafe extern "C" fn run(
     answer.steps
 }
 
-pub const FUNCTIONS: Functions = Functions { check, format, boot, step, post, cut, run };
+/// # Safety
+/// See `check`.
+pub unsafe extern "C" fn next_store(
+    program: *const u16,
+    length: usize,
+    store: *const u16,
+    store_length: usize,
+    device: *const u16,
+) -> u32 {
+    let mut flat = [0; DEVICE_WORDS];
+    flat.copy_from_slice(words(device, DEVICE_WORDS));
+    Reference.next_store(words(program, length), words(store, store_length), &flat).unwrap_or(NO_STORE)
+}
+
+pub const FUNCTIONS: Functions = Functions { check, format, boot, step, post, cut, run, next_store: Some(next_store) };
