@@ -14,7 +14,7 @@ use runtime::run;
 use store::format;
 
 // "M 2, T 1, E 1, 26 words"
-fn counting() -> [u16; 26]
+pub fn counting() -> [u16; 26]
     ensures { λ p. ⌜ p ≡ counting ⌝ }
 {
     [

@@ -234,57 +234,40 @@ fn rows(p: &[u16; 26], s: &mut [u16; 24], first: Device, last: u32, serving: boo
     }
 }
 
-fn main() {
-    let p: [u16; 26] = [
-        0xC0B1,
-        0x0001,
-        0x0001,
-        0x0002,
-        0x0000,
-        0x001A,
-        0x000C,
-        0x0005,
-        0x0000,
-        0x0016,
-        0x0002,
-        0x0000,
-        0x0800,
-        0x0000,
-        0x0010,
-        0x0001,
-        0x0201,
-        0x0000,
-        0x0900,
-        0x0000,
-        0x0F00,
-        0x0000,
-        0x0900,
-        0x0001,
-        0x1000,
-        0x0000,
-    ];
-    put(
-        b"The counting program, L 1, Q 1, cut at each point. Words in hex, steps and indices in decimal.\n",
-    );
+// A store with L and Q 1, formatted and booted: the task's steps.
+fn task(p: &[u16; 26]) {
     put(b"\nA task: boot, the steps, a cut.\n");
     head();
     let mut s = [0; 24];
-    let _ = format::format(&p, 1, 1, &mut s);
-    let on = look::boot(&p, &s, Device::OFF);
+    let _ = format::format(p, 1, 1, &mut s);
+    let booted = look::boot(p, &s, Device::OFF);
+    let a = booted.answer;
     put(b"   0  boot: ");
-    let a = on.answer;
     called(a);
-    cut(&p, &s);
-    rows(&p, &mut s, on.device, 14, false);
+    cut(p, &s);
+    rows(p, &mut s, booted.device, 14, false);
+}
+
+// The same with a post: the event's steps.
+fn event(p: &[u16; 26]) {
     put(b"\nAn event: boot, post of event 0 with data 0007, the steps, a cut.\n");
     head();
-    let mut z = [0; 24];
-    let _ = format::format(&p, 1, 1, &mut z);
-    let again = look::boot(&p, &z, Device::OFF);
-    let posted = look::post(&p, &z, again.device, 0, 7);
+    let mut s = [0; 24];
+    let _ = format::format(p, 1, 1, &mut s);
+    let booted = look::boot(p, &s, Device::OFF);
+    let posted = look::post(p, &s, booted.device, 0, 7);
+    let a = posted.answer;
     put(b"   0  post: ");
-    let b = posted.answer;
-    called(b);
-    cut(&p, &z);
-    rows(&p, &mut z, posted.device, 12, true);
+    called(a);
+    cut(p, &s);
+    rows(p, &mut s, posted.device, 12, true);
+}
+
+fn main() {
+    let p = cases::counting();
+    put(
+        b"The counting program, L 1, Q 1, cut at each point. Words in hex, steps and indices in decimal.\n",
+    );
+    task(&p);
+    event(&p);
 }
