@@ -10,6 +10,7 @@
 use conformance::cases::COUNTING;
 use conformance::foreign::Functions;
 use conformance::library::FUNCTIONS;
+use conformance::standin;
 use conformance::reference::*;
 use conformance::runtime::*;
 use std::hint::black_box;
@@ -32,7 +33,8 @@ trait Side<'a> {
     fn left(self) -> Left;
 }
 
-struct Library<'a> {
+/// C functions on words: the library's, or those with the reference behind them.
+struct Words<'a, const REFERENCE: bool> {
     functions: Functions,
     program: &'a [u16],
     store: Vec<u16>,
@@ -73,10 +75,10 @@ impl Load {
     }
 }
 
-impl<'a> Side<'a> for Library<'a> {
+impl<'a, const REFERENCE: bool> Side<'a> for Words<'a, REFERENCE> {
     fn new(load: &'a Load) -> Self {
-        let mut side = Library {
-            functions: FUNCTIONS,
+        let mut side = Words {
+            functions: black_box(if REFERENCE { standin::FUNCTIONS } else { FUNCTIONS }),
             program: &load.program,
             store: load.store(),
             device: [0; DEVICE_WORDS],
@@ -199,6 +201,8 @@ impl<'a> Side<'a> for Rust<'a> {
 enum How {
     Run,
     Step,
+    /// A step, the reference through C functions and words, too.
+    Call,
 }
 
 fn turn<'a, S: Side<'a>>(side: &mut S, load: &Load, how: How) {
@@ -206,12 +210,12 @@ fn turn<'a, S: Side<'a>>(side: &mut S, load: &Load, how: How) {
         side.post(0, post as u16);
         match how {
             How::Run => side.run(3),
-            How::Step => (0..3).for_each(|_| side.step()),
+            How::Step | How::Call => (0..3).for_each(|_| side.step()),
         }
     }
     match how {
         How::Run => side.run(load.steps),
-        How::Step => (0..load.steps).for_each(|_| side.step()),
+        How::Step | How::Call => (0..load.steps).for_each(|_| side.step()),
     }
 }
 
@@ -251,8 +255,11 @@ fn rounds(loads: &[(&Load, How)], rounds: usize, milliseconds: u64) -> Vec<Measu
         for (index, (load, how)) in loads.iter().enumerate() {
             let (mut library, mut reference) = (f64::INFINITY, f64::INFINITY);
             for _ in 0..TURNS {
-                let (seconds, left) = measure::<Library>(load, *how, turns[index]);
-                let (other_seconds, other_left) = measure::<Rust>(load, *how, turns[index]);
+                let (seconds, left) = measure::<Words<false>>(load, *how, turns[index]);
+                let (other_seconds, other_left) = match how {
+                    How::Call => measure::<Words<true>>(load, *how, turns[index]),
+                    _ => measure::<Rust>(load, *how, turns[index]),
+                };
                 assert!(left == other_left, "{}: the sides leave different words", load.name);
                 library = library.min(seconds);
                 reference = reference.min(other_seconds);
@@ -387,7 +394,11 @@ fn print_speed(loads: &[(&Load, How)], measured: &[Measured]) {
         println!(
             "| {} | {} | {:.1} | {:.1} | {:.2} | {:.2} | {:.2} |",
             load.name,
-            if *how == How::Run { "run" } else { "step" },
+            match how {
+                How::Run => "run",
+                How::Step => "step; reference called directly",
+                How::Call => "step; both through C functions",
+            },
             1e-6 / spread(library.clone())[1],
             1e-6 / spread(reference.clone())[1],
             ratios[0],
@@ -449,7 +460,7 @@ fn main() {
     );
     let loads = loads();
     let all: Vec<(&Load, How)> =
-        loads.iter().flat_map(|load| [(load, How::Run), (load, How::Step)]).collect();
+        loads.iter().flat_map(|load| [(load, How::Run), (load, How::Call), (load, How::Step)]).collect();
     print_speed(&all, &rounds(&all, count, milliseconds));
     let flat = flat_loads();
     let all: Vec<(&Load, How)> = flat.iter().map(|load| (load, How::Run)).collect();
