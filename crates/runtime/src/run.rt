@@ -1,10 +1,15 @@
 // Run: "repeats steps up to a budget (32 bits) and returns the count of steps made, with spent or the refusal".
-// The device is taken apart once and put together once; between, the registers are lent and the totals go by value.
+// The device is taken apart once and put together once; between, the registers are lent and the totals go by value. The early checks
+// aren't repeated where the last answer tells that they pass.
+ghost use mathlib.Core.Bool.{true};
 ghost use mathlib.Core.Path.{_≡_};
 ghost use Rattle.model.specs.Calls.{unlessRefused, run};
-ghost use Rattle.device.specs.Turn.{device};
+ghost use Rattle.model.specs.Device.{look, step};
+ghost use Rattle.device.specs.Turn.{device, after, result};
 ghost use Rattle.runtime.specs.Ran.{afterTurns, RunPerforms};
+ghost use Rattle.runtime.specs.Stays.{stays};
 use device::Core;
+use device::Turn;
 use device::look;
 use model::Answer;
 use model::Checked;
@@ -43,6 +48,32 @@ fn refusal(a: Answer) -> Checked
     }
 }
 
+// Do the early checks of the next step pass after this answer?
+fn stays(a: Answer) -> bool
+    ensures { λ x. ⌜ x ≡ stays a ⌝ }
+{
+    match a {
+        Answer::Done => false,
+        Answer::Chosen(_) => true,
+        Answer::Worked => true,
+        Answer::Stored => true,
+        Answer::Committed(_) => false,
+        Answer::Accepted => true,
+        Answer::Refused(_) => false,
+    }
+}
+
+// A step, whose early checks may be known to pass.
+fn step_known(p: &[u16], s: &mut [u16], r: &mut [u16; 8], c: Core, known: bool) -> Turn
+    requires { ⌜ (known ≡ true → look (now p) (now s) (device c (now r)) ≡ Checked.Accepted) ⌝ }
+    ensures { λ t. ⌜ after t (now (r .exit)) (now (s .exit)) ≡ result (now (s .entry)) (step (now (p .entry)) (now (s .entry)) (device c (now (r .entry)))) ⌝ }
+{
+    if known {
+        return super::next_step(p, s, r, c);
+    }
+    super::step_in(p, s, r, c)
+}
+
 // A run on lent registers.
 pub fn run_in(p: &[u16], s: &mut [u16], r: &mut [u16; 8], c: Core, t: Totals, budget: u32) -> Turns
     ensures { λ x. ⌜ afterTurns x (now (r .exit)) (now (s .exit)) ≡ run (now (p .entry)) budget (now (s .entry)) (device c (now (r .entry))) t ⌝ }
@@ -50,8 +81,9 @@ pub fn run_in(p: &[u16], s: &mut [u16], r: &mut [u16; 8], c: Core, t: Totals, bu
     let mut core = c;
     let mut totals = t;
     let mut steps: u32 = 0;
+    let mut known = false;
     while steps < budget {
-        let turn = super::step_in(p, s, r, core);
+        let turn = step_known(p, s, r, core, known);
         let answer = turn.answer;
         core = turn.core;
         let found = refusal(answer);
@@ -64,6 +96,7 @@ pub fn run_in(p: &[u16], s: &mut [u16], r: &mut [u16; 8], c: Core, t: Totals, bu
             };
         }
         totals = totals::counted(totals, answer);
+        known = stays(answer);
         steps += 1;
     }
     Turns {

@@ -1,36 +1,50 @@
--- `run::run_in` meets its contract. The loop's invariant: what is left of the run, from here, is the run. Assumes nothing.
+-- `run::run_in` meets its contract. The loop's invariant: what is left of the run, from here, is the run, and where the early checks are
+-- known to pass, they do. Assumes nothing.
 use Prim.Native.Nat.{ℕ, suc, _+_, _-_, _≤_}
+use mathlib.Core.Bool.{true}
 use mathlib.Core.Path.{_≡_, refl, sym, ap, _∙_}
 use native.Mathlib.Omega.{arith}
 use denote.Ref.{now}
 use lib.ListN.{length}
 use Rattle.device.specs.Turn.{Result, device}
+use Rattle.model.proofs.TestLaws.{clash}
 use Rattle.model.proofs.Words.{settled-length}
 use Rattle.model.specs.Calls.{run, runFrom}
+use Rattle.model.specs.Device.{look}
+use Rattle.model.specs.declared.Checked.{Checked}
 use Rattle.model.specs.declared.Ended.{Ended}
 use Rattle.model.specs.declared.Totals.{Totals}
 use Rattle.runtime.proofs.Runs.{refusalOf, ended, run-spent, run-stops, run-goes}
+use Rattle.runtime.proofs.Stays.{look-stays}
+use Rattle.runtime.specs.Stays.{stays}
 use Rattle.totals.specs.Told.{told}
 use borrow.Author.Needs.{needs}
 use Rattle.runtime.proofs.run.run_in.Statement.{statement}
 use Rattle.runtime.proofs.run.run_in.Tie as tie
 
 abbrev Inv-loop : tie.InvT-loop
-Inv-loop p s₀ r₀ budget c₀ t₀ n₀ s r c t n =
-    (n ≤ budget) × (length s ≡ length s₀) × (runFrom p (budget - n) n s (device c r) t ≡ run p budget s₀ (device c₀ r₀) t₀)
+Inv-loop p s₀ r₀ budget c₀ t₀ n₀ k₀ s r c t n known =
+    (n ≤ budget)
+    × (length s ≡ length s₀)
+    × (runFrom p (budget - n) n s (device c r) t ≡ run p budget s₀ (device c₀ r₀) t₀)
+    × (known ≡ true → look p s (device c r) ≡ Checked.Accepted)
 
 abbrev μ-loop : tie.MeasureT-loop
-μ-loop p s₀ r₀ budget c₀ t₀ n₀ s r c t n = budget - n
+μ-loop p s₀ r₀ budget c₀ t₀ n₀ k₀ s r c t n known = budget - n
 
 loop-holds : tie.Need-loop-holds Inv-loop μ-loop
 unfolding run
 loop-holds c =
     let a = c .before .before .args in
-    let e : a .budget - 0 ≡ a .budget = omega arith in
-    (omega arith, refl, ap (λ (k : ℕ). runFrom (now (a .p)) k 0 (now (a .s)) (device (a .c) (now (a .r))) (a .t)) e)
+    let e : a .budget - 0 ≡ a .budget = omega arith in (
+      omega arith,
+      refl,
+      ap (λ (k : ℕ). runFrom (now (a .p)) k 0 (now (a .s)) (device (a .c) (now (a .r))) (a .t)) e,
+      λ known. clash known refl,
+    )
 
-step-in-requires : tie.Need-step-in-requires Inv-loop μ-loop
-step-in-requires c κs = search needs
+step-known-requires : tie.Need-step-known-requires Inv-loop μ-loop
+step-known-requires c κs = c .before .before .before .loop .inv .3
 
 refusal-requires : tie.Need-refusal-requires Inv-loop μ-loop
 refusal-requires c κs = search needs
@@ -39,7 +53,7 @@ enum-known-found : tie.Need-enum-known-found Inv-loop μ-loop
 enum-known-found c = search needs
 
 same-length : tie.Need-same-length Inv-loop μ-loop
-same-length c = ap (λ (x : Result). length (x .store)) (c .before .before .before .before .before .before .before .step-in .ensures) ∙ settled-length (c .before .before .before .before .before .before .before .before .before .before .before .loop .s) _ ∙ c .before .before .before .before .before .before .before .before .before .before .before .loop .inv .1
+same-length c = ap (λ (x : Result). length (x .store)) (c .before .before .before .before .before .before .before .step-known .ensures) ∙ settled-length (c .before .before .before .before .before .before .before .before .before .before .before .loop .s) _ ∙ c .before .before .before .before .before .before .before .before .before .before .before .loop .inv .1
 
 returns : tie.Need-returns Inv-loop μ-loop
 returns c =
@@ -51,7 +65,7 @@ returns c =
     let k = c .before .before .before .before .before .before .before .before .before .before .before .before .before .before .args .budget - n in
     let j = c .before .before .before .before .before .before .before .before .before .before .before .before .before .before .args .budget - (n + 1) in
     let left : k ≡ suc j = omega (arith, c .before .before .before .before .before .before .before .before .before .before .loop-test .taken) in
-    let q = c .before .before .before .before .before .before .before .step-in .ensures in
+    let q = c .before .before .before .before .before .before .before .step-known .ensures in
     ap (λ (x : Result). ended n (Ended.Refused (c .before .found .given .0 .0)) (x .store) (x .device) t) q
     ∙ sym (run-stops p k j n s d t left (ap (λ (x : Result). refusalOf (x .answer)) (sym q) ∙ sym (c .before .before .before .refusal .ensures) ∙ c .before .found .given .1))
     ∙ c .before .before .before .before .before .before .before .before .before .before .before .loop .inv .2
@@ -62,6 +76,9 @@ enum-told c = search needs
 counted-requires : tie.Need-counted-requires Inv-loop μ-loop
 counted-requires c κs = search needs
 
+stays-requires : tie.Need-stays-requires Inv-loop μ-loop
+stays-requires c κs = search needs
+
 add-steps : tie.Need-add-steps Inv-loop μ-loop
 add-steps c = search needs
 
@@ -70,21 +87,24 @@ loop-less c = search needs
 
 loop-again : tie.Need-loop-again Inv-loop μ-loop
 loop-again c =
-    let p = now (c .before .before .before .before .before .before .before .before .before .before .before .before .before .before .args .p) in
-    let s = c .before .before .before .before .before .before .before .before .before .before .before .loop .s in
-    let d = device (c .before .before .before .before .before .before .before .before .before .before .before .loop .core) (c .before .before .before .before .before .before .before .before .before .before .before .loop .r) in
-    let n = c .before .before .before .before .before .before .before .before .before .before .before .loop .steps in
-    let t = c .before .before .before .before .before .before .before .before .before .before .before .loop .totals in
-    let k = c .before .before .before .before .before .before .before .before .before .before .before .before .before .before .args .budget - n in
-    let j = c .before .before .before .before .before .before .before .before .before .before .before .before .before .before .args .budget - (n + 1) in
-    let left : k ≡ suc j = omega (arith, c .before .before .before .before .before .before .before .before .before .before .loop-test .taken) in
-    let q = c .before .before .before .before .before .before .before .step-in .ensures in (
-      omega (arith, c .before .before .before .before .before .before .before .before .before .before .loop-test .taken),
-      ap (λ (x : Result). length (x .store)) q ∙ settled-length s _ ∙ c .before .before .before .before .before .before .before .before .before .before .before .loop .inv .1,
-      ap (λ (x : Totals). runFrom p j (n + 1) (c .before .before .before .before .before .before .before .step-in .last .1 .0) (device (c .before .before .before .before .before .before .before .step-in .result .core) (c .before .before .before .before .before .before .before .step-in .last .1 .1 .0)) x) (c .counted .ensures)
+    let p = now (c .before .before .before .before .before .before .before .before .before .before .before .before .before .before .before .args .p) in
+    let s = c .before .before .before .before .before .before .before .before .before .before .before .before .loop .s in
+    let d = device (c .before .before .before .before .before .before .before .before .before .before .before .before .loop .core) (c .before .before .before .before .before .before .before .before .before .before .before .before .loop .r) in
+    let n = c .before .before .before .before .before .before .before .before .before .before .before .before .loop .steps in
+    let t = c .before .before .before .before .before .before .before .before .before .before .before .before .loop .totals in
+    let k = c .before .before .before .before .before .before .before .before .before .before .before .before .before .before .before .args .budget - n in
+    let j = c .before .before .before .before .before .before .before .before .before .before .before .before .before .before .before .args .budget - (n + 1) in
+    let left : k ≡ suc j = omega (arith, c .before .before .before .before .before .before .before .before .before .before .before .loop-test .taken) in
+    let q = c .before .before .before .before .before .before .before .before .step-known .ensures in (
+      omega (arith, c .before .before .before .before .before .before .before .before .before .before .before .loop-test .taken),
+      ap (λ (x : Result). length (x .store)) q ∙ settled-length s _ ∙ c .before .before .before .before .before .before .before .before .before .before .before .before .loop .inv .1,
+      ap (λ (x : Totals). runFrom p j (n + 1) (c .before .before .before .before .before .before .before .before .step-known .last .1 .0) (device (c .before .before .before .before .before .before .before .before .step-known .result .core) (c .before .before .before .before .before .before .before .before .step-known .last .1 .1 .0)) x) (c .before .counted .ensures)
           ∙ ap (λ (x : Result). runFrom p j (n + 1) (x .store) (x .device) (told t (x .answer))) q
-          ∙ sym (run-goes p k j n s d t left (ap (λ (x : Result). refusalOf (x .answer)) (sym q) ∙ sym (c .before .before .before .refusal .ensures) ∙ c .before .enum-told .given .1))
-          ∙ c .before .before .before .before .before .before .before .before .before .before .before .loop .inv .2,
+          ∙ sym (run-goes p k j n s d t left (ap (λ (x : Result). refusalOf (x .answer)) (sym q) ∙ sym (c .before .before .before .before .refusal .ensures) ∙ c .before .before .enum-told .given .1))
+          ∙ c .before .before .before .before .before .before .before .before .before .before .before .before .loop .inv .2,
+      λ known.
+          ap (λ (x : Result). look p (x .store) (x .device)) q
+          ∙ look-stays p s d (ap (λ (x : Result). stays (x .answer)) (sym q) ∙ sym (c .stays .ensures) ∙ known),
     )
 
 same-length-2 : tie.Need-same-length-2 Inv-loop μ-loop
@@ -105,13 +125,14 @@ run-in-spec =
     Inv-loop
     μ-loop
     loop-holds
-    step-in-requires
+    step-known-requires
     refusal-requires
     enum-known-found
     same-length
     returns
     enum-told
     counted-requires
+    stays-requires
     add-steps
     loop-less
     loop-again
