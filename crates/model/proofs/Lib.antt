@@ -14,6 +14,7 @@ pub mod Fresh
 pub mod Recovery
 pub mod Demand3
 pub mod Early
+pub mod LookStays
 pub mod Refused
 pub mod Words
 pub mod Numbers

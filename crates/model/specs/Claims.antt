@@ -9,12 +9,12 @@ use lib.ListN.{length}
 use Rattle.model.specs.Answer.{refusal}
 use Rattle.model.specs.Calls.{Call, Boot, Step, Cut, Post, Line, Now, call, history, afterCalls, isAccept, counted, Recovery, recovered, recovery}
 use Rattle.model.specs.Control.{rules, blames}
-use Rattle.model.specs.Device.{off}
+use Rattle.model.specs.Device.{off, look, step}
 use Rattle.model.specs.Program.{word}
 use Rattle.model.specs.Serial.{Serial, Walked, went, served, walkBody, serial}
 use Rattle.model.specs.Store.{Store, Record, view, waiting, settled}
 use Rattle.model.specs.Test.{pick, _or_}
-use Rattle.model.specs.Types.{Answer, Body, Device, Free, Half, Handler, Place, Refusal, Resting, Run, Storing, Totals}
+use Rattle.model.specs.Types.{Answer, Body, Checked, Device, Free, Half, Handler, Place, Refusal, Resting, Run, Storing, Totals}
 
 -- ---- The refusals that a list of calls on a fresh store can meet
 
@@ -181,3 +181,18 @@ RefusalStays =
 abbrev pub PlaceIsBroken : Type 0
 PlaceIsBroken =
     (p s : List ℕ) (d : Device) (c : Call) (w : ℕ) → call p s d c .answer ≡ Answer.Refused (Refusal.Control w) → blames (rules p (view s)) w ≡ true
+
+-- What step and post look at first passes again after a step that wasn't refused, save after a commit store: that makes phase 1 or 2, whose
+-- rules for words 11 and 12 no step has looked at.
+unfoldable pub soundAfter : Answer → Bool
+soundAfter Answer.Done = false
+soundAfter (Answer.Chosen b) = true
+soundAfter Answer.Worked = true
+soundAfter Answer.Stored = true
+soundAfter (Answer.Committed b) = false
+soundAfter Answer.Accepted = true
+soundAfter (Answer.Refused r) = false
+
+abbrev pub LookStays : Type 0
+LookStays =
+    (p s : List ℕ) (d : Device) → soundAfter (step p s d .answer) ≡ true → look p (settled s (step p s d .write)) (step p s d .device) ≡ Checked.Accepted

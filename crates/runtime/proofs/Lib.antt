@@ -1,5 +1,4 @@
 -- The laws that belong to no one function.
 pub mod Cases
 pub mod Runs
-pub mod Stays
 pub mod Told

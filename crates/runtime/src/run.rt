@@ -7,7 +7,7 @@ ghost use Rattle.model.specs.Calls.{unlessRefused, run};
 ghost use Rattle.model.specs.Device.{look, step};
 ghost use Rattle.device.specs.Turn.{device, after, result};
 ghost use Rattle.runtime.specs.Ran.{afterTurns, RunPerforms};
-ghost use Rattle.runtime.specs.Stays.{stays};
+ghost use Rattle.model.specs.Claims.{soundAfter};
 use device::Core;
 use device::Turn;
 use device::look;
@@ -49,8 +49,8 @@ fn refusal(a: Answer) -> Checked
 }
 
 // Do the early checks of the next step pass after this answer?
-fn stays(a: Answer) -> bool
-    ensures { λ x. ⌜ x ≡ stays a ⌝ }
+fn sound_after(a: Answer) -> bool
+    ensures { λ x. ⌜ x ≡ soundAfter a ⌝ }
 {
     match a {
         Answer::Done => false,
@@ -96,7 +96,7 @@ pub fn run_in(p: &[u16], s: &mut [u16], r: &mut [u16; 8], c: Core, t: Totals, bu
             };
         }
         totals = totals::counted(totals, answer);
-        known = stays(answer);
+        known = sound_after(answer);
         steps += 1;
     }
     Turns {

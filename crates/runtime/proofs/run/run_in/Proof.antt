@@ -15,8 +15,8 @@ use Rattle.model.specs.declared.Checked.{Checked}
 use Rattle.model.specs.declared.Ended.{Ended}
 use Rattle.model.specs.declared.Totals.{Totals}
 use Rattle.runtime.proofs.Runs.{refusalOf, ended, run-spent, run-stops, run-goes}
-use Rattle.runtime.proofs.Stays.{look-stays}
-use Rattle.runtime.specs.Stays.{stays}
+use Rattle.model.proofs.LookStays.{look-stays}
+use Rattle.model.specs.Claims.{soundAfter}
 use Rattle.totals.specs.Told.{told}
 use borrow.Author.Needs.{needs}
 use Rattle.runtime.proofs.run.run_in.Statement.{statement}
@@ -76,8 +76,8 @@ enum-told c = search needs
 counted-requires : tie.Need-counted-requires Inv-loop μ-loop
 counted-requires c κs = search needs
 
-stays-requires : tie.Need-stays-requires Inv-loop μ-loop
-stays-requires c κs = search needs
+sound-after-requires : tie.Need-sound-after-requires Inv-loop μ-loop
+sound-after-requires c κs = search needs
 
 add-steps : tie.Need-add-steps Inv-loop μ-loop
 add-steps c = search needs
@@ -104,7 +104,7 @@ loop-again c =
           ∙ c .before .before .before .before .before .before .before .before .before .before .before .before .loop .inv .2,
       λ known.
           ap (λ (x : Result). look p (x .store) (x .device)) q
-          ∙ look-stays p s d (ap (λ (x : Result). stays (x .answer)) (sym q) ∙ sym (c .stays .ensures) ∙ known),
+          ∙ look-stays p s d (ap (λ (x : Result). soundAfter (x .answer)) (sym q) ∙ sym (c .sound-after .ensures) ∙ known),
     )
 
 same-length-2 : tie.Need-same-length-2 Inv-loop μ-loop
@@ -132,7 +132,7 @@ run-in-spec =
     returns
     enum-told
     counted-requires
-    stays-requires
+    sound-after-requires
     add-steps
     loop-less
     loop-again

@@ -9,33 +9,22 @@ use native.Mathlib.Omega.{arith}
 use borrow.Author.Tests.{ltb-true, ltb-false, eqb-true, eqb-false, lt-ltb, le-ltb, le-leb, eq-eqb, ne-eqb, not-true}
 use lib.Dec.{ltb, eqb}
 use lib.ListN.{length}
 use Rattle.model.proofs.Checks.{obey-kept, obey-unasked}
 use Rattle.model.proofs.Early.{Controlled, MayRun, Stands, Attends, look-passed, body-passed}
 use Rattle.model.proofs.Kept.{InsideOf, task-last-is, event-last-is}
 use Rattle.model.proofs.LogLaws.{find-pair}
 use Rattle.model.proofs.ProgramLaws.{Leads, instruction-leads}
 use Rattle.model.proofs.RingLaws.{after-le}
 use Rattle.model.proofs.StoreLaws.{parts, apply, view-after, rule-kept}
 use Rattle.model.proofs.TestLaws.{pick-case, pick-true, clash, same-or, and-true, and-left, and-right, or-true-left, or-true-right, not-false, must-true, must-passed, then-passed, then-first, then-rest}
 use Rattle.model.specs.Check.{contentsRule}
 use Rattle.model.specs.Control.{Rule, obey, obeyAll, phaseRule, taskRule, openServing, countRule, pendingTaskRule, headRule, tailRule, pendingHeadRule, earlyRules}
 use Rattle.model.specs.Device.{Out, refuse, judged, fresh, moved, handled, storing, taskStores, eventStores, taskLastStores, eventLastStores, lastStores, mayRun, endStores, placeSound, handlerSound, deviceSound, look, handlerStep, pairSound, copyStep, begun, recordSound, chooseStep, saveStep, act, saveRest, placeStep, nextStep, step}
 use Rattle.model.specs.Program.{tasks, memoryWords, number, word}
 use Rattle.model.specs.Store.{Store, view, event, after, find, Write, none, to, settled, storeRule}
 use Rattle.model.specs.Test.{pick, _or_}
-use Rattle.model.specs.declared.Answer.{Answer}
-use Rattle.model.specs.declared.Body.{Body}
-use Rattle.model.specs.declared.Checked.{Checked}
-use Rattle.model.specs.declared.Device.{Device}
-use Rattle.model.specs.declared.Effect.{Effect}
-use Rattle.model.specs.declared.Found.{Found}
-use Rattle.model.specs.declared.Handler.{Handler}
-use Rattle.model.specs.declared.Handler.the-variants.{Resting, Storing}
-use Rattle.model.specs.declared.Next.{Next}
-use Rattle.model.specs.declared.Place.{Place}
-use Rattle.model.specs.declared.Place.the-variants.{Free, Run, Half}
-use Rattle.model.specs.declared.Refusal.{Refusal}
-use Rattle.runtime.specs.Stays.{stays}
+use Rattle.model.specs.Types.{Answer, Body, Checked, Device, Effect, Found, Free, Half, Handler, Next, Place, Refusal, Resting, Run, Storing}
+use Rattle.model.specs.Claims.{soundAfter, LookStays}
 
 -- ---- the way back: what the early checks give makes them pass
 
@@ -154,10 +143,10 @@ some-end (Body.Event e) = omega arith
 module _ (p : List ℕ) (v : Store) (d : Device) (fit : Fit p v d) where
   -- an outcome after which they pass again
   abbrev Keeps : Out → Type 0
-  Keeps o = stays (o .answer) ≡ true → InsideOf p v (o .write) × Fit p (apply v (o .write)) (o .device)
+  Keeps o = soundAfter (o .answer) ≡ true → InsideOf p v (o .write) × Fit p (apply v (o .write)) (o .device)
 
   keeps-refused : (r : Refusal) → Keeps (refuse d r)
-  unfolding stays
+  unfolding soundAfter
   keeps-refused r e = clash e refl
 
   keeps-judged : (x : Checked) (o : Out) → (x ≡ Checked.Accepted → Keeps o) → Keeps (judged x d o)
@@ -463,7 +452,7 @@ module _ (p : List ℕ) (v : Store) (d : Device) (fit : Fit p v d) where
           }
 
       keeps-go : (j c k : ℕ) → endStores b ≡ 4 → c < 4 → Keeps (act p v d b j c (Effect.EndTask k))
-      unfolding act storing taskStores apply pick stays
+      unfolding act storing taskStores apply pick soundAfter
       keeps-go j zero k e l _ = (tt, noted-fits _ _ _ j 1 (omega arith))
       keeps-go j (suc zero) k e l _ = (tt, noted-fits _ _ _ j 2 (omega arith))
       keeps-go j (suc (suc zero)) k e l _ = (tt, noted-fits _ _ _ j 3 (omega arith))
@@ -471,7 +460,7 @@ module _ (p : List ℕ) (v : Store) (d : Device) (fit : Fit p v d) where
       keeps-go j (suc (suc (suc (suc c)))) k e l _ = absurd (omega arith)
 
       keeps-done : (j c : ℕ) → endStores b ≡ 3 → c < 3 → Keeps (act p v d b j c Effect.EndEvent)
-      unfolding act storing eventStores apply pick stays
+      unfolding act storing eventStores apply pick soundAfter
       keeps-done j zero e l _ = (tt, noted-fits _ _ _ j 1 (omega arith))
       keeps-done j (suc zero) e l _ = (tt, noted-fits _ _ _ j 2 (omega arith))
       keeps-done j (suc (suc zero)) e l f = clash f refl
@@ -520,15 +509,15 @@ module _ (p s : List ℕ) (d : Device) where
       look-passes p (settled s (to w x)) e (then-first _ _ ok) (rule-kept p s w x ∙ then-first _ _ (then-rest _ _ ok))
       (subst (λ (u : Store). Fit p u e) (sym (view-after (memoryWords p) (word s 2) (word s 3) s (shaped .sized) w x inside)) fit)
 
-  judged-stays : (o : Out) (x : Checked) → (x ≡ Checked.Accepted → stays (o .answer) ≡ true → look p (settled s (o .write)) (o .device) ≡ Checked.Accepted)
-      → stays (judged x d o .answer) ≡ true → look p (settled s (judged x d o .write)) (judged x d o .device) ≡ Checked.Accepted
-  unfolding judged stays
+  judged-stays : (o : Out) (x : Checked) → (x ≡ Checked.Accepted → soundAfter (o .answer) ≡ true → look p (settled s (o .write)) (o .device) ≡ Checked.Accepted)
+      → soundAfter (judged x d o .answer) ≡ true → look p (settled s (judged x d o .write)) (judged x d o .device) ≡ Checked.Accepted
+  unfolding judged soundAfter
   judged-stays o Checked.Accepted f e = f refl e
   judged-stays o (Checked.Refused r) f e = clash e refl
 
-  pub look-stays : stays (step p s d .answer) ≡ true → look p (settled s (step p s d .write)) (step p s d .device) ≡ Checked.Accepted
+  step-stays : soundAfter (step p s d .answer) ≡ true → look p (settled s (step p s d .write)) (step p s d .device) ≡ Checked.Accepted
   unfolding step
-  look-stays =
+  step-stays =
       judged-stays (nextStep p (view s) d (d .handler)) (look p s d)
       (λ ok e.
       let early = look-passed p s d ok in
@@ -536,3 +525,6 @@ module _ (p s : List ℕ) (d : Device) where
       record { control = early .control; on = early .on; count-in = early .count-in; place = early .place; handler = early .handler } in
       let k = keeps-next p (view s) d fit (d .handler) refl e in
       look-after ok (nextStep p (view s) d (d .handler) .write) (nextStep p (view s) d (d .handler) .device) (k .0) (k .1))
+
+pub look-stays : LookStays
+look-stays p s d = step-stays p s d

@@ -1,8 +1,8 @@
--- `run::stays` meets its contract, by the answer. Assumes nothing.
-use Rattle.runtime.specs.Stays.{stays}
+-- `run::sound_after` meets its contract, by the answer. Assumes nothing.
+use Rattle.model.specs.Claims.{soundAfter}
 use borrow.Author.Needs.{needs}
-use Rattle.runtime.proofs.run.stays.Statement.{statement}
-use Rattle.runtime.proofs.run.stays.Tie as tie
+use Rattle.runtime.proofs.run.sound_after.Statement.{statement}
+use Rattle.runtime.proofs.run.sound_after.Tie as tie
 
 enum-told : tie.Need-enum-told
 enum-told c = search needs
@@ -26,35 +26,35 @@ enum-told-7 : tie.Need-enum-told-7
 enum-told-7 c = search needs
 
 returns : tie.Need-returns
-unfolding stays
+unfolding soundAfter
 returns c = simp (c .enum-told .given .1)
 
 returns-2 : tie.Need-returns-2
-unfolding stays
+unfolding soundAfter
 returns-2 c = simp (c .enum-told2 .given .1)
 
 returns-3 : tie.Need-returns-3
-unfolding stays
+unfolding soundAfter
 returns-3 c = simp (c .enum-told3 .given .1)
 
 returns-4 : tie.Need-returns-4
-unfolding stays
+unfolding soundAfter
 returns-4 c = simp (c .enum-told4 .given .1)
 
 returns-5 : tie.Need-returns-5
-unfolding stays
+unfolding soundAfter
 returns-5 c = simp (c .enum-told5 .given .1)
 
 returns-6 : tie.Need-returns-6
-unfolding stays
+unfolding soundAfter
 returns-6 c = simp (c .enum-told6 .given .1)
 
 returns-7 : tie.Need-returns-7
-unfolding stays
+unfolding soundAfter
 returns-7 c = simp (c .enum-told7 .given .1)
 
-pub stays-spec : {M : Type 1} → statement M
-stays-spec =
+pub sound-after-spec : {M : Type 1} → statement M
+sound-after-spec =
     tie.close
     (tie.spec
     enum-told
