@@ -24,7 +24,7 @@ use Rattle.program.proofs.Accepted.{inside-given, used-given}
 use Rattle.program.proofs.Checks.{then-first, then-second}
 use Rattle.program.specs.Accepted.{HasBody}
 use Rattle.device.specs.Looked.{Looked}
-use Rattle.body.specs.Running.{Running, does, fetched}
+use Rattle.body.specs.Running.{Running, does, fetched, bodyAt, instructionAt}
 use Rattle.body.specs.declared.Fetched.{Fetched}
 
 -- ---- the record at head, whose event is e
@@ -74,6 +74,12 @@ module _ (p s : List ℕ) (d : Device) (h : Looked p s d) where
 
   pub running-half : (b : Body) (j : ℕ) → d .place ≡ Half b j → Running p s b
   running-half b j e = let m = stands e in may-run b (m .1) (m .0)
+
+  pub running-at : (x : Place) → d .place ≡ x → ((n : ℕ) → d .place ≡ Free n → ⊥) → Running p s (bodyAt x)
+  unfolding bodyAt
+  running-at (Free n) e has = absurd (has n e)
+  running-at (Run b j n) e has = running b j n e
+  running-at (Half b j) e has = running-half b j e
 
   pub stores-left : (b : Body) (j n : ℕ) → d .place ≡ Run b j n → n < endStores b
   stores-left b j n e = stands e .2
@@ -234,3 +240,28 @@ module _ (p : List ℕ) (v : Store) (d : Device) (b : Body) (j : ℕ) where
     pub half-acts : placeStep p v d (Half b j) ≡ saveRest d b j f
     unfolding placeStep
     half-acts = judged-fits (Half b j) (saveRest d b j) e ∙ rest-refuses f
+
+-- ---- the same at a place of a body
+
+pub there-refused : (p : List ℕ) (v : Store) (d : Device) {x : Refusal} (y : Place) → ((n : ℕ) → y ≡ Free n → ⊥) → fetched p v (d .regs) (bodyAt y) (instructionAt y) ≡ Fetched.Refused x → placeStep p v d y ≡ refuse d x
+unfolding bodyAt instructionAt
+there-refused p v d (Free n) has e = absurd (has n refl)
+there-refused p v d (Run b j n) has e = run-refused p v d b j n e
+there-refused p v d (Half b j) has e = half-refused p v d b j e
+
+module _ (p : List ℕ) (v : Store) (d : Device) (y : Place) where
+  abbrev fetchedThere : Fetched
+  fetchedThere = fetched p v (d .regs) (bodyAt y) (instructionAt y)
+
+  module _ {f : Effect} (e : fetchedThere ≡ Fetched.Does f) where
+    pub there-unfit : (b : Body) (j n : ℕ) → y ≡ Run b j n → placeFits (Run b j n) f ≡ false → placeStep p v d y ≡ refuse d Refusal.State
+    unfolding bodyAt instructionAt
+    there-unfit b j n q h = rw q (run-unfit p v d b j (rw q at e) n h)
+
+    pub there-acts : (b : Body) (j n : ℕ) → y ≡ Run b j n → placeFits (Run b j n) f ≡ true → placeStep p v d y ≡ act p v d b j n f
+    unfolding bodyAt instructionAt
+    there-acts b j n q h = rw q (run-acts p v d b j (rw q at e) n h)
+
+    pub there-saves : (b : Body) (j : ℕ) → y ≡ Half b j → placeStep p v d y ≡ saveRest d b j f
+    unfolding bodyAt instructionAt
+    there-saves b j q = rw q (half-acts p v d b j (rw q at e))

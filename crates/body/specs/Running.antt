@@ -11,7 +11,7 @@ use Rattle.model.specs.declared.Body.{Body}
 use Rattle.model.specs.declared.Checked.{Checked}
 use Rattle.model.specs.declared.Effect.{Effect}
 use Rattle.model.specs.declared.Place.{Place}
-use Rattle.model.specs.declared.Place.the-variants.{Free}
+use Rattle.model.specs.declared.Place.the-variants.{Free, Run, Half}
 use Rattle.program.specs.Accepted.{Contents, HasInstruction}
 use Rattle.effects.specs.Legal.{LegalEffect}
 use Rattle.body.specs.declared.Fetched.{Fetched}
@@ -41,3 +41,14 @@ unfoldable pub fetched : List ℕ → Store → List ℕ → Body → ℕ → Fe
 fetched p v r b j =
     let f = effectAt p (number p b) j r in
     does (bodySound p v (Free 0) b j f) f
+
+-- the body of a place, and its instruction; a place without one has task 0's first
+unfoldable pub bodyAt : Place → Body
+bodyAt (Free n) = Body.Task 0
+bodyAt (Run b j n) = b
+bodyAt (Half b j) = b
+
+unfoldable pub instructionAt : Place → ℕ
+instructionAt (Free n) = 0
+instructionAt (Run b j n) = j
+instructionAt (Half b j) = j

@@ -12,7 +12,7 @@ ghost use Rattle.program.specs.Accepted.{Contents, RowsInside, HasBody, HasInst
 ghost use Rattle.effects.specs.Legal.{LegalEffect};
 ghost use Rattle.store.specs.Shaped.{Shaped, ShapedFor};
 ghost use Rattle.device.specs.Looked.{Looked};
-ghost use Rattle.body.specs.Running.{Running, Fetches, does, fetched};
+ghost use Rattle.body.specs.Running.{Running, Fetches, does, fetched, bodyAt, instructionAt};
 ghost use Rattle.device.specs.Turn.{device, after, result};
 use device::Core;
 use device::Turn;
@@ -403,41 +403,60 @@ fn act(
     }
 }
 
-// One instruction of body b, with n stores of its end made.
-pub fn run_step(
-    p: &[u16],
-    s: &mut [u16],
-    r: &mut [u16; 8],
-    c: Core,
-    b: Body,
-    j: u16,
-    n: u16,
-) -> Turn
-    requires { ⌜ Looked (now p) (now s) (device c (now r)) ⌝ }
-    requires { ⌜ c .place ≡ Place.Run b j n ⌝ }
-    ensures { λ t. ⌜ after t (now (r .exit)) (now (s .exit)) ≡ result (now (s .entry)) (placeStep (now (p .entry)) (view (now (s .entry))) (device c (now (r .entry))) (Place.Run b j n)) ⌝ }
+// The body of a place, and the number of its instruction; a place without one has task 0's first.
+fn body_at(x: Place) -> Body
+    ensures { λ b. ⌜ b ≡ bodyAt x ⌝ }
 {
-    let got = fetch(p, s, r, b, j);
-    match got {
-        Fetched::Refused(e) => turns::refused(c, e),
-        Fetched::Does(f) => {
+    match x {
+        Place::Free(_) => Body::Task(0),
+        Place::Run(b, _, _) => b,
+        Place::Half(b, _) => b,
+    }
+}
+
+fn instruction_at(x: Place) -> u16
+    ensures { λ j. ⌜ j ≡ instructionAt x ⌝ }
+{
+    match x {
+        Place::Free(_) => 0,
+        Place::Run(_, j, _) => j,
+        Place::Half(_, j) => j,
+    }
+}
+
+// What was fetched is done: an instruction, with n stores of its end made, or the value of a SAVE whose address is stored.
+fn done(p: &[u16], s: &mut [u16], r: &mut [u16; 8], c: Core, f: Effect) -> Turn
+    requires { ⌜ Looked (now p) (now s) (device c (now r)) ⌝ }
+    requires { ⌜ ((n : ℕ) → c .place ≡ Place.Free n → ⊥) ⌝ }
+    requires { ⌜ fetched (now p) (view (now s)) (now r) (bodyAt (c .place)) (instructionAt (c .place)) ≡ Fetched.Does f ⌝ }
+    requires { ⌜ Fetches (now p) (bodyAt (c .place)) (instructionAt (c .place)) f ⌝ }
+    ensures { λ t. ⌜ after t (now (r .exit)) (now (s .exit)) ≡ result (now (s .entry)) (placeStep (now (p .entry)) (view (now (s .entry))) (device c (now (r .entry))) (c .place)) ⌝ }
+{
+    let place = c.place;
+    match place {
+        Place::Free(_) => turns::refused(c, Refusal::State),
+        Place::Run(b, j, n) => {
             if !fits(n, f) {
                 return turns::refused(c, Refusal::State);
             }
             act(p, s, r, c, b, j, n, f)
         }
+        Place::Half(b, j) => save_rest(s, c, b, j, f),
     }
 }
 
-// The value of a SAVE whose address is stored.
-pub fn half_step(p: &[u16], s: &mut [u16], r: &[u16; 8], c: Core, b: Body, j: u16) -> Turn
+// The step of a body at its place: what is fetched is refused or done. One call of `fetch` serves both places.
+pub fn body_step(p: &[u16], s: &mut [u16], r: &mut [u16; 8], c: Core) -> Turn
     requires { ⌜ Looked (now p) (now s) (device c (now r)) ⌝ }
-    requires { ⌜ c .place ≡ Place.Half b j ⌝ }
-    ensures { λ t. ⌜ after t (now (r .entry)) (now (s .exit)) ≡ result (now (s .entry)) (placeStep (now (p .entry)) (view (now (s .entry))) (device c (now (r .entry))) (Place.Half b j)) ⌝ }
+    requires { ⌜ ((n : ℕ) → c .place ≡ Place.Free n → ⊥) ⌝ }
+    ensures { λ t. ⌜ after t (now (r .exit)) (now (s .exit)) ≡ result (now (s .entry)) (placeStep (now (p .entry)) (view (now (s .entry))) (device c (now (r .entry))) (c .place)) ⌝ }
 {
-    let rest = fetch(p, s, r, b, j);
-    match rest {
+    let place = c.place;
+    let b = body_at(place);
+    let j = instruction_at(place);
+    let got = fetch(p, s, r, b, j);
+    match got {
         Fetched::Refused(e) => turns::refused(c, e),
-        Fetched::Does(f) => save_rest(s, c, b, j, f),
+        Fetched::Does(f) => done(p, s, r, c, f),
     }
 }

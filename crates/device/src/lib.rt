@@ -12,10 +12,10 @@ pub mod turns;
 
 // The device apart from its registers.
 pub struct Core {
-    pub on: bool,
     pub place: Place,
     pub count: u16,
     pub handler: Handler,
+    pub on: bool,
 }
 
 // What one call answers, with the device after it, apart from its registers.

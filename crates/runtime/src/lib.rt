@@ -41,11 +41,10 @@ fn place_step(p: &[u16], s: &mut [u16], r: &mut [u16; 8], c: Core) -> Turn
     ensures { λ t. ⌜ after t (now (r .exit)) (now (s .exit)) ≡ result (now (s .entry)) (placeStep (now (p .entry)) (view (now (s .entry))) (device c (now (r .entry))) (c .place)) ⌝ }
 {
     let place = c.place;
-    match place {
-        Place::Free(n) => free_step(p, s, r, c, n),
-        Place::Run(b, j, n) => body::run_step(p, s, r, c, b, j, n),
-        Place::Half(b, j) => body::half_step(p, s, r, c, b, j),
-    }
+    let Place::Free(n) = place else {
+        return body::body_step(p, s, r, c);
+    };
+    free_step(p, s, r, c, n)
 }
 
 // "First that applies", after the early checks.

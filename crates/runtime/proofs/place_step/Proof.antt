@@ -1,5 +1,7 @@
 -- `place_step` meets its contract, by the place. Assumes nothing.
+use mathlib.Core.Logic.{⊎-elim}
 use mathlib.Core.Path.{sym, ap, _∙_}
+use native.Mathlib.Omega.{arith}
 use denote.Ref.{now}
 use Rattle.device.specs.Turn.{device, result}
 use Rattle.model.specs.Device.{placeStep}
@@ -12,30 +14,17 @@ use Rattle.runtime.proofs.place_step.Tie as tie
 enum-known-place : tie.Need-enum-known-place
 enum-known-place c = search needs
 
-free-step-requires : tie.Need-free-step-requires
-free-step-requires c κs = (c .before .before .before .before .before .before .before .pre, c .before .before .before .place .given .1)
-
-enum-known-place-2 : tie.Need-enum-known-place-2
-enum-known-place-2 c = search needs
-
-run-step-requires : tie.Need-run-step-requires
-run-step-requires c κs = (c .before .before .before .before .before .before .before .pre, c .before .before .before .place2 .given .1)
-
-enum-known-place-3 : tie.Need-enum-known-place-3
-enum-known-place-3 c = search needs
-
-half-step-requires : tie.Need-half-step-requires
-half-step-requires c κs = (c .before .before .before .before .before .before .before .pre, c .before .before .before .place3 .given .1)
+body-step-requires : tie.Need-body-step-requires
+body-step-requires c κs = (c .before .before .before .before .before .pre, λ n e. ⊎-elim (λ q. omega (arith, q)) (λ q. omega (arith, q)) (rw e at (c .before .before .match .keys2)))
 
 same-length : tie.Need-same-length
 same-length c = search needs
 
 returns : tie.Need-returns
-returns c =
-    let s = now (c .before .before .before .before .before .before .before .before .before .before .args .s) in
-    let p = now (c .before .before .before .before .before .before .before .before .before .before .args .p) in
-    let d = device (c .before .before .before .before .before .before .before .before .before .before .args .c) (now (c .before .before .before .before .before .before .before .before .before .before .args .r)) in
-    c .before .before .free-step .ensures ∙ ap (λ (x : Place). result s (placeStep p (view s) d x)) (sym (c .before .before .before .before .before .before .place .given .1))
+returns c = c .before .before .body-step .ensures
+
+free-step-requires : tie.Need-free-step-requires
+free-step-requires c κs = (c .before .before .before .before .before .before .before .pre, c .before .before .before .place .given .1)
 
 same-length-2 : tie.Need-same-length-2
 same-length-2 c = search needs
@@ -45,31 +34,16 @@ returns-2 c =
     let s = now (c .before .before .before .before .before .before .before .before .before .before .args .s) in
     let p = now (c .before .before .before .before .before .before .before .before .before .before .args .p) in
     let d = device (c .before .before .before .before .before .before .before .before .before .before .args .c) (now (c .before .before .before .before .before .before .before .before .before .before .args .r)) in
-    c .before .before .run-step .ensures ∙ ap (λ (x : Place). result s (placeStep p (view s) d x)) (sym (c .before .before .before .before .before .before .place2 .given .1))
-
-same-length-3 : tie.Need-same-length-3
-same-length-3 c = search needs
-
-returns-3 : tie.Need-returns-3
-returns-3 c =
-    let s = now (c .before .before .before .before .before .before .before .before .before .before .args .s) in
-    let p = now (c .before .before .before .before .before .before .before .before .before .before .args .p) in
-    let d = device (c .before .before .before .before .before .before .before .before .before .before .args .c) (now (c .before .before .before .before .before .before .before .before .before .before .args .r)) in
-    c .before .before .half-step .ensures ∙ ap (λ (x : Place). result s (placeStep p (view s) d x)) (sym (c .before .before .before .before .before .before .place3 .given .1))
+    c .before .before .free-step .ensures ∙ ap (λ (x : Place). result s (placeStep p (view s) d x)) (sym (c .before .before .before .before .before .before .place .given .1))
 
 pub place-step-spec : {M : Type 1} → statement M
 place-step-spec =
     tie.close
     (tie.spec
     enum-known-place
-    free-step-requires
-    enum-known-place-2
-    run-step-requires
-    enum-known-place-3
-    half-step-requires
+    body-step-requires
     same-length
     returns
+    free-step-requires
     same-length-2
-    returns-2
-    same-length-3
-    returns-3)
+    returns-2)
