@@ -7,6 +7,7 @@ use mathlib.Core.Path.{_≡_, refl, sym, _∙_, ap}
 use native.Mathlib.Omega.{arith}
 use borrow.Author.Tests.{lt-ltb, le-ltb}
 use lib.Dec.{ltb}
+use Rattle.model.proofs.TestLaws.{then-first, then-rest}
 use Rattle.model.proofs.Early.{MayRun, Stands}
 use Rattle.model.specs.Check.{rowsInside, rowUsed, instructionRule}
 use Rattle.model.specs.Device.{endStores, recordSound, headSound, namedRow, openSound, headIs, saves, placeFits, bodySound, Out, refuse, judged, act, saveRest, placeStep}
@@ -21,7 +22,6 @@ use Rattle.model.specs.declared.Place.{Place}
 use Rattle.model.specs.declared.Place.the-variants.{Free, Run, Half}
 use Rattle.model.specs.declared.Refusal.{Refusal}
 use Rattle.program.proofs.Accepted.{inside-given, used-given}
-use Rattle.program.proofs.Checks.{then-first, then-second}
 use Rattle.program.specs.Accepted.{HasBody}
 use Rattle.device.specs.Looked.{Looked}
 use Rattle.body.specs.Running.{Running, does, fetched, bodyAt, instructionAt}
@@ -149,10 +149,10 @@ module _ (p : List ℕ) (v : Store) (r : List ℕ) (b : Body) (j : ℕ) where
 
 pub row-given : (p s : List ℕ) (b : Body) → Running p s b → rowChecks p (view s) b ≡ Checked.Accepted → HasBody p (number p b)
 row-given p s b h e =
-    let rest = then-second _ _ e in
+    let rest = then-rest _ _ e in
     used-given p (number p b)
     (record { rows = inside-given p (h .contents) (then-first _ _ rest); body = h .body })
-    (then-second _ _ rest)
+    (then-rest _ _ rest)
 
 -- ---- from the checks to what is fetched, and back
 

@@ -7,12 +7,13 @@ use native.Mathlib.Nat.{add-zero}
 use native.Mathlib.Omega.{arith}
 use borrow.Author.Tests.{le-ltb, le-leb, ltb-true, leb-true, eqb-true}
 use lib.Dec.{ltb}
+use Rattle.model.proofs.TestLaws.{must-passed, then-first, then-rest}
 use Rattle.model.specs.Check.{contentsRule, rowsInside, limits, due, rowRule, rows, rowUsed, instructionRule, bodyRule, check}
 use Rattle.model.specs.Program.{tasks, total, bodies, firstBody, start, instructions, transaction}
 use Rattle.model.specs.Test.{pick, must, _then_}
 use Rattle.model.specs.declared.Checked.{Checked}
 use Rattle.program.specs.Accepted.{Contents, RowsInside, HasRow, HasBody, Bodies, WellFormed}
-use Rattle.program.proofs.Checks.{must-true, must-then, then-first, then-second, each-given}
+use Rattle.program.proofs.Checks.{must-then, each-given}
 use Rattle.program.proofs.Due.{due-first, due-next}
 use Rattle.program.proofs.Legal.{rule-given}
 use Rattle.signed.proofs.Range.{within}
@@ -37,13 +38,13 @@ contents-given p h =
       eventsFit = leb-true _ _ (f .0);
       someMemory = leb-true _ _ (g .0);
       memoryFits = leb-true _ _ (i .0);
-      entryFits = ltb-true _ _ (must-true _ _ (i .1));
+      entryFits = ltb-true _ _ (must-passed _ _ (i .1));
     }
 
 pub inside-given : (p : List ℕ) → Contents p → rowsInside p ≡ Checked.Accepted → RowsInside p
 unfolding rowsInside
 inside-given p c h =
-    let fits : firstBody p ≤ total p = leb-true _ _ (must-true _ _ h) in
+    let fits : firstBody p ≤ total p = leb-true _ _ (must-passed _ _ h) in
     record { contents = c; inside = omega arith }
 
 -- ---- A row
@@ -73,7 +74,7 @@ unfolding limits
 limits-given p i h =
     let a = must-then _ _ _ h in
     let b = must-then _ _ _ (a .1) in
-    let largest = leb-true _ _ (must-true _ _ (b .1)) in
+    let largest = leb-true _ _ (must-passed _ _ (b .1)) in
     record {
       some = leb-true _ _ (a .0);
       most = leb-true _ _ (b .0);
@@ -85,8 +86,8 @@ pub used-given : (p : List ℕ) (i : ℕ) → HasRow p i → rowUsed p i ≡ Che
 unfolding rowUsed
 used-given p i r h =
     let l = limits-given p i (then-first _ _ h) in
-    let a = must-then _ _ _ (then-second _ _ h) in
-    let inside : start p i + 2 * instructions p i ≤ total p = leb-true _ _ (must-true _ _ (a .1)) in
+    let a = must-then _ _ _ (then-rest _ _ h) in
+    let inside : start p i + 2 * instructions p i ≤ total p = leb-true _ _ (must-passed _ _ (a .1)) in
     record {
       row = r;
       some = l .some;
@@ -108,19 +109,19 @@ module _ (p : List ℕ) (c : Contents p) (h : rows p ≡ Checked.Accepted) where
   unfolding rows
   row-rule i l =
       within (λ (j : ℕ). rowRule p j ≡ Checked.Accepted) 0 (bodies p) i
-      (each-given (rowRule p) 0 (bodies p) (then-first _ _ (then-second _ _ h))) zero-le (omega arith)
+      (each-given (rowRule p) 0 (bodies p) (then-first _ _ (then-rest _ _ h))) zero-le (omega arith)
 
   starts : (i : ℕ) → i < bodies p → start p i ≡ due p i
   unfolding rowRule
-  starts i l = eqb-true _ _ (must-true _ _ (then-first _ _ (row-rule i l)))
+  starts i l = eqb-true _ _ (must-passed _ _ (then-first _ _ (row-rule i l)))
 
   limits-accepted : (i : ℕ) → i < bodies p → limits p i ≡ Checked.Accepted
   unfolding rowRule
-  limits-accepted i l = then-second _ _ (row-rule i l)
+  limits-accepted i l = then-rest _ _ (row-rule i l)
 
   ends : due p (bodies p) ≡ total p
   unfolding rows
-  ends = eqb-true _ _ (must-true _ _ (then-second _ _ (then-second _ _ h)))
+  ends = eqb-true _ _ (must-passed _ _ (then-rest _ _ (then-rest _ _ h)))
 
   due-behind : (i : ℕ) → i ≤ bodies p → firstBody p ≤ due p i
   due-behind zero l = omega (arith, due-first p {i = 0} refl)
@@ -164,7 +165,7 @@ module _ (p : List ℕ) (h : check p ≡ Checked.Accepted) where
 
   rows-accepted : rows p ≡ Checked.Accepted
   unfolding check
-  rows-accepted = then-first _ _ (then-second _ _ h)
+  rows-accepted = then-first _ _ (then-rest _ _ h)
 
   inside-accepted : rowsInside p ≡ Checked.Accepted
   unfolding rows
@@ -173,7 +174,7 @@ module _ (p : List ℕ) (h : check p ≡ Checked.Accepted) where
   rule-accepted : (i j : ℕ) → i < bodies p → j < instructions p i → instructionRule p i j ≡ Checked.Accepted
   unfolding check bodyRule
   rule-accepted i j l m =
-      let body = each-given (bodyRule p) 0 (bodies p) (then-second _ _ (then-second _ _ h)) in
+      let body = each-given (bodyRule p) 0 (bodies p) (then-rest _ _ (then-rest _ _ h)) in
       let rule = within (λ (k : ℕ). bodyRule p k ≡ Checked.Accepted) 0 (bodies p) i body zero-le (omega arith) in
       within (λ (k : ℕ). instructionRule p i k ≡ Checked.Accepted) 0 (instructions p i) j
       (each-given (instructionRule p i) 0 (instructions p i) rule) zero-le (omega arith)

@@ -6,6 +6,7 @@ use mathlib.Core.Path.{_≡_, refl, sym, _∙_}
 use native.Mathlib.Numerals.{add-one}
 use native.Mathlib.Omega.{arith}
 use borrow.Author.Tests.{lt-ltb, le-ltb, le-leb, lt-leb, eq-eqb, ne-eqb}
+use Rattle.model.proofs.TestLaws.{must-passed, then-first, then-rest}
 use Rattle.model.specs.Test.{must, _then_, each}
 use Rattle.model.specs.declared.Checked.{Checked}
 use Rattle.model.specs.declared.Refusal.{Refusal}
@@ -16,30 +17,15 @@ pub ruleset tests = (lt-ltb, le-ltb, le-leb, lt-leb, eq-eqb, ne-eqb)
 
 -- ---- An accepted check: each of its parts is accepted
 
-pub must-true : (b : Bool) (r : Refusal) → must b r ≡ Checked.Accepted → b ≡ true
-unfolding must
-must-true true r h = refl
-must-true false r h = let z : _≡_ {A = ℕ} 0 1 = cc in absurd (omega arith)
-
-pub then-first : (x y : Checked) → (x then y) ≡ Checked.Accepted → x ≡ Checked.Accepted
-unfolding _then_
-then-first Checked.Accepted y h = refl
-then-first (Checked.Refused r) y h = h
-
-pub then-second : (x y : Checked) → (x then y) ≡ Checked.Accepted → y ≡ Checked.Accepted
-unfolding _then_
-then-second Checked.Accepted y h = h
-then-second (Checked.Refused r) y h = let z : _≡_ {A = ℕ} 0 1 = cc in absurd (omega arith)
-
--- the same of a check that starts with a test
+-- a check that starts with a test
 pub must-then : (b : Bool) (r : Refusal) (y : Checked) → (must b r then y) ≡ Checked.Accepted → (b ≡ true) × (y ≡ Checked.Accepted)
-must-then b r y h = (must-true b r (then-first (must b r) y h), then-second (must b r) y h)
+must-then b r y h = (must-passed b r (then-first (must b r) y h), then-rest (must b r) y h)
 
 -- each of the checks that `each` makes is accepted
 pub each-given : (f : ℕ → Checked) (i k : ℕ) → each f i k ≡ Checked.Accepted → Each (λ (j : ℕ). f j ≡ Checked.Accepted) i k
 unfolding each
 each-given f i zero h = tt
-each-given f i (suc k) h = (then-first (f i) _ h, each-given f (suc i) k (then-second (f i) _ h))
+each-given f i (suc k) h = (then-first (f i) _ h, each-given f (suc i) k (then-rest (f i) _ h))
 
 -- ---- A function's answer r, with what it gives where it accepts
 

@@ -7,12 +7,13 @@ use native.Mathlib.Omega.{arith}
 use borrow.Author.Tests.{ltb-true, ltb-false, eqb-false}
 use lib.Dec.{ltb, eqb}
 use lib.ListN.{List·getD-eq-default}
+use Rattle.model.proofs.TestLaws.{must-passed}
 use Rattle.model.specs.Check.{fieldsFit, lastFits, instructionRule}
 use Rattle.model.specs.Program.{boundsTable, memoryWords, tasks, instructions, opcode, fieldA, fieldB, code, operand, Bounds, bounds, decode, mayBeLast}
 use Rattle.model.specs.Test.{pick, _and_}
 use Rattle.model.specs.declared.Checked.{Checked}
 use Rattle.program.specs.Legal.{Registers, Operands, Legal}
-use Rattle.program.proofs.Checks.{must-true, must-then}
+use Rattle.program.proofs.Checks.{must-then}
 use Rattle.signed.proofs.Range.{Each, within}
 
 -- ---- The two tests of the rule, as facts
@@ -145,5 +146,5 @@ rule-given p i j place h =
     let rest = and-second _ _ (both .0) in
     let l =
     legal-op p i j (fieldA w) (fieldB w) (operand p i j) place (opcode w) (ltb-true _ _ (and-first _ _ (both .0)))
-    (ltb-true _ _ (and-first _ _ rest)) (ltb-true _ _ (and-second _ _ rest)) (must-true _ _ (both .1)) in
+    (ltb-true _ _ (and-first _ _ rest)) (ltb-true _ _ (and-second _ _ rest)) (must-passed _ _ (both .1)) in
     record { registers = l .0; operands = l .1 }

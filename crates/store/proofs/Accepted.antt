@@ -6,12 +6,13 @@ use mathlib.Core.Path.{_≡_}
 use lib.ListN.{length}
 use native.Mathlib.Omega.{arith}
 use borrow.Author.Tests.{leb-true, eqb-true}
+use Rattle.model.proofs.TestLaws.{must-passed}
 use Rattle.model.specs.Program.{word, memoryWords}
 use Rattle.model.specs.Store.{logAt, queueAt, storeLength, sizesRule, storeRule}
 use Rattle.model.specs.declared.Checked.{Checked}
 use Rattle.store.specs.Shaped.{Sizes, Shaped, ShapedFor}
 use Rattle.program.specs.Accepted.{Contents}
-use Rattle.program.proofs.Checks.{must-true, must-then}
+use Rattle.program.proofs.Checks.{must-then}
 use Rattle.store.proofs.Checks.{both}
 
 pub sizes : (l q : ℕ) → sizesRule l q ≡ true → Sizes l q
@@ -41,7 +42,7 @@ shaped p s c h =
     let e1 : word s 1 ≡ memoryWords p = eqb-true _ _ (memory .0) in
     let e6 : word s 6 ≡ logAt (memoryWords p) = eqb-true _ _ (logStart .0) in
     let e7 : word s 7 ≡ queueAt (memoryWords p) (word s 2) = eqb-true _ _ (queueStart .0) in
-    let e : length s ≡ storeLength (memoryWords p) (word s 2) (word s 3) = eqb-true _ _ (must-true _ _ (queueStart .1)) in
+    let e : length s ≡ storeLength (memoryWords p) (word s 2) (word s 3) = eqb-true _ _ (must-passed _ _ (queueStart .1)) in
     record {
       shaped =
           record {
