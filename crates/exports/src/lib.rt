@@ -126,17 +126,18 @@ pub extern "C" fn runtime_step(
 )
     ensures { λ _. ⌜ OnDevice (now (device .entry)) (λ d. Told (now (program .entry)) (now (store .entry)) (step (now (program .entry)) (now (store .entry)) d) (now (answer .exit)) (now (device .exit)) (now (store .exit)) × (now (totals .exit) ≡ totalsWords (counted (totalsOf (now (totals .entry))) (step (now (program .entry)) (now (store .entry)) d)))) ((now (answer .exit) ≡ unknownWords) × (now (device .exit) ≡ now (device .entry)) × (now (store .exit) ≡ now (store .entry)) × (now (totals .exit) ≡ now (totals .entry))) ⌝ }
 {
-    let read = words::read_device(device);
-    if !read.found {
+    if !words::is_state(device) {
         words::write_unknown(answer);
         return;
     }
-    let d = read.device;
+    let d = words::state_of(device);
     let r = runtime::step(program, store, d);
     let a = r.answer;
+    let e = r.device;
     let t = totals::counted(totals_of(totals), a);
     write_totals(totals, t);
-    tell(r, device, answer);
+    words::write_answer(answer, a);
+    words::write_device(device, e);
 }
 
 // run: steps up to the budget; returns the count of steps made.

@@ -197,7 +197,7 @@ fn is_handler(h: u16, e: u16, x: u16) -> bool
 }
 
 // The device state of 18 words, and whether they are the words of one.
-fn is_state(w: &[u16; 18]) -> bool
+pub fn is_state(w: &[u16; 18]) -> bool
     ensures { λ r. ⌜ r ≡ isState (now (w .entry)) ⌝ }
 {
     if w[0] > 1 {
@@ -209,7 +209,7 @@ fn is_state(w: &[u16; 18]) -> bool
     is_handler(w[15], w[16], w[17])
 }
 
-fn state_of(w: &[u16; 18]) -> Device
+pub fn state_of(w: &[u16; 18]) -> Device
     ensures { λ d. ⌜ d ≡ stateOf (now (w .entry)) ⌝ }
 {
     let regs = [w[1], w[2], w[3], w[4], w[5], w[6], w[7], w[8]];

@@ -1,7 +1,7 @@
 -- `runtime_step` meets its contract, by whether the device words are those of a device state. Assumes nothing.
 use mathlib.Core.Path.{refl, ap, _∙_}
 use denote.Ref.{now}
-use Rattle.exports.proofs.OnDevice.{on-state, on-none}
+use Rattle.exports.proofs.OnDevice.{state-read, none-read}
 use Rattle.exports.specs.Exported.{totalsOf, totalsWords}
 use Rattle.model.specs.declared.Totals.{Totals}
 use Rattle.runtime.proofs.Told.{told-is-counted}
@@ -10,14 +10,17 @@ use borrow.Author.Needs.{needs}
 use Rattle.exports.proofs.runtime_step.Statement.{statement}
 use Rattle.exports.proofs.runtime_step.Tie as tie
 
-read-device-requires : tie.Need-read-device-requires
-read-device-requires c κs = search needs
+is-state-requires : tie.Need-is-state-requires
+is-state-requires c κs = search needs
 
 write-unknown-requires : tie.Need-write-unknown-requires
 write-unknown-requires c κs = search needs
 
 returns : tie.Need-returns
-returns c = on-none (now (c .before .before .before .before .before .before .before .before .args .device)) _ _ (c .before .before .before .before .read-device .result) (c .before .before .before .before .read-device .ensures) (c .before .before .if1 .taken) (c .write-unknown .ensures, refl, refl, refl)
+returns c = none-read (now (c .before .before .before .before .before .before .before .args .device)) _ _ (c .before .before .before .is-state .ensures) (c .before .before .if1 .taken) (c .write-unknown .ensures, refl, refl, refl)
+
+state-of-requires : tie.Need-state-of-requires
+state-of-requires c κs = search needs
 
 step-requires : tie.Need-step-requires
 step-requires c κs = search needs
@@ -31,36 +34,41 @@ counted-requires c κs = search needs
 write-totals-requires : tie.Need-write-totals-requires
 write-totals-requires c κs = search needs
 
-tell-requires : tie.Need-tell-requires
-tell-requires c κs = search needs
+write-answer-requires : tie.Need-write-answer-requires
+write-answer-requires c κs = search needs
+
+write-device-requires : tie.Need-write-device-requires
+write-device-requires c κs = search needs
 
 same-length : tie.Need-same-length
 same-length c = search needs
 
 returns-2 : tie.Need-returns-2
 returns-2 c =
-    let p = now (c .before .before .before .before .before .before .before .before .before .before .before .before .before .before .before .before .before .before .before .args .program) in
-    let s = now (c .before .before .before .before .before .before .before .before .before .before .before .before .before .before .before .before .before .before .before .args .store) in
-    on-state (now (c .before .before .before .before .before .before .before .before .before .before .before .before .before .before .before .before .before .before .before .args .device)) _ _ (c .before .before .before .before .before .before .before .before .before .before .before .before .before .before .before .read-device .result) (c .before .before .before .before .before .before .before .before .before .before .before .before .before .before .before .read-device .ensures) (c .before .before .before .before .before .before .before .before .before .before .before .before .before .if1 .left) (
-      (c .before .before .before .before .before .before .before .before .before .before .step .result, c .before .before .before .before .before .before .before .before .before .before .step .ensures, c .tell .ensures .0, c .tell .ensures .1),
-      c .before .before .before .write-totals .ensures
+    let p = now (c .before .before .before .before .before .before .before .before .before .before .before .before .before .before .before .before .before .before .before .before .before .args .program) in
+    let s = now (c .before .before .before .before .before .before .before .before .before .before .before .before .before .before .before .before .before .before .before .before .before .args .store) in
+    state-read (now (c .before .before .before .before .before .before .before .before .before .before .before .before .before .before .before .before .before .before .before .before .before .args .device)) _ _ (c .before .before .before .before .before .before .before .before .before .before .before .before .before .before .before .before .before .is-state .ensures) (c .before .before .before .before .before .before .before .before .before .before .before .before .before .before .before .before .if1 .left) (c .before .before .before .before .before .before .before .before .before .before .before .before .before .before .state-of .ensures) (
+      (c .before .before .before .before .before .before .before .before .before .before .before .before .step .result, c .before .before .before .before .before .before .before .before .before .before .before .before .step .ensures, c .before .before .write-answer .ensures, c .write-device .ensures),
+      c .before .before .before .before .write-totals .ensures
           ∙ ap totalsWords
-          (c .before .before .before .before .before .counted .ensures
-          ∙ ap (λ (t : Totals). told t (c .before .before .before .before .before .before .before .before .before .before .step .result .answer)) (c .before .before .before .before .before .before .totals-of .ensures)
-          ∙ told-is-counted p s _ (c .before .before .before .before .before .before .before .before .before .before .before .before .before .before .before .read-device .result .device) (c .before .before .before .before .before .before .before .before .before .before .step .result) (totalsOf (now (c .before .before .before .before .before .before .before .before .before .before .before .before .before .before .before .before .before .before .before .args .totals))) (c .before .before .before .before .before .before .before .before .before .before .step .ensures)),
+          (c .before .before .before .before .before .before .counted .ensures
+          ∙ ap (λ (t : Totals). told t (c .before .before .before .before .before .before .before .before .before .before .before .before .step .result .answer)) (c .before .before .before .before .before .before .before .totals-of .ensures)
+          ∙ told-is-counted p s _ (c .before .before .before .before .before .before .before .before .before .before .before .before .before .before .state-of .result) (c .before .before .before .before .before .before .before .before .before .before .before .before .step .result) (totalsOf (now (c .before .before .before .before .before .before .before .before .before .before .before .before .before .before .before .before .before .before .before .before .before .args .totals))) (c .before .before .before .before .before .before .before .before .before .before .before .before .step .ensures)),
     )
 
 pub runtime-step-spec : {M : Type 1} → statement M
 runtime-step-spec =
     tie.close
     (tie.spec
-    read-device-requires
+    is-state-requires
     write-unknown-requires
     returns
+    state-of-requires
     step-requires
     totals-of-requires
     counted-requires
     write-totals-requires
-    tell-requires
+    write-answer-requires
+    write-device-requires
     same-length
     returns-2)
