@@ -1,4 +1,5 @@
-/* The functions of the library target/staticlib/libexports.a, which `rt staticlib exports` writes.
+/* The functions of the library target/staticlib/libexports.a, which `rt staticlib exports` writes; the last one is in libbus.a,
+ * which `rt staticlib bus` writes.
  * What each call takes, answers and refuses: docs/USING.md.
  *
  * A program and a store are words with their number. The store is nonvolatile; the host keeps it.

@@ -14,7 +14,6 @@ use Rattle.model.specs.declared.Device.{Device}
 use Rattle.model.specs.declared.Totals.{Totals}
 use Rattle.runtime.specs.Ran.{RunPerforms}
 use Rattle.runtime.specs.declared.run.Ran.{Ran}
-use Rattle.watch.specs.declared.Target.{Target}
 use Rattle.words.specs.Words.{deviceOf, known, unknown, deviceWords, answerWords, endedWords}
 
 -- K of the device state whose words these are; U where they are none's
@@ -37,8 +36,3 @@ Told p s o a x z = (r : Stepped) × Performs p s o (afterCall r z) × (a ≡ ans
 abbrev pub RunTold : List ℕ → Defined → ℕ → List ℕ → List ℕ → List ℕ → List ℕ → Type 0
 RunTold p o n a x z t =
     (r : Ran) × RunPerforms p o r z × (n ≡ r .steps) × (a ≡ endedWords (r .ended)) × (x ≡ deviceWords (r .device)) × (t ≡ totalsWords (r .totals))
-
--- the word that a step stores, by its index; no index is 65536
-unfoldable pub storeNumber : Target → ℕ
-storeNumber Target.Nothing = 65536
-storeNumber (Target.Word i) = i

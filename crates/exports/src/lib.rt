@@ -6,8 +6,7 @@ ghost use Rattle.model.specs.Calls.{counted, run};
 ghost use Rattle.model.specs.Check.{check};
 ghost use Rattle.model.specs.Device.{off, boot, post, step};
 ghost use Rattle.model.specs.Store.{formatCheck, format};
-ghost use Rattle.exports.specs.Exported.{OnDevice, Told, RunTold, totalsOf, totalsWords, storeNumber};
-ghost use Rattle.watch.specs.Target.{target};
+ghost use Rattle.exports.specs.Exported.{OnDevice, Told, RunTold, totalsOf, totalsWords};
 ghost use Rattle.words.specs.Words.{deviceWords, answerWords, checkedWords, unknownWords};
 use device::Stepped;
 use device::look;
@@ -16,7 +15,6 @@ use model::Device;
 use model::Totals;
 use runtime::run;
 use store::format;
-use watch::Target;
 
 // check: 1 to 5.
 #[no_mangle]
@@ -166,26 +164,4 @@ pub extern "C" fn runtime_run(
     words::write_device(device, e);
     write_totals(totals, t);
     r.steps
-}
-
-fn number(t: Target) -> u32
-    ensures { λ n. ⌜ n ≡ storeNumber t ⌝ }
-{
-    match t {
-        Target::Nothing => 65536,
-        Target::Word(i) => i as u32,
-    }
-}
-
-// Which word the next step stores, even where its value stays the same: its index, or 65536 for none. Nothing is changed.
-#[no_mangle]
-pub extern "C" fn runtime_next_store(program: &[u16], store: &[u16], device: &[u16; 18]) -> u32
-    ensures { λ n. ⌜ OnDevice (now (device .entry)) (λ d. n ≡ storeNumber (target (now (store .entry)) (step (now (program .entry)) (now (store .entry)) d .write))) (n ≡ 65536) ⌝ }
-{
-    let read = words::read_device(device);
-    if !read.found {
-        return 65536;
-    }
-    let d = read.device;
-    number(watch::next_store(program, store, d))
 }

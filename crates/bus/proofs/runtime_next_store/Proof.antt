@@ -1,11 +1,11 @@
 -- `runtime_next_store` meets its contract, by whether the device words are those of a device state. Assumes nothing.
 use mathlib.Core.Path.{refl, ap, _∙_}
 use denote.Ref.{now}
 use Rattle.exports.proofs.OnDevice.{on-state, on-none}
-use Rattle.exports.specs.Exported.{storeNumber}
+use Rattle.bus.specs.Number.{storeNumber}
 use borrow.Author.Needs.{needs}
-use Rattle.exports.proofs.runtime_next_store.Statement.{statement}
-use Rattle.exports.proofs.runtime_next_store.Tie as tie
+use Rattle.bus.proofs.runtime_next_store.Statement.{statement}
+use Rattle.bus.proofs.runtime_next_store.Tie as tie
 
 read-device-requires : tie.Need-read-device-requires
 read-device-requires c κs = search needs

@@ -1,8 +1,8 @@
 -- `number` meets its contract, by the case. Assumes nothing.
-use Rattle.exports.specs.Exported.{storeNumber}
+use Rattle.bus.specs.Number.{storeNumber}
 use borrow.Author.Needs.{needs}
-use Rattle.exports.proofs.number.Statement.{statement}
-use Rattle.exports.proofs.number.Tie as tie
+use Rattle.bus.proofs.number.Statement.{statement}
+use Rattle.bus.proofs.number.Tie as tie
 
 enum-told : tie.Need-enum-told
 enum-told c = search needs
