@@ -14,7 +14,7 @@ use Rattle.model.specs.Control.{Rule, broken, obey, obeyAll, upTo, blames}
 use Rattle.model.specs.Test.{_and_, _or_, must, _then_}
 use Rattle.model.specs.declared.Checked.{Checked}
 use Rattle.model.specs.declared.Refusal.{Refusal}
-use Rattle.store.proofs.Checks.{then-assoc}
+use Rattle.store.proofs.Checks.{then-assoc, then-accepted}
 
 -- ---- one rule: it isn't asked, it is kept, or it is broken
 
@@ -85,3 +85,19 @@ blamed (r ∷ rs) w h = go (broken r) refl (blamed rs w)
         let z : r .word ≡ w = cc in
         simp (e, eq-eqb (r .word) w z)
     go false e rest = simp e (rest (simp e at h))
+
+-- ---- two checks, four that one function makes, and two
+
+four : (a b c d e : Checked) → ((a then b then c then d) then e) ≡ (a then b then c then d then e)
+unfolding _then_
+four (Checked.Refused r) b c d e = refl
+four Checked.Accepted (Checked.Refused r) c d e = refl
+four Checked.Accepted Checked.Accepted (Checked.Refused r) d e = refl
+four Checked.Accepted Checked.Accepted Checked.Accepted d e = refl
+
+pub grouped : (a b c d e f g h : Checked)
+    → ((a then b) then ((c then d then e then f) then (g then h))) ≡ (a then b then c then d then e then f then g then h then Checked.Accepted)
+grouped a b c d e f g h =
+    then-assoc a b _
+    ∙ ap (λ (x : Checked). a then b then x) (four c d e f (g then h))
+    ∙ ap (λ (x : Checked). a then b then c then d then e then f then g then x) (sym (then-accepted h))

@@ -316,20 +316,36 @@ fn first(a: Checked, b: Checked) -> Checked
     b
 }
 
+// The early rules that speak in phases 1 and 2 alone: in phase 0 each of them is passed over.
+fn commit_rules(p: &[u16], store: &[u16]) -> Checked
+    requires { ⌜ Contents (now p) ⌝ }
+    requires { ⌜ Shaped (now store) ⌝ }
+    ensures { λ r. ⌜ r ≡ (obey (openServing (view (now (store .entry)))) then obey (countRule (view (now (store .entry)))) then obey (pendingTaskRule (now (p .entry)) (view (now (store .entry)))) then obey (pendingHeadRule (view (now (store .entry))))) ⌝ }
+{
+    if store[8] == 0 {
+        return Checked::Accepted;
+    }
+    let found = open_serving(store);
+    let found = first(found, count_rule(store));
+    let found = first(found, pending_task_rule(p, store));
+    first(found, pending_head_rule(store))
+}
+
 // 7 without the rules that need a row, a log pair or a record.
 pub fn early(p: &[u16], store: &[u16]) -> Checked
     requires { ⌜ Contents (now p) ⌝ }
     requires { ⌜ ShapedFor (now p) (now store) ⌝ }
     ensures { λ r. ⌜ r ≡ obeyAll (earlyRules (now (p .entry)) (view (now (store .entry)))) ⌝ }
 {
-    let found = phase_rule(store);
-    let found = first(found, task_rule(p, store));
-    let found = first(found, open_serving(store));
-    let found = first(found, count_rule(store));
-    let found = first(found, pending_task_rule(p, store));
-    let found = first(found, pending_head_rule(store));
-    let found = first(found, head_rule(store));
-    first(found, tail_rule(store))
+    let found = first(phase_rule(store), task_rule(p, store));
+    let Checked::Accepted = found else {
+        return found;
+    };
+    let found = commit_rules(p, store);
+    let Checked::Accepted = found else {
+        return found;
+    };
+    first(head_rule(store), tail_rule(store))
 }
 
 // 7 whole, for a program whose rows can be read.

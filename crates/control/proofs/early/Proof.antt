@@ -1,8 +1,10 @@
--- `store::control::early` meets its contract: the answers of the rules, joined in their order. Assumes nothing.
-use mathlib.Core.Path.{sym, _∙_}
+-- `early` meets its contract: the first rule that isn't obeyed answers, in three groups. Assumes nothing.
+use mathlib.Core.Path.{_∙_}
 use borrow.Author.Needs.{needs}
 use Rattle.model.specs.Control.{earlyRules, obeyAll}
-use Rattle.store.proofs.Checks.{then-accepted, last, next, begin}
+use Rattle.program.proofs.Checks.{then-stop, then-go}
+use Rattle.store.proofs.Checks.{last, begin}
+use Rattle.control.proofs.Rules.{grouped}
 use Rattle.control.proofs.early.Statement.{statement}
 use Rattle.control.proofs.early.Tie as tie
 
@@ -15,66 +17,45 @@ task-rule-requires c κs = search needs
 first-requires : tie.Need-first-requires
 first-requires c κs = search needs
 
-open-serving-requires : tie.Need-open-serving-requires
-open-serving-requires c κs = search needs
+enum-told : tie.Need-enum-told
+enum-told c = search needs
 
-first-requires-2 : tie.Need-first-requires-2
-first-requires-2 c κs = search needs
+enum-told-2 : tie.Need-enum-told-2
+enum-told-2 c = search needs
 
-count-rule-requires : tie.Need-count-rule-requires
-count-rule-requires c κs = search needs
+returns : tie.Need-returns
+unfolding earlyRules obeyAll
+returns c = then-stop _ _ (last _ (c .before .before .first .ensures) (c .before .before .before .task-rule .ensures) (begin _ (c .before .before .before .before .phase-rule .ensures))) (c .enum-told2 .given .1) ∙ grouped _ _ _ _ _ _ _ _
 
-first-requires-3 : tie.Need-first-requires-3
-first-requires-3 c κs = search needs
+commit-rules-requires : tie.Need-commit-rules-requires
+commit-rules-requires c κs = search needs
 
-pending-task-rule-requires : tie.Need-pending-task-rule-requires
-pending-task-rule-requires c κs = search needs
+enum-told-3 : tie.Need-enum-told-3
+enum-told-3 c = search needs
 
-first-requires-4 : tie.Need-first-requires-4
-first-requires-4 c κs = search needs
+enum-told-4 : tie.Need-enum-told-4
+enum-told-4 c = search needs
 
-pending-head-rule-requires : tie.Need-pending-head-rule-requires
-pending-head-rule-requires c κs = search needs
-
-first-requires-5 : tie.Need-first-requires-5
-first-requires-5 c κs = search needs
+returns-2 : tie.Need-returns-2
+unfolding earlyRules obeyAll
+returns-2 c = then-stop _ _ (c .before .before .commit-rules .ensures) (c .enum-told4 .given .1) ∙ then-go _ _ (last _ (c .before .before .before .before .before .first .ensures) (c .before .before .before .before .before .before .task-rule .ensures) (begin _ (c .before .before .before .before .before .before .before .phase-rule .ensures))) (c .before .before .before .enum-told .given .1) ∙ grouped _ _ _ _ _ _ _ _
 
 head-rule-requires : tie.Need-head-rule-requires
 head-rule-requires c κs = search needs
 
-first-requires-6 : tie.Need-first-requires-6
-first-requires-6 c κs = search needs
-
 tail-rule-requires : tie.Need-tail-rule-requires
 tail-rule-requires c κs = search needs
 
-first-requires-7 : tie.Need-first-requires-7
-first-requires-7 c κs = search needs
+first-requires-2 : tie.Need-first-requires-2
+first-requires-2 c κs = search needs
 
-returns : tie.Need-returns
+returns-3 : tie.Need-returns-3
 unfolding earlyRules obeyAll
-returns c =
-    let c2 = c .before .before in
-    let c3 = c2 .before in
-    let c4 = c3 .before in
-    let c5 = c4 .before in
-    let c6 = c5 .before in
-    let c7 = c6 .before in
-    let c8 = c7 .before in
-    let c9 = c8 .before in
-    let c10 = c9 .before in
-    let c11 = c10 .before in
-    let c12 = c11 .before in
-    let c13 = c12 .before in
-    let c14 = c13 .before in
-    last _ (c .first7 .ensures) (c .before .tail-rule .ensures ∙ sym (then-accepted _))
-    (next _ _ (c2 .first6 .ensures) (c3 .head-rule .ensures)
-    (next _ _ (c4 .first5 .ensures) (c5 .pending-head-rule .ensures)
-    (next _ _ (c6 .first4 .ensures) (c7 .pending-task-rule .ensures)
-    (next _ _ (c8 .first3 .ensures) (c9 .count-rule .ensures)
-    (next _ _ (c10 .first2 .ensures) (c11 .open-serving .ensures)
-    (next _ _ (c12 .first .ensures) (c13 .task-rule .ensures)
-    (begin _ (c14 .phase-rule .ensures))))))))
+returns-3 c =
+    last _ (c .first2 .ensures) (c .before .tail-rule .ensures) (begin _ (c .before .before .head-rule .ensures))
+    ∙ then-go _ _ (c .before .before .before .before .before .commit-rules .ensures) (c .before .before .before .enum-told3 .given .1)
+    ∙ then-go _ _ (last _ (c .before .before .before .before .before .before .before .before .first .ensures) (c .before .before .before .before .before .before .before .before .before .task-rule .ensures) (begin _ (c .before .before .before .before .before .before .before .before .before .before .phase-rule .ensures))) (c .before .before .before .before .before .before .enum-told .given .1)
+    ∙ grouped _ _ _ _ _ _ _ _
 
 pub early-spec : {M : Type 1} → statement M
 early-spec =
@@ -83,16 +64,14 @@ early-spec =
     phase-rule-requires
     task-rule-requires
     first-requires
-    open-serving-requires
-    first-requires-2
-    count-rule-requires
-    first-requires-3
-    pending-task-rule-requires
-    first-requires-4
-    pending-head-rule-requires
-    first-requires-5
+    enum-told
+    enum-told-2
+    returns
+    commit-rules-requires
+    enum-told-3
+    enum-told-4
+    returns-2
     head-rule-requires
-    first-requires-6
     tail-rule-requires
-    first-requires-7
-    returns)
+    first-requires-2
+    returns-3)

@@ -1,0 +1,57 @@
+-- `commit_rules` meets its contract: in phase 0 no rule of them is asked, else their answers are joined. Assumes nothing.
+use borrow.Author.Needs.{needs}
+use Rattle.model.specs.Control.{obey, openServing, countRule, pendingTaskRule, pendingHeadRule}
+use Rattle.model.specs.Test.{must, _and_, _or_, _then_}
+use Rattle.store.proofs.Checks.{last, next, begin}
+use Rattle.control.proofs.commit_rules.Statement.{statement}
+use Rattle.control.proofs.commit_rules.Tie as tie
+
+shared-slice-read-if1 : tie.Need-shared-slice-read-if1
+shared-slice-read-if1 c = search needs
+
+returns : tie.Need-returns
+unfolding obey openServing countRule pendingTaskRule pendingHeadRule must _and_ _or_ _then_
+returns c = rw (c .if1 .taken)
+
+open-serving-requires : tie.Need-open-serving-requires
+open-serving-requires c κs = search needs
+
+count-rule-requires : tie.Need-count-rule-requires
+count-rule-requires c κs = search needs
+
+first-requires : tie.Need-first-requires
+first-requires c κs = search needs
+
+pending-task-rule-requires : tie.Need-pending-task-rule-requires
+pending-task-rule-requires c κs = search needs
+
+first-requires-2 : tie.Need-first-requires-2
+first-requires-2 c κs = search needs
+
+pending-head-rule-requires : tie.Need-pending-head-rule-requires
+pending-head-rule-requires c κs = search needs
+
+first-requires-3 : tie.Need-first-requires-3
+first-requires-3 c κs = search needs
+
+returns-2 : tie.Need-returns-2
+returns-2 c =
+    last _ (c .first3 .ensures) (c .before .pending-head-rule .ensures)
+    (next _ _ (c .before .before .first2 .ensures) (c .before .before .before .pending-task-rule .ensures)
+    (next _ _ (c .before .before .before .before .first .ensures) (c .before .before .before .before .before .count-rule .ensures)
+    (begin _ (c .before .before .before .before .before .before .open-serving .ensures))))
+
+pub commit-rules-spec : {M : Type 1} → statement M
+commit-rules-spec =
+    tie.close
+    (tie.spec
+    shared-slice-read-if1
+    returns
+    open-serving-requires
+    count-rule-requires
+    first-requires
+    pending-task-rule-requires
+    first-requires-2
+    pending-head-rule-requires
+    first-requires-3
+    returns-2)
