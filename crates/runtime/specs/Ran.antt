@@ -5,7 +5,7 @@ use Prim.Native.Nat.{ℕ}
 use mathlib.Core.List.{List}
 use mathlib.Core.Path.{_≡_}
 use Rattle.device.specs.Agree.{Agrees}
-use Rattle.device.specs.Turn.{device}
+use Rattle.device.specs.Turn.{Result, device}
 use Rattle.model.specs.Calls.{Ran as Defined}
 use Rattle.model.specs.Control.{rules}
 use Rattle.model.specs.Store.{view}
@@ -16,6 +16,10 @@ use Rattle.runtime.specs.declared.run.Turns.{Turns}
 -- with registers r and the words s
 abbrev pub afterTurns : Turns → List ℕ → List ℕ → Defined
 afterTurns x r s = record { steps = x .steps; ended = x .ended; store = s; device = device (x .core) r; totals = x .totals }
+
+-- the answer of its last step, refused or not, with the same
+abbrev pub afterLast : Turns → List ℕ → List ℕ → Result
+afterLast x r s = record { answer = x .last; device = device (x .core) r; store = s }
 
 -- A run of program p left x and the words s, where o is defined.
 pub record RunPerforms (p : List ℕ) (o : Defined) (x : Ran) (s : List ℕ) : Type 0 where

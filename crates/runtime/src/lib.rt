@@ -7,17 +7,18 @@ ghost use Rattle.model.specs.Store.{view};
 ghost use Rattle.device.specs.Agree.{Performs};
 ghost use Rattle.device.specs.Looked.{Looked};
 ghost use Rattle.device.specs.Turn.{device, after, afterCall, result};
+ghost use Rattle.runtime.specs.Ran.{afterLast};
 use body;
 use device::Core;
 use device::Stepped;
 use device::Turn;
 use device::look;
-use device::turns;
 use model::Answer;
-use model::Checked;
 use model::Device;
 use model::Handler;
 use model::Place;
+use model::Totals;
+use run::Turns;
 
 pub mod copying;
 pub mod run;
@@ -59,17 +60,6 @@ fn next_step(p: &[u16], s: &mut [u16], r: &mut [u16; 8], c: Core) -> Turn
     }
 }
 
-// A step on lent registers, the rest of the device by value.
-pub fn step_in(p: &[u16], s: &mut [u16], r: &mut [u16; 8], c: Core) -> Turn
-    ensures { λ t. ⌜ after t (now (r .exit)) (now (s .exit)) ≡ result (now (s .entry)) (step (now (p .entry)) (now (s .entry)) (device c (now (r .entry)))) ⌝ }
-{
-    let found = look::look(p, s, r, c);
-    match found {
-        Checked::Accepted => next_step(p, s, r, c),
-        Checked::Refused(why) => turns::refused(c, why),
-    }
-}
-
 // A device from its core and its registers.
 pub fn whole(c: Core, regs: [u16; 8]) -> Device
     ensures { λ d. ⌜ d ≡ device c regs ⌝ }
@@ -85,11 +75,11 @@ pub fn whole(c: Core, regs: [u16; 8]) -> Device
     }
 }
 
-// An answer with the whole device.
-fn packed(t: Turn, regs: [u16; 8]) -> Stepped
-    ensures { λ x. ⌜ ((s : List ℕ) → afterCall x s ≡ after t regs s) ⌝ }
+// The last answer with the whole device.
+fn packed(t: Turns, regs: [u16; 8]) -> Stepped
+    ensures { λ x. ⌜ ((s : List ℕ) → afterCall x s ≡ afterLast t regs s) ⌝ }
 {
-    let answer = t.answer;
+    let answer = t.last;
     let core = t.core;
     let device = whole(core, regs);
     Stepped { answer, device }
@@ -100,6 +90,11 @@ pub fn step(p: &[u16], s: &mut [u16], d: Device) -> Stepped
     ensures { λ x. ⌜ Performs (now (p .entry)) (now (s .entry)) (step (now (p .entry)) (now (s .entry)) d) (afterCall x (now (s .exit))) ⌝ }
 {
     let mut r = d.regs;
-    let t = step_in(p, s, &mut r, look::core_of(d));
+    let zero = Totals {
+        committed: 0,
+        accepted: 0,
+        stores: 0,
+    };
+    let t = run::run_in(p, s, &mut r, look::core_of(d), zero, 1);
     packed(t, r)
 }

@@ -6,26 +6,29 @@ ghost use mathlib.Core.Path.{_≡_};
 ghost use Rattle.model.specs.Calls.{unlessRefused, run};
 ghost use Rattle.model.specs.Device.{look, step};
 ghost use Rattle.device.specs.Turn.{device, after, result};
-ghost use Rattle.runtime.specs.Ran.{afterTurns, RunPerforms};
+ghost use Rattle.runtime.specs.Ran.{afterTurns, afterLast, RunPerforms};
 ghost use Rattle.model.specs.Claims.{soundAfter};
 use device::Core;
 use device::Turn;
 use device::look;
+use device::turns;
 use model::Answer;
 use model::Checked;
 use model::Device;
 use model::Ended;
 use model::Totals;
 
-// What a run answers, with the device, apart from its registers, and the totals after it.
+// What steps leave: the answer of the last one, refused or not; how many were made and how they ended; the device, apart from its
+// registers, and the totals.
 pub struct Turns {
+    pub last: Answer,
     pub steps: u32,
     pub ended: Ended,
     pub core: Core,
     pub totals: Totals,
 }
 
-// The same with the whole device.
+// What a run answers, with the whole device and the totals after it.
 pub struct Ran {
     pub steps: u32,
     pub ended: Ended,
@@ -63,43 +66,60 @@ fn sound_after(a: Answer) -> bool
     }
 }
 
-// A step, whose early checks may be known to pass.
+// The early checks of a step, unless they are known to pass.
+fn look_unless(p: &[u16], s: &[u16], r: &[u16; 8], c: Core, known: bool) -> Checked
+    requires { ⌜ (known ≡ true → look (now p) (now s) (device c (now r)) ≡ Checked.Accepted) ⌝ }
+    ensures { λ x. ⌜ x ≡ look (now (p .entry)) (now (s .entry)) (device c (now (r .entry))) ⌝ }
+{
+    if known {
+        return Checked::Accepted;
+    }
+    look::look(p, s, r, c)
+}
+
+// A step on lent registers.
 fn step_known(p: &[u16], s: &mut [u16], r: &mut [u16; 8], c: Core, known: bool) -> Turn
     requires { ⌜ (known ≡ true → look (now p) (now s) (device c (now r)) ≡ Checked.Accepted) ⌝ }
     ensures { λ t. ⌜ after t (now (r .exit)) (now (s .exit)) ≡ result (now (s .entry)) (step (now (p .entry)) (now (s .entry)) (device c (now (r .entry)))) ⌝ }
 {
-    if known {
-        return super::next_step(p, s, r, c);
+    let found = look_unless(p, s, r, c, known);
+    match found {
+        Checked::Accepted => super::next_step(p, s, r, c),
+        Checked::Refused(why) => turns::refused(c, why),
     }
-    super::step_in(p, s, r, c)
 }
 
-// A run on lent registers.
+// Steps on lent registers, up to a budget. A single step is a budget of 1: so the code of a step stands in one place, in the loop, and
+// what it leaves needs no copy from step to step.
 pub fn run_in(p: &[u16], s: &mut [u16], r: &mut [u16; 8], c: Core, t: Totals, budget: u32) -> Turns
     ensures { λ x. ⌜ afterTurns x (now (r .exit)) (now (s .exit)) ≡ run (now (p .entry)) budget (now (s .entry)) (device c (now (r .entry))) t ⌝ }
+    ensures { λ x. ⌜ (budget ≡ 1 → afterLast x (now (r .exit)) (now (s .exit)) ≡ result (now (s .entry)) (step (now (p .entry)) (now (s .entry)) (device c (now (r .entry))))) ⌝ }
 {
+    let mut last = Answer::Done;
     let mut core = c;
     let mut totals = t;
     let mut steps: u32 = 0;
     let mut known = false;
     while steps < budget {
         let turn = step_known(p, s, r, core, known);
-        let answer = turn.answer;
+        last = turn.answer;
         core = turn.core;
-        let found = refusal(answer);
+        let found = refusal(last);
         if let Checked::Refused(why) = found {
             return Turns {
+                last,
                 steps,
                 ended: Ended::Refused(why),
                 core,
                 totals,
             };
         }
-        totals = totals::counted(totals, answer);
-        known = sound_after(answer);
+        totals = totals::counted(totals, last);
+        known = sound_after(last);
         steps += 1;
     }
     Turns {
+        last,
         steps,
         ended: Ended::Spent,
         core,

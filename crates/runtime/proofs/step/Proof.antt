@@ -1,5 +1,5 @@
--- `step` meets its contract: the device is taken apart and put together again. Assumes nothing.
-use mathlib.Core.Path.{ap, _∙_}
+-- `step` meets its contract: a run with a budget of 1, between which the device is taken apart and put together again. Assumes nothing.
+use mathlib.Core.Path.{refl, ap, _∙_}
 use denote.Ref.{now}
 use Rattle.device.proofs.Agree.{performs}
 use Rattle.device.specs.Turn.{result}
@@ -13,8 +13,8 @@ use Rattle.runtime.proofs.step.Tie as tie
 core-of-requires : tie.Need-core-of-requires
 core-of-requires c κs = search needs
 
-step-in-requires : tie.Need-step-in-requires
-step-in-requires c κs = search needs
+run-in-requires : tie.Need-run-in-requires
+run-in-requires c κs = search needs
 
 packed-requires : tie.Need-packed-requires
 packed-requires c κs = search needs
@@ -27,14 +27,14 @@ unfolding call step
 returns c =
     let s = now (c .before .before .before .before .before .before .before .before .before .before .args .s) in
     let p = now (c .before .before .before .before .before .before .before .before .before .before .args .p) in
-    performs p s (c .before .before .before .before .before .before .before .before .before .before .args .d) Step (c .packed .ensures _ ∙ c .before .before .before .step-in .ensures ∙ ap (λ (d : Device). result s (step p s d)) (c .before .before .before .before .core-of .ensures))
+    performs p s (c .before .before .before .before .before .before .before .before .before .before .args .d) Step (c .packed .ensures _ ∙ c .before .before .before .run-in .ensures .1 refl ∙ ap (λ (d : Device). result s (step p s d)) (c .before .before .before .before .core-of .ensures))
 
 pub step-spec : {M : Type 1} → statement M
 step-spec =
     tie.close
     (tie.spec
     core-of-requires
-    step-in-requires
+    run-in-requires
     packed-requires
     same-length
     returns)

@@ -29,7 +29,7 @@ returns c =
     let p = now (c .before .before .before .before .before .before .before .before .before .before .before .before .args .p) in
     let s = now (c .before .before .before .before .before .before .before .before .before .before .before .before .args .s) in
     let o = run p (c .before .before .before .before .before .before .before .before .before .before .before .before .args .budget) s (c .before .before .before .before .before .before .before .before .before .before .before .before .args .d) (c .before .before .before .before .before .before .before .before .before .before .before .before .args .t) in
-    let q = c .before .before .before .before .before .run-in .ensures ∙ ap (λ (d : Device). run p (c .before .before .before .before .before .before .before .before .before .before .before .before .args .budget) s d (c .before .before .before .before .before .before .before .before .before .before .before .before .args .t)) (c .before .before .before .before .before .before .core-of .ensures) in
+    let q = c .before .before .before .before .before .run-in .ensures .0 ∙ ap (λ (d : Device). run p (c .before .before .before .before .before .before .before .before .before .before .before .before .args .budget) s d (c .before .before .before .before .before .before .before .before .before .before .before .before .args .t)) (c .before .before .before .before .before .before .core-of .ensures) in
     record {
       steps = ap (λ (x : Ran). x .steps) q;
       ended =

@@ -1,17 +1,20 @@
--- `run::run_in` meets its contract. The loop's invariant: what is left of the run, from here, is the run, and where the early checks are
--- known to pass, they do. Assumes nothing.
+-- `run::run_in` meets its contract. The loop's invariant: what is left of the run, from here, is the run; where the early checks are known
+-- to pass, they do; before the first step, the step from here is the step, and after it, it is made. Assumes nothing.
 use Prim.Native.Nat.{ℕ, suc, _+_, _-_, _≤_}
 use mathlib.Core.Bool.{true}
+use mathlib.Core.List.{List}
 use mathlib.Core.Path.{_≡_, refl, sym, ap, _∙_}
 use native.Mathlib.Omega.{arith}
 use denote.Ref.{now}
 use lib.ListN.{length}
-use Rattle.device.specs.Turn.{Result, device}
+use Rattle.device.specs.Turn.{Result, device, result}
 use Rattle.model.proofs.TestLaws.{clash}
 use Rattle.model.proofs.Words.{settled-length}
 use Rattle.model.specs.Calls.{run, runFrom}
-use Rattle.model.specs.Device.{look}
+use Rattle.model.specs.Device.{look, step}
+use Rattle.model.specs.declared.Answer.{Answer}
 use Rattle.model.specs.declared.Checked.{Checked}
+use Rattle.model.specs.declared.Device.{Device}
 use Rattle.model.specs.declared.Ended.{Ended}
 use Rattle.model.specs.declared.Totals.{Totals}
 use Rattle.runtime.proofs.Runs.{refusalOf, ended, run-spent, run-stops, run-goes}
@@ -22,15 +25,20 @@ use borrow.Author.Needs.{needs}
 use Rattle.runtime.proofs.run.run_in.Statement.{statement}
 use Rattle.runtime.proofs.run.run_in.Tie as tie
 
+abbrev leaves : Answer → Device → List ℕ → Result
+leaves a d s = record { answer = a; device = d; store = s }
+
 abbrev Inv-loop : tie.InvT-loop
-Inv-loop p s₀ r₀ budget c₀ t₀ n₀ k₀ s r c t n known =
+Inv-loop p s₀ r₀ budget a₀ c₀ t₀ n₀ k₀ s r a c t n known =
     (n ≤ budget)
     × (length s ≡ length s₀)
     × (runFrom p (budget - n) n s (device c r) t ≡ run p budget s₀ (device c₀ r₀) t₀)
     × (known ≡ true → look p s (device c r) ≡ Checked.Accepted)
+    × (n ≡ 0 → result s (step p s (device c r)) ≡ result s₀ (step p s₀ (device c₀ r₀)))
+    × (n ≡ 1 → leaves a (device c r) s ≡ result s₀ (step p s₀ (device c₀ r₀)))
 
 abbrev μ-loop : tie.MeasureT-loop
-μ-loop p s₀ r₀ budget c₀ t₀ n₀ k₀ s r c t n known = budget - n
+μ-loop p s₀ r₀ budget a₀ c₀ t₀ n₀ k₀ s r a c t n known = budget - n
 
 loop-holds : tie.Need-loop-holds Inv-loop μ-loop
 unfolding run
@@ -41,6 +49,8 @@ loop-holds c =
       refl,
       ap (λ (k : ℕ). runFrom (now (a .p)) k 0 (now (a .s)) (device (a .c) (now (a .r))) (a .t)) e,
       λ known. clash known refl,
+      λ z. refl,
+      λ z. absurd (omega arith),
     )
 
 step-known-requires : tie.Need-step-known-requires Inv-loop μ-loop
@@ -65,10 +75,12 @@ returns c =
     let k = c .before .before .before .before .before .before .before .before .before .before .before .before .before .before .args .budget - n in
     let j = c .before .before .before .before .before .before .before .before .before .before .before .before .before .before .args .budget - (n + 1) in
     let left : k ≡ suc j = omega (arith, c .before .before .before .before .before .before .before .before .before .before .loop-test .taken) in
-    let q = c .before .before .before .before .before .before .before .step-known .ensures in
-    ap (λ (x : Result). ended n (Ended.Refused (c .before .found .given .0 .0)) (x .store) (x .device) t) q
-    ∙ sym (run-stops p k j n s d t left (ap (λ (x : Result). refusalOf (x .answer)) (sym q) ∙ sym (c .before .before .before .refusal .ensures) ∙ c .before .found .given .1))
-    ∙ c .before .before .before .before .before .before .before .before .before .before .before .loop .inv .2
+    let q = c .before .before .before .before .before .before .before .step-known .ensures in (
+      ap (λ (x : Result). ended n (Ended.Refused (c .before .found .given .0 .0)) (x .store) (x .device) t) q
+          ∙ sym (run-stops p k j n s d t left (ap (λ (x : Result). refusalOf (x .answer)) (sym q) ∙ sym (c .before .before .before .refusal .ensures) ∙ c .before .found .given .1))
+          ∙ c .before .before .before .before .before .before .before .before .before .before .before .loop .inv .2,
+      λ one. q ∙ c .before .before .before .before .before .before .before .before .before .before .before .loop .inv .4 (omega (arith, one, c .before .before .before .before .before .before .before .before .before .before .loop-test .taken)),
+    )
 
 enum-told : tie.Need-enum-told Inv-loop μ-loop
 enum-told c = search needs
@@ -105,6 +117,8 @@ loop-again c =
       λ known.
           ap (λ (x : Result). look p (x .store) (x .device)) q
           ∙ look-stays p s d (ap (λ (x : Result). soundAfter (x .answer)) (sym q) ∙ sym (c .sound-after .ensures) ∙ known),
+      λ zero. absurd (omega (arith, zero)),
+      λ one. q ∙ c .before .before .before .before .before .before .before .before .before .before .before .before .loop .inv .4 (omega (arith, one)),
     )
 
 same-length-2 : tie.Need-same-length-2 Inv-loop μ-loop
@@ -115,8 +129,10 @@ returns-2 c =
     let p = now (c .before .before .before .before .args .p) in
     let n = c .before .loop .steps in
     let d = device (c .before .loop .core) (c .before .loop .r) in
-    let e : 0 ≡ c .before .before .before .before .args .budget - n = omega (arith, c .loop-test .left) in
-    sym (run-spent p n (c .before .loop .s) d (c .before .loop .totals)) ∙ ap (λ (k : ℕ). runFrom p k n (c .before .loop .s) d (c .before .loop .totals)) e ∙ c .before .loop .inv .2
+    let e : 0 ≡ c .before .before .before .before .args .budget - n = omega (arith, c .loop-test .left) in (
+      sym (run-spent p n (c .before .loop .s) d (c .before .loop .totals)) ∙ ap (λ (k : ℕ). runFrom p k n (c .before .loop .s) d (c .before .loop .totals)) e ∙ c .before .loop .inv .2,
+      λ one. c .before .loop .inv .5 (omega (arith, one, c .loop-test .left, c .before .loop .inv .0)),
+    )
 
 pub run-in-spec : {M : Type 1} → statement M
 run-in-spec =

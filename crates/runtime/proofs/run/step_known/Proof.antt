@@ -1,43 +1,62 @@
--- `run::step_known` meets its contract: early checks that are known to pass leave the step after them. Assumes nothing.
+-- `run::step_known` meets its contract: the early checks, then the step. Assumes nothing.
 use mathlib.Core.Path.{sym, ap, _∙_}
 use denote.Ref.{now}
 use Rattle.device.proofs.Looked.{looked}
-use Rattle.device.specs.Turn.{device, result}
+use Rattle.device.specs.Turn.{device, after, result}
+use Rattle.device.specs.declared.Turn.{Turn}
 use Rattle.model.specs.Device.{Out}
-use Rattle.runtime.proofs.Cases.{step-goes}
+use Rattle.model.specs.Store.{settled}
+use Rattle.runtime.proofs.Cases.{step-goes, step-refused}
 use borrow.Author.Needs.{needs}
 use Rattle.runtime.proofs.run.step_known.Statement.{statement}
 use Rattle.runtime.proofs.run.step_known.Tie as tie
 
+look-unless-requires : tie.Need-look-unless-requires
+look-unless-requires c κs = c .before .before .before .before .pre
+
+enum-told : tie.Need-enum-told
+enum-told c = search needs
+
 next-step-requires : tie.Need-next-step-requires
-next-step-requires c κs = looked _ _ _ (c .before .before .before .before .before .pre (c .before .before .if1 .taken))
+next-step-requires c κs = looked _ _ _ (sym (c .before .before .before .before .look-unless .ensures) ∙ c .before .before .enum-told .given .1)
+
+enum-known-found : tie.Need-enum-known-found
+enum-known-found c = search needs
+
+refused-requires : tie.Need-refused-requires
+refused-requires c κs = search needs
 
 same-length : tie.Need-same-length
 same-length c = search needs
 
 returns : tie.Need-returns
 returns c =
-    let s = now (c .before .before .before .before .before .before .before .before .args .s) in
-    let p = now (c .before .before .before .before .before .before .before .before .args .p) in
-    let d = device (c .before .before .before .before .before .before .before .before .args .c) (now (c .before .before .before .before .before .before .before .before .args .r)) in
-    c .before .before .next-step .ensures ∙ ap (λ (o : Out). result s o) (sym (step-goes p s d (c .before .before .before .before .before .before .before .before .pre (c .before .before .before .before .before .if1 .taken))))
-
-step-in-requires : tie.Need-step-in-requires
-step-in-requires c κs = search needs
+    let s = now (c .before .before .before .before .before .before .before .before .before .before .before .before .args .s) in
+    let p = now (c .before .before .before .before .before .before .before .before .before .before .before .before .args .p) in
+    let d = device (c .before .before .before .before .before .before .before .before .before .before .before .before .args .c) (now (c .before .before .before .before .before .before .before .before .before .before .before .before .args .r)) in
+    c .before .before .next-step .ensures ∙ ap (λ (o : Out). result s o) (sym (step-goes p s d (sym (c .before .before .before .before .before .before .before .look-unless .ensures) ∙ c .before .before .before .before .before .enum-told .given .1)))
 
 same-length-2 : tie.Need-same-length-2
 same-length-2 c = search needs
 
 returns-2 : tie.Need-returns-2
-returns-2 c = c .before .before .step-in .ensures
+unfolding settled
+returns-2 c =
+    let s = now (c .before .before .before .before .before .before .before .before .before .args .s) in
+    let p = now (c .before .before .before .before .before .before .before .before .before .args .p) in
+    let d = device (c .before .before .before .before .before .before .before .before .before .args .c) (now (c .before .before .before .before .before .before .before .before .before .args .r)) in
+    ap (λ (t : Turn). after t (now (c .before .before .before .before .before .before .before .before .before .args .r)) s) (c .refused .ensures) ∙ ap (λ (o : Out). result s o) (sym (step-refused p s d (sym (c .before .before .before .before .look-unless .ensures) ∙ c .before .before .found .given .1)))
 
 pub step-known-spec : {M : Type 1} → statement M
 step-known-spec =
     tie.close
     (tie.spec
+    look-unless-requires
+    enum-told
     next-step-requires
+    enum-known-found
+    refused-requires
     same-length
     returns
-    step-in-requires
     same-length-2
     returns-2)
