@@ -14,7 +14,7 @@ use Rattle.model.proofs.Recovery.{recovers, waiting-is}
 use Rattle.model.proofs.SerialLaws.{runs-body, serial-balance}
 use Rattle.model.proofs.StoreLaws.{viewAt}
 use Rattle.model.specs.Calls.{Call, Step, Line, call, history, afterCalls, isAccept}
-use Rattle.model.specs.Claims.{isCompletion, countBy, Runs, Demand3}
+use Rattle.model.specs.Demand3.{isCompletion, Runs, AsSerialRun, Demand3}
 use Rattle.model.specs.Device.{off}
 use Rattle.model.specs.Program.{memoryWords}
 use Rattle.model.specs.Serial.{Serial, tell, andThen, serialFrom, serial, serialStart, runBody}
@@ -44,7 +44,7 @@ calls-kept p sound l q (c ∷ cs) s d z k i =
       inv = rw e at (rest .inv);
     }
 
-from-formatted : (p : List ℕ) → Sound p → (l q : ℕ) (cs : List Call) → InvWords p l q (formatted p l q) off (serialStart p) 0 → Demand3 p (formatted p l q) cs
+from-formatted : (p : List ℕ) → Sound p → (l q : ℕ) (cs : List Call) → InvWords p l q (formatted p l q) off (serialStart p) 0 → AsSerialRun p (formatted p l q) cs
 unfolding serial serialStart tell
 from-formatted p sound l q cs i =
     let a = calls-kept p sound l q cs (formatted p l q) off (serialStart p) 0 i in
@@ -67,7 +67,7 @@ from-formatted p sound l q cs i =
           runs-body (suc n) p (a .state) (next Step .after) b t;
     }
 
-pub demand3 : (p : List ℕ) (l q : ℕ) (s : List ℕ) → formatCheck p l q s ≡ Checked.Accepted → (cs : List Call) → Demand3 p (format p l q s) cs
+pub demand3 : Demand3
 demand3 p l q s e cs =
     let f = format-passed p l q s e in
     rw (f .store-is) (from-formatted p (f .sound) l q cs (fresh-words p (f .sound) l q (f .sizes)))

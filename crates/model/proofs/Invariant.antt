@@ -5,6 +5,7 @@ use mathlib.Core.Path.{_≡_, refl, sym, ap, _∙_}
 use mathlib.Core.Logic.{_⊎_, inl, inr, _≢_}
 use mathlib.Core.Bool.{Bool, true, false, not}
 use mathlib.Core.List.{List, [], _∷_, _++_}
+use mathlib.Core.Option.{Option, some}
 use lib.ListN.{length, set, replicate}
 use Rattle.model.proofs.LogLaws.{addr, val, overlay, Distinct}
 use Rattle.model.proofs.RingLaws.{Between}
@@ -38,13 +39,13 @@ SoFar queue t e x Next.Event = Unit {0}
 SoFar queue t e x Next.Data = word queue (2 * t) ≡ e
 SoFar queue t e x Next.Tail = (word queue (2 * t) ≡ e) × (word queue (2 * t + 1) ≡ x)
 
-pub record AtWork (p : List ℕ) (queue : List ℕ) (q h t : ℕ) (posted : Record) (n : Next) (e x : ℕ) : Type 0 where
+pub record AtWork (p : List ℕ) (queue : List ℕ) (q h t : ℕ) (posted : Option Record) (n : Next) (e x : ℕ) : Type 0 where
   pub event-in : e < events p
   pub room : after q t ≢ h
-  pub posted-is : posted ≡ record { event = e; datum = x }
+  pub posted-is : posted ≡ some (record { event = e; datum = x })
   pub so-far : SoFar queue t e x n
 
-abbrev pub Handles : List ℕ → List ℕ → ℕ → ℕ → ℕ → Record → Handler → Type 0
+abbrev pub Handles : List ℕ → List ℕ → ℕ → ℕ → ℕ → Option Record → Handler → Type 0
 Handles p queue q h t posted Resting = Unit {0}
 Handles p queue q h t posted (Storing n e x) = AtWork p queue q h t posted n e x
 

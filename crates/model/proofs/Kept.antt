@@ -16,11 +16,11 @@ use Rattle.model.proofs.RingLaws.{Between, after-le, after-injective, d
 use Rattle.model.proofs.StoreLaws.{apply, Inside}
 use Rattle.model.proofs.TestLaws.{pick-case, pick-true, pick-false, clash, same-or, below-or, must-true}
 use Rattle.model.specs.Answer.{refusal}
-use Rattle.model.specs.Claims.{Expected}
+use Rattle.model.specs.Demand3.{Expected}
 use Rattle.model.specs.Calls.{Call, Boot, Step, Cut, Post}
 use Rattle.model.specs.Device.{Out, out, refuse, judged, off, fresh, handled, moved, handlerStep, storing, taskLastStores, eventLastStores, lastStores, pairSound, copyStep}
 use Rattle.model.specs.Program.{word, tasks, events, memoryWords, instructions, transaction, number, effectAt, newOpen}
-use Rattle.model.specs.Serial.{Serial, walk, tell, accept, afterDone}
+use Rattle.model.specs.Serial.{Serial, walk, tell, withRecord, accept, afterDone}
 use Rattle.model.specs.Store.{Store, address, value, logAt, Record, after, firstWaiting, slot, recordsFrom, distance, Word, Phase, Task, Open, Count, Pending, PendingOpen, Head, Tail, Memory, Address, Value, Event, Datum, Write, none, to}
 use Rattle.model.specs.Test.{pick}
 use Rattle.model.specs.Types.{Answer, Body, Checked, Device, Effect, Free, Half, Handler, Next, Place, Refusal, Resting, Run, Storing}
@@ -126,14 +126,14 @@ requeued v queue t =
     }
 
 -- other records and another latest post
-abbrev pub queued : Serial → List Record → Record → Serial
+abbrev pub queued : Serial → List Record → Option Record → Serial
 queued z rs x = record { memory = z .memory; task = z .task; openNumber = z .openNumber; records = rs; posted = x }
 
 module _ (p : List ℕ) (v : Store) (d : Device) (z : Serial) (k : ℕ) (queue : List ℕ) (t : ℕ) where
   abbrev pub MineStays : Type 0
   MineStays = (b : Body) (x : ℕ) → Mine (v .task) (v .openNumber) (v .head) (v .tail) (v .queue) x b → Mine (v .task) (v .openNumber) (v .head) t queue x b
 
-  pub placed-requeued : (h : Handler) (rs : List Record) (y : Record) → MineStays → (v .head ≢ v .tail → v .head ≢ t) → (x : Place)
+  pub placed-requeued : (h : Handler) (rs : List Record) (y : Option Record) → MineStays → (v .head ≢ v .tail → v .head ≢ t) → (x : Place)
       → Placed p v d z k x → Placed p (requeued v queue t) (handled d h) (queued z rs y) (suc k) x
   unfolding handled
   placed-requeued h rs y f g (Free c) (inl s) = inl s
@@ -201,12 +201,13 @@ module _ (p : List ℕ) (v : Store) (lengths : Lengths p v) (d : Device) (on : d
 
 module _ (p : List ℕ) (v : Store) (lengths : Lengths p v) (d : Device) (on : d .on ≡ true) (z : Serial) (k : ℕ) (i : Inv p v d z k) where
   tail-stored : (e x : ℕ) → AtWork p (v .queue) (v .records) (v .head) (v .tail) (z .posted) Next.Tail e x
-      → Inv p (requeued v (v .queue) (after (v .records) (v .tail))) (handled d Resting) (accept z) (suc k)
-  unfolding handled firstWaiting accept
+      → Inv p (requeued v (v .queue) (after (v .records) (v .tail))) (handled d Resting) (withRecord z (record { event = e; datum = x })) (suc k)
+  unfolding handled firstWaiting withRecord
   tail-stored e x a =
       let q = i .waits in
       let room = room-first p v d z k i (a .room) in
-      let slot-is : slot (v .queue) (v .tail) ≡ z .posted = unfold slot in (λ s. record { event = a .so-far .0 s; datum = a .so-far .1 s }) ∙ sym (a .posted-is) in
+      let new : Record = record { event = e; datum = x } in
+      let slot-is : slot (v .queue) (v .tail) ≡ new = unfold slot in λ s. record { event = a .so-far .0 s; datum = a .so-far .1 s } in
       record {
         tasked = i .tasked;
         head-in = i .head-in;
@@ -222,7 +223,7 @@ module _ (p : List ℕ) (v : Store) (lengths : Lengths p v) (d : Device) (on : d
         handles = tt;
         off-is = λ f. clash on f;
         count-in = i .count-in;
-        placed = placed-requeued p v d z k (v .queue) (after (v .records) (v .tail)) Resting (z .records ++ z .posted ∷ []) (z .posted) mine (λ _ f. a .room (sym f)) (d .place) (i .placed);
+        placed = placed-requeued p v d z k (v .queue) (after (v .records) (v .tail)) Resting (z .records ++ new ∷ []) (z .posted) mine (λ _ f. a .room (sym f)) (d .place) (i .placed);
       }
     where
       mine : MineStays p v d z k (v .queue) (after (v .records) (v .tail))
@@ -230,7 +231,7 @@ module _ (p : List ℕ) (v : Store) (lengths : Lengths p v) (d : Device) (on : d
       mine (Body.Event n) y (o, (ne, m)) = (o, (λ f. a .room (sym f), m))
 
   pub handler-kept : (n : Next) (e x : ℕ) → AtWork p (v .queue) (v .records) (v .head) (v .tail) (z .posted) n e x → Kept p v z k Step (handlerStep v d n e x)
-  unfolding handlerStep apply tell
+  unfolding handlerStep apply tell accept
   handler-kept Next.Event e x a =
       record {
         inside = i .waits .tail-in;
@@ -264,7 +265,14 @@ module _ (p : List ℕ) (v : Store) (lengths : Lengths p v) (d : Device) (on : d
               );
             });
       }
-  handler-kept Next.Tail e x a = record { inside = tt; after = accept z; tells = λ fuel l. refl; expected = tt; inv = tail-stored e x a }
+  handler-kept Next.Tail e x a =
+      record {
+        inside = tt;
+        after = withRecord z (record { event = e; datum = x });
+        tells = λ fuel l. ap (accept z) (a .posted-is);
+        expected = tt;
+        inv = tail-stored e x a;
+      }
 
 -- ---- a commit's stores in phases 1 and 2
 

@@ -21,7 +21,7 @@ use Rattle.model.proofs.StoreLaws.{apply, Inside}
 use Rattle.model.proofs.TestLaws.{pick-case, pick-true, pick-false, clash, same-or, below-or, and-true, and-left, and-right, must-true, then-passed}
 use Rattle.model.specs.Answer.{refusal}
 use Rattle.model.specs.Calls.{Call, Step}
-use Rattle.model.specs.Claims.{isIn, mayMeet}
+use Rattle.model.specs.Demand3.{isIn, mayMeet}
 use Rattle.model.specs.Device.{Out, out, refuse, judged, fresh, moved, begun, storing, taskStores, eventStores, recordSound, chooseStep, shown, saveStep, act, saveRest}
 use Rattle.model.specs.Program.{word, tasks, events, memoryWords, instructions, transaction, number, effectAt, newOpen}
 use Rattle.model.specs.Serial.{Serial, Walked, went, served, lost, advance, walk, walkBody, afterTask, afterEvent, serveOldest, runBody, tell}

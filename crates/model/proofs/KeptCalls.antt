@@ -137,6 +137,6 @@ module _ (p : List ℕ) (v : Store) (d : Device) (z : Serial) (k : ℕ) (i : Inv
               handles = record { event-in = below; room = room; posted-is = refl; so-far = tt };
               off-is = λ f. clash on f;
               count-in = i .count-in;
-              placed = placed-requeued p v d z k (v .queue) (v .tail) (Storing Next.Event e x) (z .records) (record { event = e; datum = x }) (λ b y m. m) (λ ne. ne) (d .place) (i .placed);
+              placed = placed-requeued p v d z k (v .queue) (v .tail) (Storing Next.Event e x) (z .records) (some (record { event = e; datum = x })) (λ b y m. m) (λ ne. ne) (d .place) (i .placed);
             };
       }

@@ -19,7 +19,7 @@ use Rattle.model.proofs.TestLaws.{pick-false, clash, must-true, then-sk
 use Rattle.model.specs.Answer.{refusal}
 use Rattle.model.specs.Calls.{Call, Boot, Step, Cut, Post, call}
 use Rattle.model.specs.Check.{contentsRule, check}
-use Rattle.model.specs.Claims.{isIn, mayMeet, Expected}
+use Rattle.model.specs.Demand3.{isIn, mayMeet, Expected}
 use Rattle.model.specs.Control.{obeyAll, rules, earlyRules}
 use Rattle.model.specs.Device.{Out, out, refuse, judged, fresh, off, handled, atRest, zeros, isFresh, deviceSound, look, bootCheck, boot, cut, postCheck, post, nextStep, step}
 use Rattle.model.specs.Program.{events, memoryWords}

@@ -15,6 +15,8 @@ pub mod Recovery
 pub mod Demand3
 pub mod Early
 pub mod LookStays
+pub mod CallLaws
+pub mod Observed
 pub mod Refused
 pub mod Words
 pub mod Numbers

@@ -17,7 +17,7 @@ use Rattle.model.proofs.ProgramLaws.{Sound}
 use Rattle.model.proofs.StoreLaws.{viewAt}
 use Rattle.model.proofs.TestLaws.{pick-true, pick-false, must-true}
 use Rattle.model.specs.Calls.{Call, Boot, Step, Cut, unlessRefused, Recovery, recovered, refused, unfinished, finish, recovery}
-use Rattle.model.specs.Claims.{Left, recoverySteps, Recovers}
+use Rattle.model.specs.Demand3.{Left, recoverySteps, Recovers}
 use Rattle.model.specs.Device.{Out, out, judged, fresh, off, look, bootCheck, boot, cut, copyStep, placeStep, nextStep, step}
 use Rattle.model.specs.Program.{memoryWords}
 use Rattle.model.specs.Serial.{Serial, tell}

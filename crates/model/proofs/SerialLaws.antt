@@ -1,10 +1,11 @@
--- Laws of the serial run (specs/Serial.antt): what it needs at a body, the balance of records, and that fuel doesn't change it.
+-- Laws of the serial run (specs/Serial.antt): what it needs at a body, the balance of records, the tasks that follow each other, and
+-- that fuel doesn't change it.
 -- Assumes nothing.
 use Prim.Native.Nat.{ℕ, zero, suc, _+_, _-_, _*_, _≤_, _<_}
 use mathlib.Core.Path.{_≡_, refl, sym, ap, _∙_}
 use mathlib.Core.Logic.{_⊎_, inl, inr}
 use mathlib.Core.Bool.{Bool, true, false}
-use mathlib.Core.List.{List, [], _∷_, _++_}
+use mathlib.Core.List.{List, [], _∷_, _++_, append-assoc}
 use mathlib.Core.Option.{Option, none, some}
 use native.Mathlib.Nat.{not-suc-le-zero, le-of-suc-le-suc}
 use native.Mathlib.Omega.{arith}
@@ -12,10 +13,10 @@ use borrow.Author.Tests.{eqb-true}
 use lib.Dec.{ltb, eqb}
 use lib.ListN.{length, length-append, set, replicate}
 use Rattle.model.proofs.TestLaws.{pick-case, pick-true, pick-false, clash, below-or, and-left, and-right}
-use Rattle.model.specs.Calls.{Call, Boot, Step, Cut, Post, Line, isAccept}
-use Rattle.model.specs.Claims.{isCompletion, countBy, RunsTask, RunsEvent, Runs}
+use Rattle.model.specs.Calls.{Call, Boot, Step, Cut, Post, Line, countBy, isAccept}
+use Rattle.model.specs.Demand3.{isCompletion, RunsTask, RunsEvent, Runs, SerialDetermined, committedTask, committedTasks, namedAtEnd, namedBy, fromState, namedTasks, TasksFollow}
 use Rattle.model.specs.Program.{word, memoryWords, instructions, number, effectAt}
-use Rattle.model.specs.Serial.{Serial, Walked, went, served, lost, advance, walk, walkBody, afterTask, afterEvent, serveOldest, runBody, afterDone, accept, tell, andThen, serialFrom, serial, serialStart}
+use Rattle.model.specs.Serial.{Serial, Walked, went, served, lost, advance, walk, walkBody, afterTask, afterEvent, serveOldest, runBody, afterDone, withRecord, accept, tell, andThen, serialFrom, serial, serialStart}
 use Rattle.model.specs.Store.{Record}
 use Rattle.model.specs.Test.{pick, _and_}
 use Rattle.model.specs.Types.{Answer, Body, Effect}
@@ -104,17 +105,22 @@ body-balance fuel p z y (Body.Event e) f = by-oldest (z .records) f
         (event-records z y rest (walkBody fuel p (Body.Event e) (x .datum) (z .memory))
         (chosen (eqb (x .event) e and eqb (z .openNumber) 0) _ y g .1)))
 
+accept-balance : (z y : Serial) (x : Option Record) → accept z x ≡ some y → suc (length (z .records)) ≡ length (y .records)
+unfolding accept withRecord
+accept-balance z y none e = not-some e
+accept-balance z y (some x) e =
+    let q : length (z .records ++ x ∷ []) ≡ length (y .records) = ap (λ (x : Serial). length (x .records)) (some-same e) in
+    omega (arith, length-append (z .records) (x ∷ []))
+
 tell-balance : (fuel : ℕ) (p : List ℕ) (z y : Serial) (c : Call) (a : Answer) → tell fuel p z c a ≡ some y
     → added (isAccept a) (length (z .records)) ≡ added (isCompletion a) (length (y .records))
-unfolding tell added isAccept isCompletion pick accept
+unfolding tell added isAccept isCompletion pick
 tell-balance fuel p z y c Answer.Done e = ap length (sym (done-records z c) ∙ ap (λ (x : Serial). x .records) (some-same e))
 tell-balance fuel p z y c (Answer.Chosen b) e = ap (λ (x : Serial). length (x .records)) (some-same e)
 tell-balance fuel p z y c Answer.Worked e = ap (λ (x : Serial). length (x .records)) (some-same e)
 tell-balance fuel p z y c Answer.Stored e = ap (λ (x : Serial). length (x .records)) (some-same e)
 tell-balance fuel p z y c (Answer.Committed b) e = body-balance fuel p z y b e
-tell-balance fuel p z y c Answer.Accepted e =
-    let q : length (z .records ++ z .posted ∷ []) ≡ length (y .records) = ap (λ (x : Serial). length (x .records)) (some-same e) in
-    omega (arith, length-append (z .records) (z .posted ∷ []))
+tell-balance fuel p z y c Answer.Accepted e = accept-balance z y (z .posted) e
 tell-balance fuel p z y c (Answer.Refused r) e = ap (λ (x : Serial). length (x .records)) (some-same e)
 
 then-none : (f : Serial → Option Serial) → andThen none f ≡ none
@@ -151,6 +157,70 @@ serial-balance fuel p z y (x ∷ xs) e =
     let (w, q, f) = line-some fuel p z y x xs e in
     join (isAccept (x .answered)) (isCompletion (x .answered)) (countBy isAccept xs) (countBy isCompletion xs) (length (z .records))
     (length (w .records)) (length (y .records)) (tell-balance fuel p z w (x .called) (x .answered) q) (serial-balance fuel p w y xs f)
+
+-- ---- each task is the one that the task before it named
+
+done-task : (z : Serial) (c : Call) → afterDone z c .task ≡ z .task
+unfolding afterDone
+done-task z Boot = refl
+done-task z Step = refl
+done-task z Cut = refl
+done-task z (Post e x) = refl
+
+accept-task : (z y : Serial) (x : Option Record) → accept z x ≡ some y → y .task ≡ z .task
+unfolding accept withRecord
+accept-task z y none e = not-some e
+accept-task z y (some x) e = ap (λ (u : Serial). u .task) (sym (some-same e))
+
+event-task : (z y : Serial) (rest : List Record) (w : Walked) → afterEvent z rest w ≡ some y → y .task ≡ z .task
+unfolding afterEvent
+event-task z y rest (went k m) e = not-some e
+event-task z y rest (served m) e = ap (λ (u : Serial). u .task) (sym (some-same e))
+event-task z y rest lost e = not-some e
+
+oldest-task : (fuel : ℕ) (p : List ℕ) (z y : Serial) (e : ℕ) (rs : List Record) → serveOldest fuel p z e rs ≡ some y → y .task ≡ z .task
+unfolding serveOldest
+oldest-task fuel p z y e [] f = not-some f
+oldest-task fuel p z y e (x ∷ rest) f =
+    event-task z y rest (walkBody fuel p (Body.Event e) (x .datum) (z .memory)) (chosen (eqb (x .event) e and eqb (z .openNumber) 0) _ y f .1)
+
+-- the task that a task's run names is the next
+ended-task : (p : List ℕ) (z y : Serial) (w : Walked) → afterTask p z w ≡ some y → namedAtEnd w ≡ y .task ∷ []
+unfolding afterTask namedAtEnd
+ended-task p z y (went k m) e = ap (λ (u : Serial). u .task ∷ []) (some-same e)
+ended-task p z y (served m) e = not-some e
+ended-task p z y lost e = not-some e
+
+line-tasks : (fuel : ℕ) (p : List ℕ) (z y : Serial) (c : Call) (a : Answer) → tell fuel p z c a ≡ some y → (ts : List ℕ)
+    → committedTask a ++ (y .task ∷ ts) ≡ z .task ∷ (namedBy fuel p (z .memory) (committedTask a) ++ ts)
+unfolding tell committedTask namedBy runBody
+line-tasks fuel p z y c Answer.Done e ts = ap (λ (t : ℕ). t ∷ ts) (ap (λ (u : Serial). u .task) (sym (some-same e)) ∙ done-task z c)
+line-tasks fuel p z y c (Answer.Chosen b) e ts = ap (λ (u : Serial). u .task ∷ ts) (sym (some-same e))
+line-tasks fuel p z y c Answer.Worked e ts = ap (λ (u : Serial). u .task ∷ ts) (sym (some-same e))
+line-tasks fuel p z y c Answer.Stored e ts = ap (λ (u : Serial). u .task ∷ ts) (sym (some-same e))
+line-tasks fuel p z y c (Answer.Committed (Body.Task t)) e ts =
+    let w = walkBody fuel p (Body.Task t) 0 (z .memory) in
+    let h = chosen (eqb t (z .task)) (afterTask p z w) y e in
+    let current : t ≡ z .task = eqb-true _ _ (h .0) in
+    rw (ended-task p z y w (h .1), current)
+line-tasks fuel p z y c (Answer.Committed (Body.Event n)) e ts = ap (λ (t : ℕ). t ∷ ts) (oldest-task fuel p z y n (z .records) e)
+line-tasks fuel p z y c Answer.Accepted e ts = ap (λ (t : ℕ). t ∷ ts) (accept-task z y (z .posted) e)
+line-tasks fuel p z y c (Answer.Refused r) e ts = ap (λ (u : Serial). u .task ∷ ts) (sym (some-same e))
+
+follow-from : (fuel : ℕ) (p : List ℕ) (xs : List Line) (z y : Serial) → serialFrom fuel p z xs ≡ some y
+    → committedTasks xs ++ (y .task ∷ []) ≡ z .task ∷ namedTasks fuel p z xs
+unfolding serialFrom committedTasks namedTasks fromState
+follow-from fuel p [] z y e = ap (λ (u : Serial). u .task ∷ []) (sym (some-same e))
+follow-from fuel p (x ∷ xs) z y e =
+    let (w, q, f) = line-some fuel p z y x xs e in
+    rw q
+    (append-assoc (committedTask (x .answered)) (committedTasks xs) (y .task ∷ [])
+    ∙ ap (λ (ts : List ℕ). committedTask (x .answered) ++ ts) (follow-from fuel p xs w y f)
+    ∙ line-tasks fuel p z w (x .called) (x .answered) q (namedTasks fuel p w xs))
+
+pub tasks-follow : TasksFollow
+unfolding serial serialStart
+tasks-follow fuel p xs z e = follow-from fuel p xs (serialStart p) z e
 
 -- ---- fuel: with more of it a body's run is the same, unless it was lost
 
@@ -235,8 +305,7 @@ serial-more f g l p z y (x ∷ xs) e =
     ∙ then-some w (λ u. serialFrom g p u xs)
     ∙ serial-more f g l p w y xs h
 
--- The serial run determines its state: whatever the fuel, if the run comes to an end, it comes to the same.
-pub serial-determined : (f g : ℕ) (p : List ℕ) (y w : Serial) (xs : List Line) → serial f p xs ≡ some y → serial g p xs ≡ some w → y ≡ w
+pub serial-determined : SerialDetermined
 unfolding serial
 serial-determined f g p y w xs e h =
     below-or f g (λ l. some-same (sym (serial-more f g (omega arith) p (serialStart p) y xs e) ∙ h))

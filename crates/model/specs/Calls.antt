@@ -42,6 +42,15 @@ afterCalls p s d (c ∷ cs) =
     let o = call p s d c in
     afterCalls p (settled s (o .write)) (o .device) cs
 
+unfoldable pub steps : ℕ → List Call
+steps zero = []
+steps (suc n) = Step ∷ steps n
+
+-- how many answers are so
+unfoldable pub countBy : (Answer → Bool) → List Line → ℕ
+countBy f [] = 0
+countBy f (x ∷ xs) = pick (f (x .answered)) (suc (countBy f xs)) (countBy f xs)
+
 -- what comes of a refusal, or what comes otherwise
 unfoldable pub unlessRefused {ℓ} : {A : Type ℓ} → Answer → (Refusal → A) → A → A
 unlessRefused Answer.Done f x = x
@@ -51,6 +60,9 @@ unlessRefused Answer.Stored f x = x
 unlessRefused (Answer.Committed b) f x = x
 unlessRefused Answer.Accepted f x = x
 unlessRefused (Answer.Refused r) f x = f r
+
+unfoldable pub isRefusal : Answer → Bool
+isRefusal a = unlessRefused a (λ f. true) false
 
 -- ---- "The host's totals (bodies committed, events accepted, stores made; 32 bits, staying at the largest value)"
 
@@ -83,6 +95,9 @@ unfoldable pub isStore : Write → Bool
 isStore none = false
 isStore (to w x) = true
 
+abbrev pub noTotals : Totals
+noTotals = record { committed = 0; accepted = 0; stores = 0 }
+
 -- the totals after a step
 unfoldable pub counted : Totals → Out → Totals
 counted t o =
@@ -91,6 +106,20 @@ counted t o =
       accepted = moreIf (isAccept (o .answer)) (t .accepted);
       stores = moreIf (isStore (o .write)) (t .stores);
     }
+
+-- the totals after calls, and how many of these made a store
+unfoldable pub totalsAfter : List ℕ → List ℕ → Device → List Call → Totals → Totals
+totalsAfter p s d [] t = t
+totalsAfter p s d (c ∷ cs) t =
+    let o = call p s d c in
+    totalsAfter p (settled s (o .write)) (o .device) cs (counted t o)
+
+unfoldable pub storesMade : List ℕ → List ℕ → Device → List Call → ℕ
+storesMade p s d [] = 0
+storesMade p s d (c ∷ cs) =
+    let o = call p s d c in
+    let rest = storesMade p (settled s (o .write)) (o .device) cs in
+    pick (isStore (o .write)) (suc rest) rest
 
 -- ---- "Run repeats steps up to a budget (32 bits) and returns the count of steps made, with spent or the refusal; a budget of 0
 -- looks at nothing and returns spent."

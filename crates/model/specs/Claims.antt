@@ -1,112 +1,18 @@
--- What is claimed of the definitions, as statements; proofs/ proves each. docs/CLAIMS.md says which sentence is which.
-use Prim.Native.Nat.{ℕ, zero, suc, _+_, _^_, _≤_, _<_}
+-- What is claimed of the definitions for all words and all device states, as statements; proofs/ proves each. Demand3.antt has what is claimed
+-- of a list of calls on a fresh store. docs/CLAIMS.md says which sentence is which.
+use Prim.Native.Nat.{ℕ, zero, suc, _+_, _-_, _^_, _<_, min}
 use mathlib.Core.Path.{_≡_}
+use mathlib.Core.Logic.{_≢_}
 use mathlib.Core.Bool.{Bool, true, false}
 use mathlib.Core.List.{List, [], _∷_}
-use mathlib.Core.Option.{Option, some}
-use lib.Dec.{eqb}
 use lib.ListN.{length}
-use Rattle.model.specs.Answer.{refusal}
-use Rattle.model.specs.Calls.{Call, Boot, Step, Cut, Post, Line, Now, call, history, afterCalls, isAccept, counted, Recovery, recovered, recovery}
+use Rattle.model.specs.Calls.{Call, Boot, Step, Cut, Post, call, history, afterCalls, steps, countBy, isRefusal, isCommit, isAccept, noTotals, counted, totalsAfter, storesMade, Ran, run, Recovery, recovered, recovery}
 use Rattle.model.specs.Control.{rules, blames}
 use Rattle.model.specs.Device.{off, look, step}
 use Rattle.model.specs.Program.{word}
-use Rattle.model.specs.Serial.{Serial, Walked, went, served, walkBody, serial}
-use Rattle.model.specs.Store.{Store, Record, view, waiting, settled}
-use Rattle.model.specs.Test.{pick, _or_}
-use Rattle.model.specs.Types.{Answer, Body, Checked, Device, Free, Half, Handler, Place, Refusal, Resting, Run, Storing, Totals}
-
--- ---- The refusals that a list of calls on a fresh store can meet
-
-unfoldable pub isIn : ℕ → List ℕ → Bool
-isIn n [] = false
-isIn n (x ∷ xs) = eqb n x or isIn n xs
-
-unfoldable pub mayMeet : Call → List ℕ
-mayMeet Boot = 26 ∷ []
-mayMeet Step = 22 ∷ 23 ∷ 24 ∷ []
-mayMeet (Post e x) = 8 ∷ 20 ∷ 21 ∷ 22 ∷ []
-mayMeet Cut = []
-
-abbrev pub Expected : Call → Answer → Type 0
-Expected c Answer.Done = Unit {0}
-Expected c (Answer.Chosen b) = Unit {0}
-Expected c Answer.Worked = Unit {0}
-Expected c Answer.Stored = Unit {0}
-Expected c (Answer.Committed b) = Unit {0}
-Expected c Answer.Accepted = Unit {0}
-Expected c (Answer.Refused r) = isIn (refusal r .number) (mayMeet c) ≡ true
-
--- ---- Demand 3
-
--- "the memory, current task, open number and waiting events that an uncut recovery leaves are exactly those of document 01's
--- serial run"
-pub record Left (v : Store) (z : Serial) : Type 0 where
-  pub memory : v .memory ≡ z .memory
-  pub task : v .task ≡ z .task
-  pub openNumber : v .openNumber ≡ z .openNumber
-  pub records : waiting v ≡ z .records
-
--- "Uncut recovery takes n + 3 steps from phase 1 and n + 2 from phase 2"
-unfoldable pub recoverySteps : Store → ℕ
-recoverySteps v = pick (eqb (v .phase) 1) (v .count + 3) (pick (eqb (v .phase) 2) (v .count + 2) 0)
-
--- with any number of steps allowed that suffices, recovery isn't refused, ends after just so many, and leaves what z says
-pub record Recovers (p s : List ℕ) (z : Serial) (k : ℕ) : Type 0 where
-  pub store : List ℕ
-  pub ends : recovery p k s ≡ recovered (recoverySteps (view s)) store
-  pub left : Left (view store) z
-
--- "each body run is the answered one and ends, each address below M; at an event a record is there and the open number is 0":
--- what the serial run in state z finds when body b is to be run (a body whose address isn't below M doesn't end)
-pub record RunsTask (p : List ℕ) (z : Serial) (fuel t : ℕ) : Type 0 where
-  pub current : t ≡ z .task
-  pub next : ℕ
-  pub memory : List ℕ
-  pub ends : walkBody fuel p (Body.Task t) 0 (z .memory) ≡ went next memory
-
-pub record RunsEvent (p : List ℕ) (z : Serial) (fuel e : ℕ) : Type 0 where
-  pub oldest : Record
-  pub rest : List Record
-  pub there : z .records ≡ oldest ∷ rest
-  pub named : oldest .event ≡ e
-  pub closed : z .openNumber ≡ 0
-  pub memory : List ℕ
-  pub ends : walkBody fuel p (Body.Event e) (oldest .datum) (z .memory) ≡ served memory
-
-abbrev pub Runs : List ℕ → Serial → ℕ → Body → Type 0
-Runs p z fuel (Body.Task t) = RunsTask p z fuel t
-Runs p z fuel (Body.Event e) = RunsEvent p z fuel e
-
--- "Accepted is the number of records added so far, completed that of events committed."
-unfoldable pub isCompletion : Answer → Bool
-isCompletion Answer.Done = false
-isCompletion (Answer.Chosen b) = false
-isCompletion Answer.Worked = false
-isCompletion Answer.Stored = false
-isCompletion (Answer.Committed (Body.Task t)) = false
-isCompletion (Answer.Committed (Body.Event e)) = true
-isCompletion Answer.Accepted = false
-isCompletion (Answer.Refused r) = false
-
-unfoldable pub countBy : (Answer → Bool) → List Line → ℕ
-countBy f [] = 0
-countBy f (x ∷ xs) = pick (f (x .answered)) (suc (countBy f xs)) (countBy f xs)
-
--- After any list of calls on a store s, "the device off at first", with the serial state z of the calls and their answers:
-pub record Demand3 (p s : List ℕ) (cs : List Call) : Type 0 where
-  pub state : Serial
-  pub ran : (fuel : ℕ) → length cs ≤ fuel → serial fuel p (history p s off cs) ≡ some state
-  pub recovers : (k : ℕ) → recoverySteps (view (afterCalls p s off cs .store)) ≤ k → Recovers p (afterCalls p s off cs .store) state k
-  -- "Its records are the store's waiting ones (event, data), in order, before recovery too."
-  pub waits : waiting (view (afterCalls p s off cs .store)) ≡ state .records
-  pub balance : countBy isAccept (history p s off cs) ≡ countBy isCompletion (history p s off cs) + length (state .records)
-  -- whichever call is next: the refusals that it may meet, and the body that it commits
-  pub refusals : (c : Call) → Expected c (call p (afterCalls p s off cs .store) (afterCalls p s off cs .device) c .answer)
-  pub bodies : (b : Body) → call p (afterCalls p s off cs .store) (afterCalls p s off cs .device) Step .answer ≡ Answer.Committed b
-      → Runs p state (suc (length cs)) b
-
--- ---- For all words and all device states
+use Rattle.model.specs.Store.{view, settled}
+use Rattle.model.specs.Test.{pick}
+use Rattle.model.specs.Types.{Answer, Body, Checked, Device, Ended, Free, Half, Handler, Place, Refusal, Resting, Run, Storing, Totals}
 
 -- "A refusal .. changes no word, state or total."
 pub record Unchanged (p s : List ℕ) (d : Device) (c : Call) (t : Totals) : Type 0 where
@@ -181,6 +87,44 @@ RefusalStays =
 abbrev pub PlaceIsBroken : Type 0
 PlaceIsBroken =
     (p s : List ℕ) (d : Device) (c : Call) (w : ℕ) → call p s d c .answer ≡ Answer.Refused (Refusal.Control w) → blames (rules p (view s)) w ≡ true
+
+-- ---- Run, totals and recovery are what the calls one by one are
+
+-- how a run of so many steps ended: all of its budget, or less and a step that is refused
+abbrev pub EndedSo : List ℕ → ℕ → Ran → Ended → Type 0
+EndedSo p budget r Ended.Spent = r .steps ≡ budget
+EndedSo p budget r (Ended.Refused f) = (r .steps < budget) × (step p (r .store) (r .device) .answer ≡ Answer.Refused f)
+
+-- a run r from s, d and t is its steps, none of them refused
+pub record IsSteps (p : List ℕ) (budget : ℕ) (s : List ℕ) (d : Device) (t : Totals) (r : Ran) : Type 0 where
+  pub store : r .store ≡ afterCalls p s d (steps (r .steps)) .store
+  pub device : r .device ≡ afterCalls p s d (steps (r .steps)) .device
+  pub totals : r .totals ≡ totalsAfter p s d (steps (r .steps)) t
+  pub unrefused : countBy isRefusal (history p s d (steps (r .steps))) ≡ 0
+  pub ended : EndedSo p budget r (r .ended)
+
+abbrev pub RunIsSteps : Type 0
+RunIsSteps = (p : List ℕ) (budget : ℕ) (s : List ℕ) (d : Device) (t : Totals) → IsSteps p budget s d t (run p budget s d t)
+
+-- from 0, each total is the count of what was answered or stored, or the largest value if there is more
+pub record AreCounts (p s : List ℕ) (d : Device) (cs : List Call) (t : Totals) : Type 0 where
+  pub committed : t .committed ≡ min (countBy isCommit (history p s d cs)) (2 ^ 32 - 1)
+  pub accepted : t .accepted ≡ min (countBy isAccept (history p s d cs)) (2 ^ 32 - 1)
+  pub stores : t .stores ≡ min (storesMade p s d cs) (2 ^ 32 - 1)
+
+abbrev pub TotalsAreCounts : Type 0
+TotalsAreCounts = (p s : List ℕ) (d : Device) (cs : List Call) → AreCounts p s d cs (totalsAfter p s d cs noTotals)
+
+-- uncut recovery, where it ends after n steps, is a boot of the off device and n steps, the phase 0 after these and not before
+pub record ByCalls (p s : List ℕ) (n : ℕ) (store : List ℕ) : Type 0 where
+  pub leaves : afterCalls p s off (Boot ∷ steps n) .store ≡ store
+  pub ended : view store .phase ≡ 0
+  pub goes-on : (m : ℕ) → m < n → view (afterCalls p s off (Boot ∷ steps m) .store) .phase ≢ 0
+
+abbrev pub RecoveryByCalls : Type 0
+RecoveryByCalls = (p s : List ℕ) (k n : ℕ) (store : List ℕ) → recovery p k s ≡ recovered n store → ByCalls p s n store
+
+-- ---- Why a run needn't look at everything before each step
 
 -- What step and post look at first passes again after a step that wasn't refused, save after a commit store: that makes phase 1 or 2, whose
 -- rules for words 11 and 12 no step has looked at.

@@ -9,4 +9,5 @@ pub mod Answer
 pub mod Calls
 pub mod Serial
 pub mod Claims
+pub mod Demand3
 pub mod Starred

@@ -3,6 +3,7 @@
 -- A body that loops has no end, so a body is run for a number of instructions, the fuel; Claims.antt says that the number of
 -- calls suffices, and that more fuel changes nothing. The run stops, `none`, where one of the things claimed with it fails:
 -- "each body run is the answered one and ends, each address below M; at an event a record is there and the open number is 0."
+-- It stops, too, at an event accepted before any post.
 use Prim.Native.Nat.{ℕ, zero, suc, _+_}
 use mathlib.Core.Bool.{Bool, true, false}
 use mathlib.Core.List.{List, [], _∷_, _++_}
@@ -20,8 +21,8 @@ pub record Serial : Type 0 where
   pub task : ℕ
   pub openNumber : ℕ
   pub records : List Record
-  -- what the latest post with the answer done carried
-  pub posted : Record
+  -- what the latest post with the answer done carried; none before any
+  pub posted : Option Record
 
 -- "It starts with memory 0, the entry task as current task, open number 0 and no records."
 unfoldable pub serialStart : List ℕ → Serial
@@ -31,7 +32,7 @@ serialStart p =
       task = entry p;
       openNumber = 0;
       records = [];
-      posted = record { event = 0; datum = 0 };
+      posted = none;
     }
 
 -- ---- "instructions run from the first, on memory without a log, to DONE or to GO"
@@ -107,19 +108,23 @@ afterDone z (Post e x) =
       task = z .task;
       openNumber = z .openNumber;
       records = z .records;
-      posted = record { event = e; datum = x };
+      posted = some (record { event = e; datum = x });
     }
 
 -- "The answer accepted adds what the latest post with the answer done carried."
-unfoldable pub accept : Serial → Serial
-accept z =
+unfoldable pub withRecord : Serial → Record → Serial
+withRecord z x =
     record {
       memory = z .memory;
       task = z .task;
       openNumber = z .openNumber;
-      records = z .records ++ z .posted ∷ [];
+      records = z .records ++ x ∷ [];
       posted = z .posted;
     }
+
+unfoldable pub accept : Serial → Option Record → Option Serial
+accept z none = none
+accept z (some x) = some (withRecord z x)
 
 -- "All else, cuts and refusals too, changes nothing."
 unfoldable pub tell : ℕ → List ℕ → Serial → Call → Answer → Option Serial
@@ -128,7 +133,7 @@ tell fuel p z c (Answer.Chosen b) = some z
 tell fuel p z c Answer.Worked = some z
 tell fuel p z c Answer.Stored = some z
 tell fuel p z c (Answer.Committed b) = runBody fuel p z b
-tell fuel p z c Answer.Accepted = some (accept z)
+tell fuel p z c Answer.Accepted = accept z (z .posted)
 tell fuel p z c (Answer.Refused r) = some z
 
 unfoldable pub andThen : Option Serial → (Serial → Option Serial) → Option Serial

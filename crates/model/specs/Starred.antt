@@ -5,7 +5,7 @@ use mathlib.Core.Path.{_≡_}
 use mathlib.Core.List.{List, [], _∷_, _++_}
 use lib.ListN.{length, replicate, set, take}
 use Rattle.model.specs.Answer.{Told, refusal}
-use Rattle.model.specs.Calls.{Call, Boot, Step, Cut, Post, call, afterCalls, Recovery, recovered, refused, unfinished, recovery}
+use Rattle.model.specs.Calls.{Call, Boot, Step, Cut, Post, call, afterCalls, steps, Recovery, recovered, refused, unfinished, recovery}
 use Rattle.model.specs.Check.{check}
 use Rattle.model.specs.Device.{off}
 use Rattle.model.specs.Store.{Store, Record, view, waiting, formatted}
@@ -30,10 +30,6 @@ withTask task =
     0xC0B1 ∷ 1 ∷ 1 ∷ 2 ∷ 0 ∷ (16 + n) ∷ 12 ∷ (n / 2) ∷ 0 ∷ (12 + n) ∷ 2 ∷ 0 ∷ task ++ 0x0900 ∷ 0x0001 ∷ 0x1000 ∷ 0x0000 ∷ []
 
 -- ---- what is seen
-
-unfoldable pub steps : ℕ → List Call
-steps zero = []
-steps (suc n) = Step ∷ steps n
 
 -- on a store with L and Q 1, the device off at first: the state after the calls, and the answer to one more
 abbrev pub storeAfter : List ℕ → List Call → List ℕ

@@ -1,0 +1,253 @@
+-- Laws of specs/Calls.antt: lists of calls behind each other; a run is its steps, the totals are counts, recovery is a boot and steps.
+-- Assumes nothing.
+use Prim.Native.Nat.{ℕ, zero, suc, _+_, _-_, _^_, _≤_, _<_, min}
+use mathlib.Core.Path.{_≡_, refl, sym, ap, _∙_, subst}
+use mathlib.Core.Logic.{_≢_}
+use mathlib.Core.Bool.{Bool, true, false}
+use mathlib.Core.List.{List, [], _∷_, _++_}
+use native.Mathlib.Nat.{not-suc-le-zero, le-of-suc-le-suc, add-zero}
+use native.Mathlib.Omega.{arith}
+use borrow.Author.Tests.{eqb-true, eqb-false, ltb-true, ltb-false}
+use lib.Dec.{eqb}
+use Rattle.model.proofs.TestLaws.{pick-case, pick-true, pick-false}
+use Rattle.model.specs.Calls.{Call, Boot, Step, Line, Now, call, history, afterCalls, steps, countBy, unlessRefused, isRefusal, more, moreIf, isCommit, isAccept, isStore, noTotals, counted, totalsAfter, storesMade, Ran, runFrom, run, Recovery, recovered, refused, unfinished, finish, recovery}
+use Rattle.model.specs.Claims.{EndedSo, IsSteps, RunIsSteps, AreCounts, TotalsAreCounts, ByCalls, RecoveryByCalls}
+use Rattle.model.specs.Device.{Out, out, judged, turnedOn, off, bootCheck, boot, cut, step}
+use Rattle.model.specs.Store.{view, none, settled}
+use Rattle.model.specs.Test.{pick}
+use Rattle.model.specs.Types.{Answer, Checked, Device, Ended, Refusal, Totals}
+
+-- ---- unlessRefused: one law for every proof about an answer
+
+pub answer-case {ℓ} : {A : Type ℓ} (P : A → Type 0) (a : Answer) (stop : Refusal → A) (rest : A)
+    → ((f : Refusal) → a ≡ Answer.Refused f → P (stop f)) → (isRefusal a ≡ false → P rest) → P (unlessRefused a stop rest)
+unfolding unlessRefused isRefusal
+answer-case P Answer.Done stop rest s g = g refl
+answer-case P (Answer.Chosen b) stop rest s g = g refl
+answer-case P Answer.Worked stop rest s g = g refl
+answer-case P Answer.Stored stop rest s g = g refl
+answer-case P (Answer.Committed b) stop rest s g = g refl
+answer-case P Answer.Accepted stop rest s g = g refl
+answer-case P (Answer.Refused r) stop rest s g = s r refl
+
+-- ---- afterCalls
+
+pub after-append : (p s : List ℕ) (d : Device) (cs ds : List Call)
+    → afterCalls p s d (cs ++ ds) ≡ afterCalls p (afterCalls p s d cs .store) (afterCalls p s d cs .device) ds
+unfolding afterCalls
+after-append p s d [] ds = refl
+after-append p s d (c ∷ cs) ds = after-append p (settled s (call p s d c .write)) (call p s d c .device) cs ds
+
+-- ---- a run is its steps
+
+-- a run of k steps more, n steps made
+record Made (p : List ℕ) (k n : ℕ) (s : List ℕ) (d : Device) (t : Totals) (r : Ran) : Type 0 where
+  made : ℕ
+  steps-is : r .steps ≡ n + made
+  store : r .store ≡ afterCalls p s d (steps made) .store
+  device : r .device ≡ afterCalls p s d (steps made) .device
+  totals : r .totals ≡ totalsAfter p s d (steps made) t
+  unrefused : countBy isRefusal (history p s d (steps made)) ≡ 0
+  ended : EndedSo p (n + k) r (r .ended)
+
+run-made : (p : List ℕ) (k n : ℕ) (s : List ℕ) (d : Device) (t : Totals) → Made p k n s d t (runFrom p k n s d t)
+unfolding runFrom steps afterCalls history totalsAfter countBy call
+run-made p zero n s d t =
+    record {
+      made = 0;
+      steps-is = sym (add-zero n);
+      store = refl;
+      device = refl;
+      totals = refl;
+      unrefused = refl;
+      ended = sym (add-zero n);
+    }
+run-made p (suc k) n s d t =
+    let o = step p s d in
+    answer-case (Made p (suc k) n s d t) (o .answer) (λ f. record { steps = n; ended = Ended.Refused f; store = s; device = d; totals = t })
+    (runFrom p k (n + 1) (settled s (o .write)) (o .device) (counted t o))
+    (λ f e.
+    record {
+      made = 0;
+      steps-is = sym (add-zero n);
+      store = refl;
+      device = refl;
+      totals = refl;
+      unrefused = refl;
+      ended = (omega arith, e);
+    })
+    (λ e.
+    let h = run-made p k (n + 1) (settled s (o .write)) (o .device) (counted t o) in
+    let budget : n + 1 + k ≡ n + suc k = omega arith in
+    record {
+      made = suc (h .made);
+      steps-is = omega (arith, h .steps-is);
+      store = h .store;
+      device = h .device;
+      totals = h .totals;
+      unrefused = pick-false _ _ e ∙ h .unrefused;
+      ended = rw budget at (h .ended);
+    })
+
+pub run-is-steps : RunIsSteps
+unfolding run
+run-is-steps p budget s d t =
+    let h = run-made p budget 0 s d t in
+    let r = runFrom p budget 0 s d t in
+    let made-is : h .made ≡ r .steps = omega (arith, h .steps-is) in
+    let whole : 0 + budget ≡ budget = omega arith in
+    record {
+      store = rw made-is at (h .store);
+      device = rw made-is at (h .device);
+      totals = rw made-is at (h .totals);
+      unrefused = rw made-is at (h .unrefused);
+      ended = rw whole at (h .ended);
+    }
+
+-- ---- the totals are counts
+
+abbrev largest : ℕ
+largest = 2 ^ 32 - 1
+
+more-min : (a : ℕ) → more (min a largest) ≡ min (a + 1) largest
+unfolding more
+more-min a = pick-case (λ x. x ≡ min (a + 1) largest) (λ e. let h : min a largest < largest = ltb-true _ _ e in omega arith)
+    (λ e. let h : largest ≤ min a largest = ltb-false _ _ e in omega arith)
+
+-- how many calls came out so
+tally : (Out → Bool) → List ℕ → List ℕ → Device → List Call → ℕ
+tally f p s d [] = 0
+tally f p s d (c ∷ cs) =
+    let o = call p s d c in
+    let rest = tally f p (settled s (o .write)) (o .device) cs in
+    pick (f o) (suc rest) rest
+
+count-tally : (f : Answer → Bool) (p s : List ℕ) (d : Device) (cs : List Call) → tally (λ o. f (o .answer)) p s d cs ≡ countBy f (history p s d cs)
+unfolding tally countBy history
+count-tally f p s d [] = refl
+count-tally f p s d (c ∷ cs) =
+    let o = call p s d c in
+    ap (λ (n : ℕ). pick (f (o .answer)) (suc n) n) (count-tally f p (settled s (o .write)) (o .device) cs)
+
+stores-tally : (p s : List ℕ) (d : Device) (cs : List Call) → tally (λ o. isStore (o .write)) p s d cs ≡ storesMade p s d cs
+unfolding tally storesMade
+stores-tally p s d [] = refl
+stores-tally p s d (c ∷ cs) =
+    let o = call p s d c in
+    ap (λ (n : ℕ). pick (isStore (o .write)) (suc n) n) (stores-tally p (settled s (o .write)) (o .device) cs)
+
+one-if : (b : Bool) (a : ℕ) {x y : ℕ} → y ≡ moreIf b x → x ≡ min a largest → y ≡ min (a + pick b 1 0) largest
+unfolding moreIf pick
+one-if true a q e = q ∙ ap more e ∙ more-min a
+one-if false a q e = q ∙ e ∙ ap (λ (n : ℕ). min n largest) (sym (add-zero a))
+
+sum-if : (b : Bool) (a n : ℕ) → a + pick b 1 0 + n ≡ a + pick b (suc n) n
+unfolding pick
+sum-if true a n = omega arith
+sum-if false a n = omega arith
+
+-- the field g of the totals counts the calls that came out so as f says
+module _ (g : Totals → ℕ) (f : Out → Bool) (is : (t : Totals) (o : Out) → g (counted t o) ≡ moreIf (f o) (g t)) where
+  total-from : (p s : List ℕ) (d : Device) (cs : List Call) (t : Totals) (a : ℕ) → g t ≡ min a largest
+      → g (totalsAfter p s d cs t) ≡ min (a + tally f p s d cs) largest
+  unfolding totalsAfter tally
+  total-from p s d [] t a e = e ∙ ap (λ (n : ℕ). min n largest) (sym (add-zero a))
+  total-from p s d (c ∷ cs) t a e =
+      let o = call p s d c in
+      total-from p (settled s (o .write)) (o .device) cs (counted t o) (a + pick (f o) 1 0) (one-if (f o) a (is t o) e)
+      ∙ ap (λ (n : ℕ). min n largest) (sum-if (f o) a (tally f p (settled s (o .write)) (o .device) cs))
+
+  total-is : (p s : List ℕ) (d : Device) (cs : List Call) → g noTotals ≡ 0 → g (totalsAfter p s d cs noTotals) ≡ min (tally f p s d cs) largest
+  total-is p s d cs e =
+      let none : 0 + tally f p s d cs ≡ tally f p s d cs = omega arith in
+      total-from p s d cs noTotals 0 e ∙ ap (λ (n : ℕ). min n largest) none
+
+pub totals-are-counts : TotalsAreCounts
+unfolding counted
+totals-are-counts p s d cs =
+    record {
+      committed =
+          total-is (λ t. t .committed) (λ o. isCommit (o .answer)) (λ t o. refl) p s d cs refl ∙ ap (λ (n : ℕ). min n largest) (count-tally isCommit p s d cs);
+      accepted =
+          total-is (λ t. t .accepted) (λ o. isAccept (o .answer)) (λ t o. refl) p s d cs refl ∙ ap (λ (n : ℕ). min n largest) (count-tally isAccept p s d cs);
+      stores = total-is (λ t. t .stores) (λ o. isStore (o .write)) (λ t o. refl) p s d cs refl ∙ ap (λ (n : ℕ). min n largest) (stores-tally p s d cs);
+    }
+
+-- ---- recovery is a boot and steps
+
+-- i steps made, it ended after n
+record Finished (p : List ℕ) (i n : ℕ) (s : List ℕ) (d : Device) (store : List ℕ) : Type 0 where
+  made : ℕ
+  made-is : i + made ≡ n
+  leaves : afterCalls p s d (steps made) .store ≡ store
+  ended : view store .phase ≡ 0
+  goes-on : (m : ℕ) → m < made → view (afterCalls p s d (steps m) .store) .phase ≢ 0
+
+module _ (p : List ℕ) (i n : ℕ) (s : List ℕ) (d : Device) (store : List ℕ) where
+  -- nothing was left to do
+  at-once : view s .phase ≡ 0 → recovered i s ≡ recovered n store → Finished p i n s d store
+  unfolding steps afterCalls
+  at-once e q =
+      let same : s ≡ store = cc in
+      let count : i ≡ n = cc in
+      record {
+        made = 0;
+        made-is = omega arith;
+        leaves = same;
+        ended = subst (λ (x : List ℕ). view x .phase ≡ 0) same e;
+        goes-on = λ m h. absurd (not-suc-le-zero h);
+      }
+
+  one-more : view s .phase ≢ 0 → Finished p (i + 1) n (settled s (step p s d .write)) (step p s d .device) store → Finished p i n s d store
+  unfolding steps afterCalls call
+  one-more e h = record { made = suc (h .made); made-is = omega (arith, h .made-is); leaves = h .leaves; ended = h .ended; goes-on = on }
+    where
+      on : (m : ℕ) → m < suc (h .made) → view (afterCalls p s d (steps m) .store) .phase ≢ 0
+      on zero l = e
+      on (suc m) l = h .goes-on m (le-of-suc-le-suc l)
+
+never-refused {ℓ} : {X : Type ℓ} {f : Refusal} {n : ℕ} {store : List ℕ} → refused f ≡ recovered n store → X
+never-refused e = let z : _≡_ {A = ℕ} 0 1 = cc in absurd (omega arith)
+
+never-unfinished {ℓ} : {X : Type ℓ} {n : ℕ} {store : List ℕ} → unfinished ≡ recovered n store → X
+never-unfinished e = let z : _≡_ {A = ℕ} 0 1 = cc in absurd (omega arith)
+
+finished : (p : List ℕ) (k i n : ℕ) (s : List ℕ) (d : Device) (store : List ℕ) → finish p k i s d ≡ recovered n store → Finished p i n s d store
+unfolding finish
+finished p zero i n s d store =
+    pick-case (λ x. x ≡ recovered n store → Finished p i n s d store) (λ b e. at-once p i n s d store (eqb-true _ _ b) e) (λ b e. never-unfinished e)
+finished p (suc k) i n s d store =
+    let o = step p s d in
+    pick-case (λ x. x ≡ recovered n store → Finished p i n s d store) (λ b e. at-once p i n s d store (eqb-true _ _ b) e)
+    (λ b.
+    answer-case (λ x. x ≡ recovered n store → Finished p i n s d store) (o .answer) refused (finish p k (i + 1) (settled s (o .write)) (o .device))
+    (λ f a e. never-refused e)
+    (λ a e. one-more p i n s d store (eqb-false _ _ b) (finished p k (i + 1) n (settled s (o .write)) (o .device) store e)))
+
+boot-stores-nothing : (p s : List ℕ) (d : Device) → boot p s d .write ≡ none
+unfolding boot judged
+boot-stores-nothing p s d = go (bootCheck p s d)
+  where
+    go : (x : Checked) → judged x d (out none turnedOn Answer.Done) .write ≡ none
+    go Checked.Accepted = refl
+    go (Checked.Refused r) = refl
+
+-- after a boot, whatever it answers
+booted : (p s : List ℕ) (d : Device) (cs : List Call) → afterCalls p s d (Boot ∷ cs) ≡ afterCalls p s (boot p s d .device) cs
+unfolding afterCalls call settled
+booted p s d cs = rw (boot-stores-nothing p s d)
+
+pub recovery-by-calls : RecoveryByCalls
+unfolding recovery cut
+recovery-by-calls p s k n store =
+    let o = boot p s off in
+    answer-case (λ x. x ≡ recovered n store → ByCalls p s n store) (o .answer) refused (finish p k 0 s (o .device))
+    (λ f a e. never-refused e)
+    (λ a e.
+    let h = finished p k 0 n s (o .device) store e in
+    let made-is : h .made ≡ n = omega (arith, h .made-is) in
+    record {
+      leaves = ap (λ (x : Now). x .store) (booted p s off (steps n)) ∙ (rw made-is at (h .leaves));
+      ended = h .ended;
+      goes-on = λ m l. rw (booted p s off (steps m)) (h .goes-on m (omega (arith, made-is)));
+    })
