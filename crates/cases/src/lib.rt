@@ -10,7 +10,7 @@ use model::Answer;
 use model::Device;
 use model::Refusal;
 use model::Totals;
-use runtime::run;
+use runtime;
 use store::format;
 
 // "M 2, T 1, E 1, 26 words"
@@ -63,10 +63,10 @@ fn cut_in(p: &[u16], s: &mut [u16], n: u32, m: u32)
 {
     let _ = format::format(p, 1, 1, s);
     let on = look::boot(p, s, Device::OFF);
-    let _ = run::run(p, s, on.device, none(), n);
+    let _ = runtime::run(p, s, on.device, none(), n);
     let off = look::cut();
     let again = look::boot(p, s, off.device);
-    let _ = run::run(p, s, again.device, none(), m);
+    let _ = runtime::run(p, s, again.device, none(), m);
 }
 
 // The phase, and memory words 0 and 1, after that.
@@ -107,7 +107,7 @@ fn post_in(p: &[u16], s: &mut [u16], n: u32) -> Answer
     let _ = format::format(p, 1, 1, s);
     let on = look::boot(p, s, Device::OFF);
     let posted = look::post(p, s, on.device, 0, 7);
-    let ran = run::run(p, s, posted.device, none(), n);
+    let ran = runtime::run(p, s, posted.device, none(), n);
     let further = look::post(p, s, ran.device, 0, 7);
     further.answer
 }

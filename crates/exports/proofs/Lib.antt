@@ -1,1 +1,2 @@
 pub mod OnDevice
+pub mod Demand3

@@ -7,14 +7,17 @@ use mathlib.Core.Path.{_≡_}
 use Rattle.device.specs.Agree.{Performs}
 use Rattle.device.specs.Turn.{afterCall}
 use Rattle.device.specs.declared.Stepped.{Stepped}
-use Rattle.model.specs.Calls.{Ran as Defined}
-use Rattle.model.specs.Device.{Out}
+use Rattle.model.specs.Calls.{Ran as Defined, counted, run}
+use Rattle.model.specs.Check.{check}
+use Rattle.model.specs.Device.{Out, boot, post, step, off}
 use Rattle.model.specs.Program.{word}
+use Rattle.model.specs.Store.{formatCheck, format}
+use Rattle.model.specs.declared.Answer.{Answer}
 use Rattle.model.specs.declared.Device.{Device}
 use Rattle.model.specs.declared.Totals.{Totals}
 use Rattle.runtime.specs.Ran.{RunPerforms}
-use Rattle.runtime.specs.declared.run.Ran.{Ran}
-use Rattle.words.specs.Words.{deviceOf, known, unknown, deviceWords, answerWords, endedWords}
+use Rattle.runtime.specs.declared.Ran.{Ran}
+use Rattle.words.specs.Words.{deviceOf, known, unknown, deviceWords, answerWords, endedWords, checkedWords, unknownWords}
 
 -- K of the device state whose words these are; U where they are none's
 pub record OnDevice (w : List ℕ) (K : Device → Type 0) (U : Type 0) : Type 0 where
@@ -36,3 +39,37 @@ Told p s o a x z = (r : Stepped) × Performs p s o (afterCall r z) × (a ≡ ans
 abbrev pub RunTold : List ℕ → Defined → ℕ → List ℕ → List ℕ → List ℕ → List ℕ → Type 0
 RunTold p o n a x z t =
     (r : Ran) × RunPerforms p o r z × (n ≡ r .steps) × (a ≡ endedWords (r .ended)) × (x ≡ deviceWords (r .device)) × (t ≡ totalsWords (r .totals))
+
+-- ---- What each function promises. Of program p, store s, device words x and totals t as they were: the answer a, and z, y and u, the store, the
+-- device words and the totals as they are.
+
+-- runtime_check
+abbrev pub Checks : List ℕ → List ℕ → Type 0
+Checks p a = a ≡ checkedWords (check p)
+
+-- runtime_format, with L l and Q q
+abbrev pub Formats : List ℕ → ℕ → ℕ → List ℕ → List ℕ → List ℕ → Type 0
+Formats p l q s a z = (a ≡ checkedWords (formatCheck p l q s)) × (z ≡ format p l q s)
+
+-- runtime_boot
+abbrev pub Boots : List ℕ → List ℕ → List ℕ → List ℕ → List ℕ → Type 0
+Boots p s x a y = OnDevice x (λ d. Told p s (boot p s d) a y s) ((a ≡ unknownWords) × (y ≡ x))
+
+-- runtime_post of event e with data v
+abbrev pub Posts : List ℕ → List ℕ → List ℕ → ℕ → ℕ → List ℕ → List ℕ → Type 0
+Posts p s x e v a y = OnDevice x (λ d. Told p s (post p s d e v) a y s) ((a ≡ unknownWords) × (y ≡ x))
+
+-- runtime_cut
+abbrev pub Cuts : List ℕ → List ℕ → Type 0
+Cuts a y = (a ≡ answerWords Answer.Done) × (y ≡ deviceWords off)
+
+-- runtime_step
+abbrev pub Steps : List ℕ → List ℕ → List ℕ → List ℕ → List ℕ → List ℕ → List ℕ → List ℕ → Type 0
+Steps p s x t a z y u =
+    OnDevice x (λ d. Told p s (step p s d) a y z × (u ≡ totalsWords (counted (totalsOf t) (step p s d))))
+    ((a ≡ unknownWords) × (y ≡ x) × (z ≡ s) × (u ≡ t))
+
+-- runtime_run with a budget of b, which returned n
+abbrev pub Runs : List ℕ → List ℕ → List ℕ → List ℕ → ℕ → ℕ → List ℕ → List ℕ → List ℕ → List ℕ → Type 0
+Runs p s x t b n a z y u =
+    OnDevice x (λ d. RunTold p (run p b s d (totalsOf t)) n a y z u) ((n ≡ 0) × (a ≡ unknownWords) × (y ≡ x) × (z ≡ s) × (u ≡ t))

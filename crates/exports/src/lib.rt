@@ -1,25 +1,20 @@
 // The functions that a bench links, from C or Rust: include/runtime.h declares them and docs/USING.md explains them.
 // No enum crosses: a device state is 18 words, an answer 5, the totals are 3 numbers (crates/words, specs/Exported.antt).
-ghost use Prim.Native.Nat.{ℕ};
 ghost use mathlib.Core.Path.{_≡_};
-ghost use Rattle.model.specs.Calls.{counted, run};
-ghost use Rattle.model.specs.Check.{check};
-ghost use Rattle.model.specs.Device.{off, boot, post, step};
-ghost use Rattle.model.specs.Store.{formatCheck, format};
-ghost use Rattle.exports.specs.Exported.{OnDevice, Told, RunTold, totalsOf, totalsWords};
-ghost use Rattle.words.specs.Words.{deviceWords, answerWords, checkedWords, unknownWords};
+ghost use Rattle.exports.specs.Exported.{Checks, Formats, Boots, Posts, Cuts, Steps, Runs, totalsOf, totalsWords};
+ghost use Rattle.words.specs.Words.{deviceWords, answerWords};
 use device::Stepped;
 use device::look;
 use model::Answer;
 use model::Device;
 use model::Totals;
-use runtime::run;
+use runtime;
 use store::format;
 
 // check: 1 to 5.
 #[no_mangle]
 pub extern "C" fn runtime_check(program: &[u16], answer: &mut [u16; 5])
-    ensures { λ _. ⌜ now (answer .exit) ≡ checkedWords (check (now (program .entry))) ⌝ }
+    ensures { λ _. ⌜ Checks (now (program .entry)) (now (answer .exit)) ⌝ }
 {
     words::write_checked(answer, program::check(program));
 }
@@ -33,8 +28,7 @@ pub extern "C" fn runtime_format(
     store: &mut [u16],
     answer: &mut [u16; 5],
 )
-    ensures { λ _. ⌜ now (answer .exit) ≡ checkedWords (formatCheck (now (program .entry)) pairs records (now (store .entry))) ⌝ }
-    ensures { λ _. ⌜ now (store .exit) ≡ format (now (program .entry)) pairs records (now (store .entry)) ⌝ }
+    ensures { λ _. ⌜ Formats (now (program .entry)) pairs records (now (store .entry)) (now (answer .exit)) (now (store .exit)) ⌝ }
 {
     words::write_checked(answer, format::format(program, pairs, records, store));
 }
@@ -57,7 +51,7 @@ pub extern "C" fn runtime_boot(
     device: &mut [u16; 18],
     answer: &mut [u16; 5],
 )
-    ensures { λ _. ⌜ OnDevice (now (device .entry)) (λ d. Told (now (program .entry)) (now (store .entry)) (boot (now (program .entry)) (now (store .entry)) d) (now (answer .exit)) (now (device .exit)) (now (store .entry))) ((now (answer .exit) ≡ unknownWords) × (now (device .exit) ≡ now (device .entry))) ⌝ }
+    ensures { λ _. ⌜ Boots (now (program .entry)) (now (store .entry)) (now (device .entry)) (now (answer .exit)) (now (device .exit)) ⌝ }
 {
     let read = words::read_device(device);
     if !read.found {
@@ -78,7 +72,7 @@ pub extern "C" fn runtime_post(
     datum: u16,
     answer: &mut [u16; 5],
 )
-    ensures { λ _. ⌜ OnDevice (now (device .entry)) (λ d. Told (now (program .entry)) (now (store .entry)) (post (now (program .entry)) (now (store .entry)) d event datum) (now (answer .exit)) (now (device .exit)) (now (store .entry))) ((now (answer .exit) ≡ unknownWords) × (now (device .exit) ≡ now (device .entry))) ⌝ }
+    ensures { λ _. ⌜ Posts (now (program .entry)) (now (store .entry)) (now (device .entry)) event datum (now (answer .exit)) (now (device .exit)) ⌝ }
 {
     let read = words::read_device(device);
     if !read.found {
@@ -92,7 +86,7 @@ pub extern "C" fn runtime_post(
 // cut: whatever the device words were, they become those of the off value. "A cut refuses nothing."
 #[no_mangle]
 pub extern "C" fn runtime_cut(device: &mut [u16; 18], answer: &mut [u16; 5])
-    ensures { λ _. ⌜ (now (answer .exit) ≡ answerWords Answer.Done) × (now (device .exit) ≡ deviceWords off) ⌝ }
+    ensures { λ _. ⌜ Cuts (now (answer .exit)) (now (device .exit)) ⌝ }
 {
     tell(look::cut(), device, answer);
 }
@@ -122,7 +116,7 @@ pub extern "C" fn runtime_step(
     totals: &mut [u32; 3],
     answer: &mut [u16; 5],
 )
-    ensures { λ _. ⌜ OnDevice (now (device .entry)) (λ d. Told (now (program .entry)) (now (store .entry)) (step (now (program .entry)) (now (store .entry)) d) (now (answer .exit)) (now (device .exit)) (now (store .exit)) × (now (totals .exit) ≡ totalsWords (counted (totalsOf (now (totals .entry))) (step (now (program .entry)) (now (store .entry)) d)))) ((now (answer .exit) ≡ unknownWords) × (now (device .exit) ≡ now (device .entry)) × (now (store .exit) ≡ now (store .entry)) × (now (totals .exit) ≡ now (totals .entry))) ⌝ }
+    ensures { λ _. ⌜ Steps (now (program .entry)) (now (store .entry)) (now (device .entry)) (now (totals .entry)) (now (answer .exit)) (now (store .exit)) (now (device .exit)) (now (totals .exit)) ⌝ }
 {
     if !words::is_state(device) {
         words::write_unknown(answer);
@@ -148,7 +142,7 @@ pub extern "C" fn runtime_run(
     budget: u32,
     answer: &mut [u16; 5],
 ) -> u32
-    ensures { λ n. ⌜ OnDevice (now (device .entry)) (λ d. RunTold (now (program .entry)) (run (now (program .entry)) budget (now (store .entry)) d (totalsOf (now (totals .entry)))) n (now (answer .exit)) (now (device .exit)) (now (store .exit)) (now (totals .exit))) ((n ≡ 0) × (now (answer .exit) ≡ unknownWords) × (now (device .exit) ≡ now (device .entry)) × (now (store .exit) ≡ now (store .entry)) × (now (totals .exit) ≡ now (totals .entry))) ⌝ }
+    ensures { λ n. ⌜ Runs (now (program .entry)) (now (store .entry)) (now (device .entry)) (now (totals .entry)) budget n (now (answer .exit)) (now (store .exit)) (now (device .exit)) (now (totals .exit)) ⌝ }
 {
     let read = words::read_device(device);
     if !read.found {
@@ -156,7 +150,7 @@ pub extern "C" fn runtime_run(
         return 0;
     }
     let d = read.device;
-    let r = run::run(program, store, d, totals_of(totals), budget);
+    let r = runtime::run(program, store, d, totals_of(totals), budget);
     let ended = r.ended;
     let e = r.device;
     let t = r.totals;

@@ -10,7 +10,7 @@ use Rattle.model.specs.Calls.{Ran as Defined, counted}
 use Rattle.model.specs.Device.{Out}
 use Rattle.model.specs.declared.Totals.{Totals}
 use Rattle.runtime.specs.Ran.{RunPerforms}
-use Rattle.runtime.specs.declared.run.Ran.{Ran}
+use Rattle.runtime.specs.declared.Ran.{Ran}
 
 -- A step of program p on the words s and the totals t left r and the totals t′, where o is defined.
 pub record Counts (p s : List ℕ) (t : Totals) (o : Out) (r : Result) (t′ : Totals) : Type 0 where

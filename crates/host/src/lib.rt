@@ -7,7 +7,7 @@ ghost use Rattle.host.specs.Counts.{Counts, RunCounts};
 use device::Stepped;
 use model::Device;
 use model::Totals;
-use runtime::run::Ran;
+use runtime::Ran;
 
 // A step, counted once it has answered: a refusal "changes no word, state or total".
 pub fn step(p: &[u16], s: &mut [u16], d: Device, t: &mut Totals) -> Stepped
@@ -22,7 +22,7 @@ pub fn step(p: &[u16], s: &mut [u16], d: Device, t: &mut Totals) -> Stepped
 pub fn run(p: &[u16], s: &mut [u16], d: Device, t: &mut Totals, budget: u32) -> Ran
     ensures { λ x. ⌜ RunCounts (now (p .entry)) (run (now (p .entry)) budget (now (s .entry)) d (now (t .entry))) x (now (s .exit)) (now (t .exit)) ⌝ }
 {
-    let x = runtime::run::run(p, s, d, *t, budget);
+    let x = runtime::run(p, s, d, *t, budget);
     *t = x.totals;
     x
 }

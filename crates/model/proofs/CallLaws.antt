@@ -12,7 +12,7 @@ use lib.Dec.{eqb}
 use Rattle.model.proofs.TestLaws.{pick-case, pick-true, pick-false}
 use Rattle.model.specs.Calls.{Call, Boot, Step, Line, Now, call, history, afterCalls, steps, countBy, unlessRefused, isRefusal, more, moreIf, isCommit, isAccept, isStore, noTotals, counted, totalsAfter, storesMade, Ran, runFrom, run, Recovery, recovered, refused, unfinished, finish, recovery}
 use Rattle.model.specs.Claims.{EndedSo, IsSteps, RunIsSteps, AreCounts, TotalsAreCounts, ByCalls, RecoveryByCalls}
-use Rattle.model.specs.Device.{Out, out, judged, turnedOn, off, bootCheck, boot, cut, step}
+use Rattle.model.specs.Device.{Out, out, judged, turnedOn, off, bootCheck, boot, cut, postCheck, post, step}
 use Rattle.model.specs.Store.{view, none, settled}
 use Rattle.model.specs.Test.{pick}
 use Rattle.model.specs.Types.{Answer, Checked, Device, Ended, Refusal, Totals}
@@ -37,6 +37,32 @@ pub after-append : (p s : List ℕ) (d : Device) (cs ds : List Call)
 unfolding afterCalls
 after-append p s d [] ds = refl
 after-append p s d (c ∷ cs) ds = after-append p (settled s (call p s d c .write)) (call p s d c .device) cs ds
+
+pub totals-append : (p s : List ℕ) (d : Device) (cs ds : List Call) (t : Totals)
+    → totalsAfter p s d (cs ++ ds) t ≡ totalsAfter p (afterCalls p s d cs .store) (afterCalls p s d cs .device) ds (totalsAfter p s d cs t)
+unfolding afterCalls totalsAfter
+totals-append p s d [] ds t = refl
+totals-append p s d (c ∷ cs) ds t =
+    let o = call p s d c in
+    totals-append p (settled s (o .write)) (o .device) cs ds (counted t o)
+
+-- boot, cut and post add nothing to the totals
+counts-nothing : (t : Totals) (d e : Device) (x : Checked) → counted t (judged x d (out none e Answer.Done)) ≡ t
+unfolding judged counted moreIf isCommit isAccept isStore pick
+counts-nothing t d e Checked.Accepted = refl
+counts-nothing t d e (Checked.Refused r) = refl
+
+pub boot-counts-nothing : (p s : List ℕ) (d : Device) (t : Totals) → counted t (boot p s d) ≡ t
+unfolding boot
+boot-counts-nothing p s d t = counts-nothing t d turnedOn (bootCheck p s d)
+
+pub cut-counts-nothing : (t : Totals) → counted t cut ≡ t
+unfolding cut counted moreIf isCommit isAccept isStore pick
+cut-counts-nothing t = refl
+
+pub post-counts-nothing : (p s : List ℕ) (d : Device) (e x : ℕ) (t : Totals) → counted t (post p s d e x) ≡ t
+unfolding post
+post-counts-nothing p s d e x t = counts-nothing t d _ (postCheck p s d e)
 
 -- ---- a run is its steps
 

@@ -1,25 +1,27 @@
 -- Words stay words: where all words of program, store, device state and call are below 2 to the 16, so are those of the store
--- and the device after the call, and the store keeps its length. Assumes nothing.
+-- and the device after the call, and the store keeps its length; formatting's words, too. Assumes nothing.
 use Prim.Native.Nat.{ℕ, zero, suc, _+_, _-_, _*_, _^_, _≤_, _<_}
 use mathlib.Core.Path.{_≡_, refl, _∙_}
 use mathlib.Core.Bool.{Bool, true, false}
 use mathlib.Core.List.{List, [], _∷_}
 use native.Mathlib.Nat.{div-le-self}
 use native.Mathlib.Omega.{arith}
-use borrow.Author.Tests.{ltb-true, eqb-false}
+use borrow.Author.Tests.{ltb-true, leb-true, eqb-false}
 use lib.Bits.{and-lt, or-lt, xor-lt}
 use lib.IntN.{ℤ}
 use lib.ListN.{length, getD, take, drop, set, replicate, length-set}
 use lib.Seq.{getD-drop}
 use lib.Signed.{shrZ}
 use Rattle.model.proofs.Early.{Stands, Early, look-passed, body-passed, most-last, most-end}
+use Rattle.model.proofs.Fresh.{format-passed}
+use Rattle.model.proofs.ProgramLaws.{Sound}
 use Rattle.model.proofs.RingLaws.{after-le}
-use Rattle.model.proofs.TestLaws.{pick-case}
+use Rattle.model.proofs.TestLaws.{pick-case, and-left, and-right}
 use Rattle.model.specs.Calls.{Call, Boot, Step, Cut, Post, call}
-use Rattle.model.specs.Claims.{Words, BodyWords, PlaceWords, HandlerWords, DeviceWords, CallWords, WordsStayWords}
+use Rattle.model.specs.Claims.{Words, BodyWords, PlaceWords, HandlerWords, DeviceWords, CallWords, WordsStayWords, FormatStaysWords}
 use Rattle.model.specs.Device.{Out, refuse, judged, fresh, moved, handled, storing, taskStores, eventStores, taskLastStores, eventLastStores, lastStores, boot, cut, post, handlerStep, copyStep, begun, chooseStep, bodySound, shown, saveStep, act, saveRest, placeStep, nextStep, step}
 use Rattle.model.specs.Program.{word, memoryWords, transaction, number, operand, instructionTable, decode, signed, unsigned, shifted, reg, effect, effectAt, newOpen}
-use Rattle.model.specs.Store.{Store, view, event, datum, after, memoryAt, logAt, queueAt, index, Write, none, to, settled}
+use Rattle.model.specs.Store.{Store, view, event, datum, after, memoryAt, logAt, queueAt, index, Write, none, to, settled, storeMark, storeContents, storeLength, sizesRule, formatted, formatCheck, formatStore, format}
 use Rattle.model.specs.Types.{Answer, Body, Checked, Device, Effect, Found, Free, Half, Handler, Instruction, Next, Place, Refusal, Resting, Run, Storing}
 
 -- ---- lists of words
@@ -148,9 +150,9 @@ unfolding settled
 settled-length s none = refl
 settled-length s (to w x) = length-set s (index s w) x
 
-fresh-words : (on : Bool) → DeviceWords (fresh on)
+pub fresh-device-words : (on : Bool) → DeviceWords (fresh on)
 unfolding fresh
-fresh-words on = record { regs-length = refl; regs = words-zeros 8; place = omega arith; count = omega arith; handler = tt }
+fresh-device-words on = record { regs-length = refl; regs = words-zeros 8; place = omega arith; count = omega arith; handler = tt }
 
 module _ (p s : List ℕ) (d : Device) (ps : Words p) (ss : Words s) (ds : DeviceWords d) where
   abbrev v : Store
@@ -188,17 +190,17 @@ module _ (p s : List ℕ) (d : Device) (ps : Words p) (ss : Words s) (ds : Devic
   storing-words : (ws : List Write) (c : ℕ) (e : Device) (a : Answer) → Every WriteWords ws → DeviceWords e → OutWords (storing ws c e a)
   unfolding storing
   storing-words ws c e a h es =
-      record { write = every-at WriteWords ws c none h tt; device = pick-case DeviceWords (λ _. fresh-words true) (λ _. es) }
+      record { write = every-at WriteWords ws c none h tt; device = pick-case DeviceWords (λ _. fresh-device-words true) (λ _. es) }
 
   -- ---- the calls that make no store
 
   boot-words : OutWords (boot p s d)
   unfolding boot
-  boot-words = judged-words _ _ (λ _. record { write = tt; device = fresh-words true })
+  boot-words = judged-words _ _ (λ _. record { write = tt; device = fresh-device-words true })
 
   cut-words : OutWords cut
   unfolding cut
-  cut-words = record { write = tt; device = fresh-words false }
+  cut-words = record { write = tt; device = fresh-device-words false }
 
   post-words : (e x : ℕ) → e < 2 ^ 16 → x < 2 ^ 16 → OutWords (post p s d e x)
   unfolding post
@@ -336,3 +338,30 @@ words-stay-words p s d c ps ss ds cs =
       store = settled-words s _ ss (o .write);
       device = o .device;
     }
+
+-- ---- formatting
+
+zeros-below : (n : ℕ) → Every (λ x. x < 2 ^ 16) (replicate n 0)
+zeros-below zero = tt
+zeros-below (suc n) = (omega arith, zeros-below n)
+
+formatted-words : (p : List ℕ) → Sound p → (l q : ℕ) → sizesRule l q ≡ true → Words p → Words (formatted p l q)
+unfolding formatted storeContents storeMark sizesRule
+formatted-words p sound l q sizes ps i =
+    let most-pairs : l ≤ 64 = leb-true _ _ (and-left _ _ (and-right _ _ sizes)) in
+    let most-records : q ≤ 32 = leb-true _ _ (and-right _ _ (and-right _ _ (and-right _ _ sizes))) in
+    let most-memory : memoryWords p ≤ 1024 = sound .contents .most-memory in
+    let zeros = zeros-below (storeLength (memoryWords p) l q - 10) in
+    every-at (λ x. x < 2 ^ 16) (formatted p l q) i 0 (
+      omega arith,
+      (omega arith, (omega arith, (omega arith, (omega arith, (omega arith, (omega arith, (omega arith, (omega arith, (ps 4, zeros))))))))),
+    )
+    (omega arith)
+
+pub format-stays-words : FormatStaysWords
+unfolding format formatStore
+format-stays-words p l q s ps ss = go (formatCheck p l q s) refl
+  where
+    go : (x : Checked) → formatCheck p l q s ≡ x → Words (formatStore x s (formatted p l q))
+    go Checked.Accepted e = let f = format-passed p l q s e in formatted-words p (f .sound) l q (f .sizes) ps
+    go (Checked.Refused r) e = ss

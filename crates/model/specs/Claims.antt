@@ -10,7 +10,7 @@ use Rattle.model.specs.Calls.{Call, Boot, Step, Cut, Post, call, history
 use Rattle.model.specs.Control.{rules, blames}
 use Rattle.model.specs.Device.{off, look, step}
 use Rattle.model.specs.Program.{word}
-use Rattle.model.specs.Store.{view, settled}
+use Rattle.model.specs.Store.{view, settled, format}
 use Rattle.model.specs.Test.{pick}
 use Rattle.model.specs.Types.{Answer, Body, Checked, Device, Ended, Free, Half, Handler, Place, Refusal, Resting, Run, Storing, Totals}
 
@@ -64,6 +64,9 @@ pub record StaysWords (p s : List ℕ) (d : Device) (c : Call) : Type 0 where
 abbrev pub WordsStayWords : Type 0
 WordsStayWords =
     (p s : List ℕ) (d : Device) (c : Call) → Words p → Words s → DeviceWords d → CallWords c → StaysWords p s d c
+
+abbrev pub FormatStaysWords : Type 0
+FormatStaysWords = (p : List ℕ) (l q : ℕ) (s : List ℕ) → Words p → Words s → Words (format p l q s)
 
 -- "After 23 or 24 every step repeats that refusal until a cut, save for handler steps."
 pub data Stays : Refusal → Type 0 where

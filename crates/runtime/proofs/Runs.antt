@@ -6,6 +6,7 @@ use mathlib.Core.List.{List}
 use mathlib.Core.Path.{_≡_, refl, sym, ap, _∙_}
 use Rattle.device.specs.Agree.{Agrees}
 use Rattle.model.proofs.Blamed.{place-is-broken}
+use Rattle.model.proofs.CallLaws.{answer-case}
 use Rattle.model.proofs.Refused.{refused-is}
 use Rattle.model.specs.Calls.{Ran, Step, call, unlessRefused, counted, runFrom, run}
 use Rattle.model.specs.Control.{rules, blames}
@@ -44,16 +45,6 @@ goes Answer.Stored stop rest e = refl
 goes (Answer.Committed b) stop rest e = refl
 goes Answer.Accepted stop rest e = refl
 goes (Answer.Refused r) stop rest e = cc
-
-either {ℓ} : {A : Type ℓ} (P : A → Type 0) (a : Answer) (stop : Refusal → A) (rest : A) → ((f : Refusal) → a ≡ Answer.Refused f → P (stop f)) → P rest → P (unlessRefused a stop rest)
-unfolding unlessRefused
-either P Answer.Done stop rest s g = g
-either P (Answer.Chosen b) stop rest s g = g
-either P Answer.Worked stop rest s g = g
-either P Answer.Stored stop rest s g = g
-either P (Answer.Committed b) stop rest s g = g
-either P Answer.Accepted stop rest s g = g
-either P (Answer.Refused r) stop rest s g = s r refl
 
 -- ---- a run at its next step, n steps made
 
@@ -94,9 +85,9 @@ run-blames : (p : List ℕ) (k n : ℕ) (s : List ℕ) (d : Device) (t : Totals)
 unfolding runFrom call
 run-blames p zero n s d t = λ w e. cc
 run-blames p (suc k) n s d t =
-    either (Blames p) (step p s d .answer) _ _
+    answer-case (Blames p) (step p s d .answer) _ _
     (λ f e w q. place-is-broken p s d Step w (e ∙ ap Answer.Refused (same-refusal q)))
-    (run-blames p k (n + 1) (settled s (step p s d .write)) (step p s d .device) (counted t (step p s d)))
+    (λ _. run-blames p k (n + 1) (settled s (step p s d .write)) (step p s d .device) (counted t (step p s d)))
 
 -- a defined end agrees with itself
 pub run-agrees : (p : List ℕ) (k : ℕ) (s : List ℕ) (d : Device) (t : Totals) → Agrees (rules p (view (run p k s d t .store))) Ended.Refused (run p k s d t .ended) (run p k s d t .ended)

@@ -10,8 +10,8 @@ use Rattle.model.specs.Calls.{Ran as Defined}
 use Rattle.model.specs.Control.{rules}
 use Rattle.model.specs.Store.{view}
 use Rattle.model.specs.declared.Ended.{Ended}
-use Rattle.runtime.specs.declared.run.Ran.{Ran}
-use Rattle.runtime.specs.declared.run.Turns.{Turns}
+use Rattle.runtime.specs.declared.Ran.{Ran}
+use Rattle.runtime.specs.declared.Turns.{Turns}
 
 -- with registers r and the words s
 abbrev pub afterTurns : Turns → List ℕ → List ℕ → Defined

@@ -1,67 +1,142 @@
-// Step: document 01's four cases, first that applies, over a program, a lent store and a device.
+// Step and run over a program, a lent store and a device. Step: document 01's four cases, first that applies. Run: "repeats steps up to a
+// budget (32 bits) and returns the count of steps made, with spent or the refusal".
+// The device is taken apart once and put together once; between, the registers are lent and the totals go by value. The early checks
+// aren't repeated where the last answer tells that they pass.
 ghost use Prim.Native.Nat.{ℕ};
+ghost use mathlib.Core.Bool.{true};
 ghost use mathlib.Core.List.{List};
 ghost use mathlib.Core.Path.{_≡_};
-ghost use Rattle.model.specs.Device.{placeStep, nextStep, step};
-ghost use Rattle.model.specs.Store.{view};
+ghost use Rattle.model.specs.Calls.{unlessRefused, run};
+ghost use Rattle.model.specs.Claims.{soundAfter};
+ghost use Rattle.model.specs.Device.{look, step};
 ghost use Rattle.device.specs.Agree.{Performs};
-ghost use Rattle.device.specs.Looked.{Looked};
 ghost use Rattle.device.specs.Turn.{device, after, afterCall, result};
-ghost use Rattle.runtime.specs.Ran.{afterLast};
-use body;
+ghost use Rattle.runtime.specs.Ran.{afterTurns, afterLast, RunPerforms};
 use device::Core;
 use device::Stepped;
 use device::Turn;
 use device::look;
+use device::turns;
 use model::Answer;
+use model::Checked;
 use model::Device;
-use model::Handler;
-use model::Place;
+use model::Ended;
 use model::Totals;
-use run::Turns;
 
-pub mod copying;
-pub mod run;
-pub mod steps;
+mod copying;
+mod steps;
 
-// With no body running: in phase 0 one is chosen, else a commit makes its next store.
-fn free_step(p: &[u16], s: &mut [u16], r: &mut [u16; 8], c: Core, n: u16) -> Turn
-    requires { ⌜ Looked (now p) (now s) (device c (now r)) ⌝ }
-    requires { ⌜ c .place ≡ Place.Free n ⌝ }
-    ensures { λ t. ⌜ after t (now (r .exit)) (now (s .exit)) ≡ result (now (s .entry)) (placeStep (now (p .entry)) (view (now (s .entry))) (device c (now (r .entry))) (Place.Free n)) ⌝ }
+// What steps leave: the answer of the last one, refused or not; how many were made and how they ended; the device, apart from its
+// registers, and the totals.
+struct Turns {
+    pub last: Answer,
+    pub steps: u32,
+    pub ended: Ended,
+    pub core: Core,
+    pub totals: Totals,
+}
+
+// What a run answers, with the whole device and the totals after it.
+pub struct Ran {
+    pub steps: u32,
+    pub ended: Ended,
+    pub device: Device,
+    pub totals: Totals,
+}
+
+// Is an answer a refusal?
+fn refusal(a: Answer) -> Checked
+    ensures { λ x. ⌜ x ≡ unlessRefused a Checked.Refused Checked.Accepted ⌝ }
 {
-    if s[8] == 0 {
-        return steps::choose_step(p, s, r, c);
+    match a {
+        Answer::Done => Checked::Accepted,
+        Answer::Chosen(_) => Checked::Accepted,
+        Answer::Worked => Checked::Accepted,
+        Answer::Stored => Checked::Accepted,
+        Answer::Committed(_) => Checked::Accepted,
+        Answer::Accepted => Checked::Accepted,
+        Answer::Refused(why) => Checked::Refused(why),
     }
-    copying::copy_step(p, s, r, c, n)
 }
 
-// The step of a handler at rest.
-fn place_step(p: &[u16], s: &mut [u16], r: &mut [u16; 8], c: Core) -> Turn
-    requires { ⌜ Looked (now p) (now s) (device c (now r)) ⌝ }
-    ensures { λ t. ⌜ after t (now (r .exit)) (now (s .exit)) ≡ result (now (s .entry)) (placeStep (now (p .entry)) (view (now (s .entry))) (device c (now (r .entry))) (c .place)) ⌝ }
+// Do the early checks of the next step pass after this answer?
+fn sound_after(a: Answer) -> bool
+    ensures { λ x. ⌜ x ≡ soundAfter a ⌝ }
 {
-    let place = c.place;
-    let Place::Free(n) = place else {
-        return body::body_step(p, s, r, c);
-    };
-    free_step(p, s, r, c, n)
+    match a {
+        Answer::Done => false,
+        Answer::Chosen(_) => true,
+        Answer::Worked => true,
+        Answer::Stored => true,
+        Answer::Committed(_) => false,
+        Answer::Accepted => true,
+        Answer::Refused(_) => false,
+    }
 }
 
-// "First that applies", after the early checks.
-fn next_step(p: &[u16], s: &mut [u16], r: &mut [u16; 8], c: Core) -> Turn
-    requires { ⌜ Looked (now p) (now s) (device c (now r)) ⌝ }
-    ensures { λ t. ⌜ after t (now (r .exit)) (now (s .exit)) ≡ result (now (s .entry)) (nextStep (now (p .entry)) (view (now (s .entry))) (device c (now (r .entry))) (c .handler)) ⌝ }
+// The early checks of a step, unless they are known to pass.
+fn look_unless(p: &[u16], s: &[u16], r: &[u16; 8], c: Core, known: bool) -> Checked
+    requires { ⌜ (known ≡ true → look (now p) (now s) (device c (now r)) ≡ Checked.Accepted) ⌝ }
+    ensures { λ x. ⌜ x ≡ look (now (p .entry)) (now (s .entry)) (device c (now (r .entry))) ⌝ }
 {
-    let handler = c.handler;
-    match handler {
-        Handler::Resting => place_step(p, s, r, c),
-        Handler::Storing(n, e, x) => steps::handler_step(s, c, n, e, x),
+    if known {
+        return Checked::Accepted;
+    }
+    look::look(p, s, r, c)
+}
+
+// A step on lent registers.
+fn step_known(p: &[u16], s: &mut [u16], r: &mut [u16; 8], c: Core, known: bool) -> Turn
+    requires { ⌜ (known ≡ true → look (now p) (now s) (device c (now r)) ≡ Checked.Accepted) ⌝ }
+    ensures { λ t. ⌜ after t (now (r .exit)) (now (s .exit)) ≡ result (now (s .entry)) (step (now (p .entry)) (now (s .entry)) (device c (now (r .entry)))) ⌝ }
+{
+    let found = look_unless(p, s, r, c, known);
+    match found {
+        Checked::Accepted => steps::next_step(p, s, r, c),
+        Checked::Refused(why) => turns::refused(c, why),
+    }
+}
+
+// Steps on lent registers, up to a budget. A single step is a budget of 1: so the code of a step stands in one place, in the loop, and
+// what it leaves needs no copy from step to step.
+fn run_in(p: &[u16], s: &mut [u16], r: &mut [u16; 8], c: Core, t: Totals, budget: u32) -> Turns
+    ensures { λ x. ⌜ afterTurns x (now (r .exit)) (now (s .exit)) ≡ run (now (p .entry)) budget (now (s .entry)) (device c (now (r .entry))) t ⌝ }
+    ensures { λ x. ⌜ (budget ≡ 1 → afterLast x (now (r .exit)) (now (s .exit)) ≡ result (now (s .entry)) (step (now (p .entry)) (now (s .entry)) (device c (now (r .entry))))) ⌝ }
+{
+    let mut last = Answer::Done;
+    let mut core = c;
+    let mut totals = t;
+    let mut steps: u32 = 0;
+    let mut known = false;
+    while steps < budget {
+        let turn = step_known(p, s, r, core, known);
+        last = turn.answer;
+        core = turn.core;
+        let found = refusal(last);
+        if let Checked::Refused(why) = found {
+            return Turns {
+                last,
+                steps,
+                ended: Ended::Refused(why),
+                core,
+                totals,
+            };
+        }
+        totals = totals::counted(totals, last);
+        known = sound_after(last);
+        steps += 1;
+    }
+    Turns {
+        last,
+        steps,
+        ended: Ended::Spent,
+        core,
+        totals,
     }
 }
 
 // A device from its core and its registers.
-pub fn whole(c: Core, regs: [u16; 8]) -> Device
+fn whole(c: Core, regs: [u16; 8]) -> Device
     ensures { λ d. ⌜ d ≡ device c regs ⌝ }
 {
     let place = c.place;
@@ -95,6 +170,23 @@ pub fn step(p: &[u16], s: &mut [u16], d: Device) -> Stepped
         accepted: 0,
         stores: 0,
     };
-    let t = run::run_in(p, s, &mut r, look::core_of(d), zero, 1);
+    let t = run_in(p, s, &mut r, look::core_of(d), zero, 1);
     packed(t, r)
+}
+
+// Run, on the lent words.
+pub fn run(p: &[u16], s: &mut [u16], d: Device, t: Totals, budget: u32) -> Ran
+    ensures { λ x. ⌜ RunPerforms (now (p .entry)) (run (now (p .entry)) budget (now (s .entry)) d t) x (now (s .exit)) ⌝ }
+{
+    let mut r = d.regs;
+    let turns = run_in(p, s, &mut r, look::core_of(d), t, budget);
+    let ended = turns.ended;
+    let core = turns.core;
+    let totals = turns.totals;
+    Ran {
+        steps: turns.steps,
+        ended,
+        device: whole(core, r),
+        totals,
+    }
 }

@@ -1,14 +1,16 @@
-// The steps that run no instruction: a handler's stores, a commit's stores in phases 1 and 2, and choosing.
-// Each makes its own store, at most one, on the lent words.
+// A step past its early checks: document 01's four cases, "first that applies". Each makes its own store, at most one, on the lent words.
+// A commit's stores in phases 1 and 2 are in copying.rt, a running body's in the crate body.
 ghost use Prim.Native.Nat.{ℕ, _≤_};
 ghost use mathlib.Core.List.{List};
 ghost use mathlib.Core.Path.{_≡_};
-ghost use Rattle.model.specs.Device.{handlerStep, copyStep, chooseStep, begun, turnedOn};
+ghost use Rattle.model.specs.Device.{handlerStep, chooseStep, begun, placeStep, nextStep};
 ghost use Rattle.model.specs.Program.{word};
 ghost use Rattle.model.specs.Store.{view};
 ghost use Rattle.store.specs.Shaped.{Shaped};
 ghost use Rattle.device.specs.Looked.{Looked};
 ghost use Rattle.device.specs.Turn.{device, after, result};
+use super::copying;
+use body;
 use device::Core;
 use device::Turn;
 use device::turns;
@@ -88,4 +90,40 @@ pub fn choose_step(p: &[u16], s: &[u16], r: &mut [u16; 8], c: Core) -> Turn
         return turns::refused(c, Refusal::Control(s[7] + 2 * head));
     }
     begin(r, c, Body::Event(e), queue::datum(s, head))
+}
+
+// With no body running: in phase 0 one is chosen, else a commit makes its next store.
+fn free_step(p: &[u16], s: &mut [u16], r: &mut [u16; 8], c: Core, n: u16) -> Turn
+    requires { ⌜ Looked (now p) (now s) (device c (now r)) ⌝ }
+    requires { ⌜ c .place ≡ Place.Free n ⌝ }
+    ensures { λ t. ⌜ after t (now (r .exit)) (now (s .exit)) ≡ result (now (s .entry)) (placeStep (now (p .entry)) (view (now (s .entry))) (device c (now (r .entry))) (Place.Free n)) ⌝ }
+{
+    if s[8] == 0 {
+        return choose_step(p, s, r, c);
+    }
+    copying::copy_step(p, s, r, c, n)
+}
+
+// The step of a handler at rest.
+fn place_step(p: &[u16], s: &mut [u16], r: &mut [u16; 8], c: Core) -> Turn
+    requires { ⌜ Looked (now p) (now s) (device c (now r)) ⌝ }
+    ensures { λ t. ⌜ after t (now (r .exit)) (now (s .exit)) ≡ result (now (s .entry)) (placeStep (now (p .entry)) (view (now (s .entry))) (device c (now (r .entry))) (c .place)) ⌝ }
+{
+    let place = c.place;
+    let Place::Free(n) = place else {
+        return body::body_step(p, s, r, c);
+    };
+    free_step(p, s, r, c, n)
+}
+
+// "First that applies", after the early checks.
+pub fn next_step(p: &[u16], s: &mut [u16], r: &mut [u16; 8], c: Core) -> Turn
+    requires { ⌜ Looked (now p) (now s) (device c (now r)) ⌝ }
+    ensures { λ t. ⌜ after t (now (r .exit)) (now (s .exit)) ≡ result (now (s .entry)) (nextStep (now (p .entry)) (view (now (s .entry))) (device c (now (r .entry))) (c .handler)) ⌝ }
+{
+    let handler = c.handler;
+    match handler {
+        Handler::Resting => place_step(p, s, r, c),
+        Handler::Storing(n, e, x) => handler_step(s, c, n, e, x),
+    }
 }

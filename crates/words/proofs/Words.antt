@@ -1,6 +1,4 @@
--- The words of a device state are its own. `back`: the words of a device state are read as that state, so no two states share their
--- words. `forth`: 18 words that are read as a device state are its words. `other`: 18 words that are no device state's are read as
--- none. Assumes nothing.
+-- The words of a device state are its own: `back`, `forth` and `other`, stated in specs/Words.antt. Assumes nothing.
 use Prim.Native.Nat.{ℕ}
 use mathlib.Core.Bool.{Bool, true, false}
 use mathlib.Core.List.{List, _∷_, _++_}
@@ -13,7 +11,7 @@ use Rattle.model.specs.Test.{pick, _and_}
 use Rattle.model.specs.declared.Device.{Device}
 use Rattle.words.specs.declared.Read.{Read}
 use Rattle.words.specs.Words.{flag, placeWords, handlerWords, deviceWords}
-use Rattle.words.specs.Words.{isPlace, isHandler, known, unknown, isState, stateOf, deviceOf}
+use Rattle.words.specs.Words.{isPlace, isHandler, known, unknown, isState, stateOf, deviceOf, Back, Forth, Other}
 use Rattle.words.proofs.Parts.{spelt, spelt-all, place-spelt, handler-spelt}
 use Rattle.words.proofs.Parts.{flag-is, flag-back, flag-forth, place-is, place-back, place-forth}
 use Rattle.words.proofs.Parts.{handler-is, handler-back, handler-forth}
@@ -30,7 +28,7 @@ written-all : (d : Device) → deviceWords d ≡ written d
 unfolding deviceWords spelt
 written-all d = sym (simp (place-spelt, handler-spelt))
 
-pub back : (d : Device) → length (d .regs) ≡ 8 → deviceOf (deviceWords d) ≡ known d
+pub back : Back
 unfolding deviceOf isState stateOf spelt pick _and_
 back d h =
     rw (written-all d)
@@ -52,7 +50,7 @@ state-forth w h e =
     )
     (spelt-all w 18 h)
 
-pub forth : (w : List ℕ) (d : Device) → length w ≡ 18 → deviceOf w ≡ known d → deviceWords d ≡ w
+pub forth : Forth
 unfolding deviceOf pick
 forth w d h e = go (isState w) refl
   where
@@ -64,7 +62,7 @@ forth w d h e = go (isState w) refl
         let k : unknown ≡ known d = rw t at e in
         clash refl (sym (ap (λ (r : Read). r .found) k))
 
-pub other : (w : List ℕ) → length w ≡ 18 → ((d : Device) → length (d .regs) ≡ 8 → deviceWords d ≡ w → ⊥) → deviceOf w ≡ unknown
+pub other : Other
 unfolding deviceOf stateOf pick
 other w h apart = go (isState w) refl
   where

@@ -1,10 +1,12 @@
--- Device states, answers and refusals as words, for a boundary that no enum crosses; conformance/include/runtime.h has the forms for C.
+-- Device states, answers and refusals as words, for a boundary that no enum crosses; include/runtime.h has the forms for C.
 -- What a case doesn't have is 0. A refusal's number and place are those of the model's Answer.antt. Words that aren't the words
--- of some device state stand for none: proofs/Words.antt has that, and that a device state is read back from its words. Assumes nothing.
+-- of some device state stand for none: `Back`, `Forth` and `Other` say that a device state has one form. Assumes nothing.
 use Prim.Native.Nat.{ℕ}
 use mathlib.Core.Bool.{Bool, true, false}
 use mathlib.Core.List.{List, [], _∷_, _++_}
+use mathlib.Core.Path.{_≡_}
 use lib.Dec.{eqb, leb}
+use lib.ListN.{length}
 use Rattle.model.specs.Answer.{refusal}
 use Rattle.model.specs.Device.{off}
 use Rattle.model.specs.Program.{word}
@@ -114,6 +116,18 @@ stateOf w =
 -- the device state whose words these are, if there is one
 unfoldable pub deviceOf : List ℕ → Read
 deviceOf w = pick (isState w) (known (stateOf w)) unknown
+
+-- a device state is read back from its words, so no two states share their words
+abbrev pub Back : Type 0
+Back = (d : Device) → length (d .regs) ≡ 8 → deviceOf (deviceWords d) ≡ known d
+
+-- 18 words that are read as a device state are its words
+abbrev pub Forth : Type 0
+Forth = (w : List ℕ) (d : Device) → length w ≡ 18 → deviceOf w ≡ known d → deviceWords d ≡ w
+
+-- 18 words that are no device state's are read as none
+abbrev pub Other : Type 0
+Other = (w : List ℕ) → length w ≡ 18 → ((d : Device) → length (d .regs) ≡ 8 → deviceWords d ≡ w → ⊥) → deviceOf w ≡ unknown
 
 -- ---- Answers as 5 words: case, kind of body, number (of the body or of the refusal), place (two words)
 

@@ -49,14 +49,14 @@ use Rattle.model.proofs.Totals.Laws as totals-laws
 use Rattle.model.specs.Calls.{run}
 use Rattle.model.specs.declared.Device.{Device}
 use Rattle.model.specs.declared.Totals.{Totals}
-use Rattle.runtime.proofs.run.Ran as ran
-use Rattle.runtime.proofs.run.Ran.Laws as ran-laws
-use Rattle.runtime.proofs.run.run as called
-use Rattle.runtime.proofs.run.run.Met as called-met
-use Rattle.runtime.proofs.run.run.Symbol as called-symbol
-use Rattle.runtime.proofs.run.run.Symbol.{name as #called}
+use Rattle.runtime.proofs.Ran as ran
+use Rattle.runtime.proofs.Ran.Laws as ran-laws
+use Rattle.runtime.proofs.run as called
+use Rattle.runtime.proofs.run.Met as called-met
+use Rattle.runtime.proofs.run.Symbol as called-symbol
+use Rattle.runtime.proofs.run.Symbol.{name as #called}
 use Rattle.runtime.specs.Ran.{RunPerforms}
-use Rattle.runtime.specs.declared.run.Ran.{Ran}
+use Rattle.runtime.specs.declared.Ran.{Ran}
 use Rattle.host.proofs.Values.{deviceVal, sliceOf}
 use Rattle.host.proofs.run as this
 use Rattle.host.proofs.run.Code as code
@@ -221,4 +221,4 @@ run-spec 𝓤 H 𝓜 𝓖 𝓡 =
     entered 𝓤 H (tripleOf 𝓤 H (𝓖 .A) this.signature (this.spec 𝓤 H (𝓖 .A) (𝓜 .mem) (𝓡 .run)))
     (tables 𝓤 H 𝓜 𝓡 code.env .C) (tables 𝓤 H 𝓜 𝓡 code.env .Λ) #this code.function (code.unfolded 𝓤 H 𝓜 𝓡)
     (meets 𝓤 H (𝓖 .A) W (𝓜 .mem) (𝓡 .run) (tablesOf 𝓤 H 𝓜 (tables 𝓤 H 𝓜 𝓡 code.env))
-    (cited 𝓤 H (Run 𝓤 H (𝓖 .A) W (𝓜 .mem) (𝓡 .run)) 𝓜 𝓡 code.env #called called-symbol.routine code.calls-runtime·run·run (called-met.met 𝓤 H 𝓜 𝓖 𝓡)))
+    (cited 𝓤 H (Run 𝓤 H (𝓖 .A) W (𝓜 .mem) (𝓡 .run)) 𝓜 𝓡 code.env #called called-symbol.routine code.calls-runtime·run (called-met.met 𝓤 H 𝓜 𝓖 𝓡)))

@@ -1,8 +1,8 @@
 -- `run::look_unless` meets its contract. Assumes nothing.
 use mathlib.Core.Path.{sym}
 use borrow.Author.Needs.{needs}
-use Rattle.runtime.proofs.run.look_unless.Statement.{statement}
-use Rattle.runtime.proofs.run.look_unless.Tie as tie
+use Rattle.runtime.proofs.look_unless.Statement.{statement}
+use Rattle.runtime.proofs.look_unless.Tie as tie
 
 returns : tie.Need-returns
 returns c = sym (c .before .before .before .pre (c .if1 .taken))

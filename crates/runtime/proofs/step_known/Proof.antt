@@ -8,8 +8,8 @@ use Rattle.model.specs.Device.{Out}
 use Rattle.model.specs.Store.{settled}
 use Rattle.runtime.proofs.Cases.{step-goes, step-refused}
 use borrow.Author.Needs.{needs}
-use Rattle.runtime.proofs.run.step_known.Statement.{statement}
-use Rattle.runtime.proofs.run.step_known.Tie as tie
+use Rattle.runtime.proofs.step_known.Statement.{statement}
+use Rattle.runtime.proofs.step_known.Tie as tie
 
 look-unless-requires : tie.Need-look-unless-requires
 look-unless-requires c κs = c .before .before .before .before .pre

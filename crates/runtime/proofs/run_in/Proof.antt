@@ -22,8 +22,8 @@ use Rattle.model.proofs.LookStays.{look-stays}
 use Rattle.model.specs.Claims.{soundAfter}
 use Rattle.totals.specs.Told.{told}
 use borrow.Author.Needs.{needs}
-use Rattle.runtime.proofs.run.run_in.Statement.{statement}
-use Rattle.runtime.proofs.run.run_in.Tie as tie
+use Rattle.runtime.proofs.run_in.Statement.{statement}
+use Rattle.runtime.proofs.run_in.Tie as tie
 
 abbrev leaves : Answer → Device → List ℕ → Result
 leaves a d s = record { answer = a; device = d; store = s }

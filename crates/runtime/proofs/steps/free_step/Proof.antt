@@ -6,8 +6,8 @@ use Rattle.model.specs.Device.{Out}
 use Rattle.model.specs.Store.{view}
 use Rattle.runtime.proofs.Cases.{free-chooses, free-copies}
 use borrow.Author.Needs.{needs}
-use Rattle.runtime.proofs.free_step.Statement.{statement}
-use Rattle.runtime.proofs.free_step.Tie as tie
+use Rattle.runtime.proofs.steps.free_step.Statement.{statement}
+use Rattle.runtime.proofs.steps.free_step.Tie as tie
 
 slice-read-if1 : tie.Need-slice-read-if1
 slice-read-if1 c = search needs

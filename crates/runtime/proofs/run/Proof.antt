@@ -9,8 +9,8 @@ use Rattle.model.specs.declared.Device.{Device}
 use Rattle.model.specs.declared.Ended.{Ended}
 use Rattle.runtime.proofs.Runs.{run-agrees}
 use borrow.Author.Needs.{needs}
-use Rattle.runtime.proofs.run.run.Statement.{statement}
-use Rattle.runtime.proofs.run.run.Tie as tie
+use Rattle.runtime.proofs.run.Statement.{statement}
+use Rattle.runtime.proofs.run.Tie as tie
 
 core-of-requires : tie.Need-core-of-requires
 core-of-requires c κs = search needs

@@ -1,8 +1,8 @@
--- `run::sound_after` meets its contract, by the answer. Assumes nothing.
-use Rattle.model.specs.Claims.{soundAfter}
+-- `run::refusal` meets its contract, by the answer. Assumes nothing.
+use Rattle.model.specs.Calls.{unlessRefused}
 use borrow.Author.Needs.{needs}
-use Rattle.runtime.proofs.run.sound_after.Statement.{statement}
-use Rattle.runtime.proofs.run.sound_after.Tie as tie
+use Rattle.runtime.proofs.refusal.Statement.{statement}
+use Rattle.runtime.proofs.refusal.Tie as tie
 
 enum-told : tie.Need-enum-told
 enum-told c = search needs
@@ -22,39 +22,39 @@ enum-told-5 c = search needs
 enum-told-6 : tie.Need-enum-told-6
 enum-told-6 c = search needs
 
-enum-told-7 : tie.Need-enum-told-7
-enum-told-7 c = search needs
+enum-known-a : tie.Need-enum-known-a
+enum-known-a c = search needs
 
 returns : tie.Need-returns
-unfolding soundAfter
+unfolding unlessRefused
 returns c = simp (c .enum-told .given .1)
 
 returns-2 : tie.Need-returns-2
-unfolding soundAfter
+unfolding unlessRefused
 returns-2 c = simp (c .enum-told2 .given .1)
 
 returns-3 : tie.Need-returns-3
-unfolding soundAfter
+unfolding unlessRefused
 returns-3 c = simp (c .enum-told3 .given .1)
 
 returns-4 : tie.Need-returns-4
-unfolding soundAfter
+unfolding unlessRefused
 returns-4 c = simp (c .enum-told4 .given .1)
 
 returns-5 : tie.Need-returns-5
-unfolding soundAfter
+unfolding unlessRefused
 returns-5 c = simp (c .enum-told5 .given .1)
 
 returns-6 : tie.Need-returns-6
-unfolding soundAfter
+unfolding unlessRefused
 returns-6 c = simp (c .enum-told6 .given .1)
 
 returns-7 : tie.Need-returns-7
-unfolding soundAfter
-returns-7 c = simp (c .enum-told7 .given .1)
+unfolding unlessRefused
+returns-7 c = simp (c .before .a .given .1)
 
-pub sound-after-spec : {M : Type 1} → statement M
-sound-after-spec =
+pub refusal-spec : {M : Type 1} → statement M
+refusal-spec =
     tie.close
     (tie.spec
     enum-told
@@ -63,7 +63,7 @@ sound-after-spec =
     enum-told-4
     enum-told-5
     enum-told-6
-    enum-told-7
+    enum-known-a
     returns
     returns-2
     returns-3

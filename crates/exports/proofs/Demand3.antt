@@ -1,0 +1,268 @@
+-- Demand 3 of the exported functions: each exported call does what the definition's call does, for 7 with its free place doesn't come up on such
+-- a store; the rest is model's `observed`. It cites: words-stay-words, back, run-is-steps, totals-are-counts, observed. Assumes nothing.
+use Prim.Native.Nat.{ℕ, zero, suc, _+_, _^_, _≤_, _<_}
+use denote.Ref.{now}
+use lib.Dec.{eqb}
+use lib.ListN.{length, replicate}
+use mathlib.Core.Bool.{Bool, true, false}
+use mathlib.Core.List.{List, [], _∷_, _++_, append-assoc, append-nil}
+use mathlib.Core.Logic.{_≢_}
+use mathlib.Core.Path.{_≡_, refl, sym, ap, _∙_, subst}
+use native.Mathlib.Omega.{arith}
+use Rattle.device.specs.Agree.{Agrees, Performs}
+use Rattle.device.specs.Turn.{Result, afterCall}
+use Rattle.device.specs.declared.Stepped.{Stepped}
+use Rattle.exports.specs.Demand3.{Held, Exchange, single, run-of, Makes, MakesAll, callsOf, allCalls, Answered, AllAnswered, RecoversTo, ExportsObserved, atFirst, Demand3OfExports}
+use Rattle.exports.specs.Exported.{OnDevice, Told, RunTold, totalsOf, totalsWords}
+use Rattle.model.proofs.CallLaws.{after-append, totals-append, boot-counts-nothing, cut-counts-nothing, post-counts-nothing, run-is-steps, totals-are-counts}
+use Rattle.model.proofs.Demand3.{demand3}
+use Rattle.model.proofs.Observed.{observed}
+use Rattle.model.proofs.Words.{fresh-device-words, words-stay-words, format-stays-words}
+use Rattle.model.specs.Answer.{refusal}
+use Rattle.model.specs.Calls.{Call, Boot, Step, Cut, Post, Now, call, afterCalls, steps, noTotals, counted, totalsAfter, Ran as Defined, run}
+use Rattle.model.specs.Claims.{Words, DeviceWords, CallWords, EndedSo, IsSteps, AreCounts}
+use Rattle.model.specs.Demand3.{isIn, mayMeet, Expected, Left, recoverySteps, recovering}
+use Rattle.model.specs.Device.{Out, fresh, off, boot, cut, post, step}
+use Rattle.model.specs.Program.{word}
+use Rattle.model.specs.Store.{view, Write, none, settled, format, formatCheck}
+use Rattle.model.specs.Test.{pick, _or_}
+use Rattle.model.specs.declared.Answer.{Answer}
+use Rattle.model.specs.declared.Checked.{Checked}
+use Rattle.model.specs.declared.Device.{Device}
+use Rattle.model.specs.declared.Ended.{Ended}
+use Rattle.model.specs.declared.Refusal.{Refusal}
+use Rattle.model.specs.declared.Totals.{Totals}
+use Rattle.words.proofs.Words.{back}
+use Rattle.words.specs.Words.{flag, placeWords, handlerWords, deviceOf, known, deviceWords, answerWords, endedWords, refusedWords, checkedWords}
+
+-- ---- 7 doesn't come up
+
+no-control : (c : Call) (w : ℕ) (a : Answer) → Expected c a → a ≡ Answer.Refused (Refusal.Control w) → ⊥
+unfolding isIn mayMeet refusal _or_
+no-control c w a h e = by-call c (subst (Expected c) e h)
+  where
+    by-call : (c : Call) → Expected c (Answer.Refused (Refusal.Control w)) → ⊥
+    by-call Boot h = let z : _≡_ {A = ℕ} 0 1 = cc in omega arith
+    by-call Step h = let z : _≡_ {A = ℕ} 0 1 = cc in omega arith
+    by-call Cut h = let z : _≡_ {A = ℕ} 0 1 = cc in omega arith
+    by-call (Post e x) h = let z : _≡_ {A = ℕ} 0 1 = cc in omega arith
+
+-- ---- what a host holds after the calls cs on the fresh store s is what the definitions have
+
+record At (p s : List ℕ) (cs : List Call) (h : Held) : Type 0 where
+  store : h .store ≡ afterCalls p s off cs .store
+  device : h .device ≡ deviceWords (afterCalls p s off cs .device)
+  totals : h .totals ≡ totalsWords (totalsAfter p s off cs noTotals)
+  words : Words (afterCalls p s off cs .store)
+  device-words : DeviceWords (afterCalls p s off cs .device)
+
+-- and after one more
+record Did (p s : List ℕ) (cs : List Call) (c : Call) (a : List ℕ) (g : Held) : Type 0 where
+  answered : a ≡ answerWords (call p (afterCalls p s off cs .store) (afterCalls p s off cs .device) c .answer)
+  store : g .store ≡ settled (afterCalls p s off cs .store) (call p (afterCalls p s off cs .store) (afterCalls p s off cs .device) c .write)
+  device : g .device ≡ deviceWords (call p (afterCalls p s off cs .store) (afterCalls p s off cs .device) c .device)
+  totals : g .totals ≡ totalsWords (counted (totalsAfter p s off cs noTotals) (call p (afterCalls p s off cs .store) (afterCalls p s off cs .device) c))
+
+totals-read : (t : Totals) → totalsOf (totalsWords t) ≡ t
+unfolding totalsOf totalsWords
+totals-read t = refl
+
+steps-words : (p : List ℕ) → Words p → (n : ℕ) (s : List ℕ) (d : Device) → Words s → DeviceWords d
+    → Words (afterCalls p s d (steps n) .store) × DeviceWords (afterCalls p s d (steps n) .device)
+unfolding afterCalls steps
+steps-words p ps zero s d ss ds = (ss, ds)
+steps-words p ps (suc n) s d ss ds =
+    let h = words-stay-words p s d Step ps ss ds tt in
+    steps-words p ps n (settled s (call p s d Step .write)) (call p s d Step .device) (h .store) (h .device)
+
+module _ (p : List ℕ) (ps : Words p) (l q : ℕ) (before : List ℕ) (e : formatCheck p l q before ≡ Checked.Accepted) where
+  abbrev s : List ℕ
+  s = format p l q before
+
+  module _ (cs : List Call) (h : Held) (at : At p s cs h) where
+    abbrev S : List ℕ
+    S = afterCalls p s off cs .store
+
+    abbrev D : Device
+    D = afterCalls p s off cs .device
+
+    abbrev T : Totals
+    T = totalsAfter p s off cs noTotals
+
+    read : deviceOf (h .device) ≡ known D
+    read = ap deviceOf (at .device) ∙ back D (at .device-words .regs-length)
+
+    -- ---- a call of its own
+
+    did : (c : Call) (a : List ℕ) (g : Held) (z : List ℕ) → Told p (h .store) (call p (h .store) D c) a (g .device) z → g .store ≡ z
+        → g .totals ≡ totalsWords (counted T (call p S D c)) → Did p s cs c a g
+    did c a g z told stays totals =
+        let (r, performs, said, device) =
+        subst (λ (u : List ℕ). Told p u (call p u D c) a (g .device) z) (at .store) told in
+        record {
+          answered = said ∙ ap answerWords (performs .answer .same (λ w f. no-control c w _ (demand3 p l q before e cs .refusals c) f));
+          store = stays ∙ performs .store;
+          device = device ∙ ap deviceWords (performs .device);
+          totals = totals;
+        }
+
+    unread : (g : Held) (o : Out) → g .totals ≡ h .totals → counted T o ≡ T → g .totals ≡ totalsWords (counted T o)
+    unread g o stays same = stays ∙ at .totals ∙ ap totalsWords (sym same)
+
+    did-single : (c : Call) (a : List ℕ) (g : Held) → Makes p h (single c a) g → Did p s cs c a g
+    unfolding call cut settled
+    did-single Boot a g (b, stays, totals) =
+        did Boot a g (h .store) (b .state D read) stays (unread g (boot p S D) totals (boot-counts-nothing p S D T))
+    did-single Step a g b =
+        let (told, totals) = b .state D read in
+        let same : totalsWords (counted (totalsOf (h .totals)) (step p (h .store) D)) ≡ totalsWords (counted T (step p S D)) =
+        ap (λ (t : Totals). totalsWords (counted t (step p (h .store) D))) (ap totalsOf (at .totals) ∙ totals-read T)
+        ∙ ap (λ (u : List ℕ). totalsWords (counted T (step p u D))) (at .store) in
+        did Step a g (g .store) told refl (totals ∙ same)
+    did-single Cut a g ((said, device), stays, totals) =
+        record { answered = said; store = stays ∙ at .store; device = device; totals = unread g cut totals (cut-counts-nothing T) }
+    did-single (Post n v) a g (b, stays, totals, _) =
+        did (Post n v) a g (h .store) (b .state D read) stays (unread g (post p S D n v) totals (post-counts-nothing p S D n v T))
+
+    single-words : (c : Call) (a : List ℕ) (g : Held) → Makes p h (single c a) g → CallWords c
+    single-words Boot a g m = tt
+    single-words Step a g m = tt
+    single-words Cut a g m = tt
+    single-words (Post n v) a g (b, stays, totals, ws) = ws
+
+    at-single : (c : Call) (a : List ℕ) (g : Held) → CallWords c → Did p s cs c a g → At p s (cs ++ (c ∷ [])) g
+    unfolding afterCalls totalsAfter
+    at-single c a g ws m =
+        let w = words-stay-words p S D c ps (at .words) (at .device-words) ws in
+        let now-is = after-append p s off cs (c ∷ []) in
+        record {
+          store = m .store ∙ sym (ap (λ (x : Now). x .store) now-is);
+          device = m .device ∙ sym (ap (λ (x : Now). deviceWords (x .device)) now-is);
+          totals = m .totals ∙ sym (ap totalsWords (totals-append p s off cs (c ∷ []) noTotals));
+          words = subst (λ (x : Now). Words (x .store)) (sym now-is) (w .store);
+          device-words = subst (λ (x : Now). DeviceWords (x .device)) (sym now-is) (w .device);
+        }
+
+    -- ---- a run
+
+    module _ (b : ℕ) where
+      abbrev ran : Defined
+      ran = run p b S D T
+
+      ran-is : IsSteps p b S D T ran
+      ran-is = run-is-steps p b S D T
+
+      -- the state that it leaves is that behind its steps
+      ran-now : afterCalls p s off (cs ++ steps (ran .steps)) ≡ record { store = ran .store; device = ran .device }
+      ran-now =
+          after-append p s off cs (steps (ran .steps))
+          ∙ (λ i. record { store = sym (ran-is .store) i; device = sym (ran-is .device) i })
+
+      no-control-in : (w : ℕ) → ran .ended ≡ Ended.Refused (Refusal.Control w) → ⊥
+      unfolding call
+      no-control-in w f =
+          let (less, answered) = subst (EndedSo p b ran) f (ran-is .ended) in
+          let met = demand3 p l q before e (cs ++ steps (ran .steps)) .refusals Step in
+          no-control Step w _ (subst (λ (x : Now). Expected Step (call p (x .store) (x .device) Step .answer)) ran-now met) answered
+
+      did-run : (n : ℕ) (a : List ℕ) (g : Held) → RunTold p ran n a (g .device) (g .store) (g .totals)
+          → Answered p s cs (run-of b n a) × At p s (cs ++ steps n) g
+      did-run n a g (r, performs, count, said, device, totals) =
+          let count-is : n ≡ ran .steps = count ∙ performs .steps in
+          let ws = steps-words p ps (ran .steps) S D (at .words) (at .device-words) in
+          let now-is = after-append p s off cs (steps (ran .steps)) in
+          let left : At p s (cs ++ steps (ran .steps)) g =
+          record {
+            store = performs .store ∙ sym (ap (λ (x : Now). x .store) ran-now);
+            device = device ∙ ap deviceWords (performs .device) ∙ sym (ap (λ (x : Now). deviceWords (x .device)) ran-now);
+            totals =
+                totals
+                ∙ ap totalsWords (performs .totals ∙ ran-is .totals ∙ sym (totals-append p s off cs (steps (ran .steps)) noTotals));
+            words = subst (λ (x : Now). Words (x .store)) (sym now-is) (ws .0);
+            device-words = subst (λ (x : Now). DeviceWords (x .device)) (sym now-is) (ws .1);
+          } in (
+            (count-is, said ∙ ap endedWords (performs .ended .same no-control-in)),
+            subst (λ (k : ℕ). At p s (cs ++ steps k) g) (sym count-is) left,
+          )
+
+    run-read : (b n : ℕ) (a : List ℕ) (g : Held) → Makes p h (run-of b n a) g → RunTold p (ran b) n a (g .device) (g .store) (g .totals)
+    run-read b n a g m =
+        let read-store = subst (λ (u : List ℕ). RunTold p (run p b u D (totalsOf (h .totals))) n a (g .device) (g .store) (g .totals)) (at .store) (m .state D read) in
+        subst (λ (t : Totals). RunTold p (run p b S D t) n a (g .device) (g .store) (g .totals)) (ap totalsOf (at .totals) ∙ totals-read T) read-store
+
+    -- ---- an exported call
+
+    one : (x : Exchange) (g : Held) → Makes p h x g → Answered p s cs x × At p s (cs ++ callsOf x) g
+    unfolding callsOf
+    one (single c a) g m =
+        let o = did-single c a g m in
+        (o .answered, at-single c a g (single-words c a g m) o)
+    one (run-of b n a) g m = did-run b n a g (run-read b n a g m)
+
+  -- ---- a list of them
+
+  each-one : (xs : List Exchange) (cs : List Call) (h g : Held) → At p s cs h → MakesAll p h xs g
+      → AllAnswered p s cs xs × At p s (cs ++ allCalls xs) g
+  unfolding MakesAll AllAnswered allCalls
+  each-one [] cs h g at m = (tt, subst (λ (x : Held). At p s (cs ++ []) x) m (subst (λ (ds : List Call). At p s ds h) (sym (append-nil cs)) at))
+  each-one (x ∷ xs) cs h g at (k, m, ms) =
+      let (answered, next) = one cs h at x k m in
+      let (rest, last) = each-one xs (cs ++ callsOf x) k g next ms in
+      ((answered, rest), subst (λ (ds : List Call). At p s ds g) (append-assoc cs (callsOf x) (allCalls xs)) last)
+
+  module _ (bs : Words before) (xs : List Exchange) (g : Held) (made : MakesAll p (atFirst s) xs g) where
+    start : At p s [] (atFirst s)
+    unfolding afterCalls totalsAfter fresh deviceWords totalsWords flag placeWords handlerWords
+    start =
+        record {
+          store = refl;
+          device = refl;
+          totals = refl;
+          words = format-stays-words p l q before ps bs;
+          device-words = fresh-device-words false;
+        }
+
+    reached : AllAnswered p s [] xs × At p s ([] ++ allCalls xs) g
+    reached = each-one xs [] (atFirst s) g start made
+
+    abbrev calls : List Call
+    calls = allCalls xs
+
+    recovers-to : (ys : List Exchange) (m : ℕ) (r : Held) → allCalls ys ≡ Cut ∷ Boot ∷ steps m → MakesAll p g ys r
+        → RecoversTo g (observed p l q before e calls .state) m r
+    recovers-to ys m r are made′ =
+        let o = observed p l q before e calls in
+        let store-is : r .store ≡ recovering p s calls m =
+        each-one ys calls g r (reached .1) made′ .1 .store ∙ ap (λ (ds : List Call). afterCalls p s off (calls ++ ds) .store) are in
+        let count-is : recoverySteps (view (g .store)) ≡ recoverySteps (view (afterCalls p s off calls .store)) =
+        ap (λ (u : List ℕ). recoverySteps (view u)) (reached .1 .store) in
+        record {
+          goes-on = λ less. subst (λ (u : List ℕ). view u .phase ≢ 0) (sym store-is) (o .goes-on m (subst (λ (k : ℕ). m < k) count-is less));
+          ends = λ all. subst (λ (u : List ℕ). view u .phase ≡ 0) (sym (store-is ∙ ap (recovering p s calls) (all ∙ count-is))) (o .ends);
+          left = λ all. subst (λ (u : List ℕ). Left (view u) (o .state)) (sym (store-is ∙ ap (recovering p s calls) (all ∙ count-is))) (o .left);
+        }
+
+    exports-observed : ExportsObserved p s xs g
+    exports-observed =
+        record {
+          answers = reached .0;
+          store = reached .1 .store;
+          device = reached .1 .device;
+          totals =
+              subst (AreCounts p s off calls) (sym (ap totalsOf (reached .1 .totals) ∙ totals-read (totalsAfter p s off calls noTotals)))
+              (totals-are-counts p s off calls);
+          observed = observed p l q before e calls;
+          recovers = recovers-to;
+        }
+
+-- ---- runtime_format told that it accepted
+
+accepted-told : (x : Checked) → checkedWords x ≡ checkedWords Checked.Accepted → x ≡ Checked.Accepted
+unfolding checkedWords refusedWords
+accepted-told Checked.Accepted e = refl
+accepted-told (Checked.Refused r) e = let z : _≡_ {A = ℕ} 0 6 = cc in absurd (omega arith)
+
+pub demand3-of-exports : Demand3OfExports
+demand3-of-exports p l q before answer s ps bs (told, stored) accepted xs g made =
+    let e = accepted-told (formatCheck p l q before) (sym told ∙ accepted) in
+    subst (λ (u : List ℕ). MakesAll p (atFirst u) xs g → ExportsObserved p u xs g) (sym stored) (exports-observed p ps l q before e bs xs g) made

@@ -1,0 +1,89 @@
+-- Demand 3 of the library that a bench links. A host makes a list of exported calls, each known only by what it promises (Exported.antt), on a
+-- store that runtime_format accepted, with 18 zero words for the device and totals of 0 at first. These are the calls of which model's
+-- Demand3.antt speaks: same answers, same store, same device state; so what recovery by the same functions leaves is the serial run's.
+-- Assumes nothing.
+use Prim.Native.Nat.{ℕ, _<_}
+use lib.ListN.{replicate}
+use mathlib.Core.List.{List, [], _∷_, _++_}
+use mathlib.Core.Logic.{_≢_}
+use mathlib.Core.Path.{_≡_}
+use Rattle.exports.specs.Exported.{Formats, Boots, Posts, Cuts, Steps, Runs, totalsOf, totalsWords}
+use Rattle.model.specs.Calls.{Call, Boot, Step, Cut, Post, call, afterCalls, steps, noTotals, totalsAfter, run}
+use Rattle.model.specs.Claims.{Words, CallWords, AreCounts}
+use Rattle.model.specs.Demand3.{Left, recoverySteps, Observed}
+use Rattle.model.specs.Device.{off}
+use Rattle.model.specs.Serial.{Serial}
+use Rattle.model.specs.Store.{view}
+use Rattle.model.specs.declared.Checked.{Checked}
+use Rattle.words.specs.Words.{deviceWords, answerWords, endedWords, checkedWords}
+
+-- what a host holds: the store's words, the device's 18 words and the totals' three numbers
+pub record Held : Type 0 where
+  pub store : List ℕ
+  pub device : List ℕ
+  pub totals : List ℕ
+
+-- an exported call with its answer: runtime_boot, runtime_step, runtime_post or runtime_cut; or runtime_run of a budget, with the steps returned
+pub data Exchange : Type 0 where
+  single : Call → (answer : List ℕ) → Exchange
+  run-of : (budget made : ℕ) (answer : List ℕ) → Exchange
+
+-- the promise of a call that a host makes, holding h before and g after it. What a function isn't lent stays.
+abbrev pub Makes : List ℕ → Held → Exchange → Held → Type 0
+Makes p h (single Boot a) g = Boots p (h .store) (h .device) a (g .device) × (g .store ≡ h .store) × (g .totals ≡ h .totals)
+Makes p h (single Step a) g = Steps p (h .store) (h .device) (h .totals) a (g .store) (g .device) (g .totals)
+Makes p h (single Cut a) g = Cuts a (g .device) × (g .store ≡ h .store) × (g .totals ≡ h .totals)
+Makes p h (single (Post e v) a) g =
+    Posts p (h .store) (h .device) e v a (g .device) × (g .store ≡ h .store) × (g .totals ≡ h .totals) × CallWords (Post e v)
+Makes p h (run-of b n a) g = Runs p (h .store) (h .device) (h .totals) b n a (g .store) (g .device) (g .totals)
+
+-- a list of them, from h to g
+unfoldable pub MakesAll : List ℕ → Held → List Exchange → Held → Type 0
+MakesAll p h [] g = h ≡ g
+MakesAll p h (x ∷ xs) g = (k : Held) × Makes p h x k × MakesAll p k xs g
+
+-- The calls that they are: a run is the steps that it made. (What it was refused, if it was, stands in its answer.)
+unfoldable pub callsOf : Exchange → List Call
+callsOf (single c a) = c ∷ []
+callsOf (run-of b n a) = steps n
+
+unfoldable pub allCalls : List Exchange → List Call
+allCalls [] = []
+allCalls (x ∷ xs) = callsOf x ++ allCalls xs
+
+-- The answer is the one defined after the calls cs on store s.
+abbrev pub Answered : List ℕ → List ℕ → List Call → Exchange → Type 0
+Answered p s cs (single c a) = a ≡ answerWords (call p (afterCalls p s off cs .store) (afterCalls p s off cs .device) c .answer)
+Answered p s cs (run-of b n a) =
+    (n ≡ run p b (afterCalls p s off cs .store) (afterCalls p s off cs .device) (totalsAfter p s off cs noTotals) .steps)
+    × (a ≡ endedWords (run p b (afterCalls p s off cs .store) (afterCalls p s off cs .device) (totalsAfter p s off cs noTotals) .ended))
+
+unfoldable pub AllAnswered : List ℕ → List ℕ → List Call → List Exchange → Type 0
+AllAnswered p s cs [] = Unit {0}
+AllAnswered p s cs (x ∷ xs) = Answered p s cs x × AllAnswered p s (cs ++ callsOf x) xs
+
+-- A host that held g, where the serial run's state is z, made a cut, a boot and m steps and holds r: the phase is 0 after as many steps as
+-- the store of g says and not before, and then what is left is the serial run's.
+pub record RecoversTo (g : Held) (z : Serial) (m : ℕ) (r : Held) : Type 0 where
+  pub goes-on : m < recoverySteps (view (g .store)) → view (r .store) .phase ≢ 0
+  pub ends : m ≡ recoverySteps (view (g .store)) → view (r .store) .phase ≡ 0
+  pub left : m ≡ recoverySteps (view (g .store)) → Left (view (r .store)) z
+
+-- A host made the calls xs on the fresh store s and holds g.
+pub record ExportsObserved (p s : List ℕ) (xs : List Exchange) (g : Held) : Type 0 where
+  pub answers : AllAnswered p s [] xs
+  pub store : g .store ≡ afterCalls p s off (allCalls xs) .store
+  pub device : g .device ≡ deviceWords (afterCalls p s off (allCalls xs) .device)
+  pub totals : AreCounts p s off (allCalls xs) (totalsOf (g .totals))
+  pub observed : Observed p s (allCalls xs)
+  pub recovers : (ys : List Exchange) (m : ℕ) (r : Held) → allCalls ys ≡ Cut ∷ Boot ∷ steps m → MakesAll p g ys r
+      → RecoversTo g (observed .state) m r
+
+-- the words that a host has before its first call
+abbrev pub atFirst : List ℕ → Held
+atFirst s = record { store = s; device = replicate 18 0; totals = replicate 3 0 }
+
+abbrev pub Demand3OfExports : Type 0
+Demand3OfExports =
+    (p : List ℕ) (l q : ℕ) (before answer s : List ℕ) → Words p → Words before → Formats p l q before answer s
+    → answer ≡ checkedWords Checked.Accepted → (xs : List Exchange) (g : Held) → MakesAll p (atFirst s) xs g → ExportsObserved p s xs g
