@@ -90,17 +90,29 @@ isCompletion (Answer.Committed (Body.Event e)) = true
 isCompletion Answer.Accepted = false
 isCompletion (Answer.Refused r) = false
 
--- After any list of calls on a store s, the device off at first, with the serial state of the calls and their answers:
+-- the store and the device after calls on a store s, "the device off at first"
+abbrev pub reached : List ℕ → List ℕ → List Call → Now
+reached p s cs = afterCalls p s off cs
+
+-- the answer of one call more
+abbrev pub nextAnswer : List ℕ → List ℕ → List Call → Call → Answer
+nextAnswer p s cs c = call p (reached p s cs .store) (reached p s cs .device) c .answer
+
+-- the steps that recovery then takes
+abbrev pub stepsToRecover : List ℕ → List ℕ → List Call → ℕ
+stepsToRecover p s cs = recoverySteps (view (reached p s cs .store))
+
+-- After any list of calls on a store s, with the serial state of the calls and their answers:
 pub record AsSerialRun (p s : List ℕ) (cs : List Call) : Type 0 where
   pub state : Serial
   pub ran : (fuel : ℕ) → length cs ≤ fuel → serial fuel p (history p s off cs) ≡ some state
-  pub recovers : (k : ℕ) → recoverySteps (view (afterCalls p s off cs .store)) ≤ k → Recovers p (afterCalls p s off cs .store) state k
+  pub recovers : (k : ℕ) → stepsToRecover p s cs ≤ k → Recovers p (reached p s cs .store) state k
   -- "Its records are the store's waiting ones (event, data), in order, before recovery too."
-  pub waits : waiting (view (afterCalls p s off cs .store)) ≡ state .records
+  pub waits : waiting (view (reached p s cs .store)) ≡ state .records
   pub balance : countBy isAccept (history p s off cs) ≡ countBy isCompletion (history p s off cs) + length (state .records)
   -- whichever call is next: the refusals that it may meet, and the body that it commits
-  pub refusals : (c : Call) → Expected c (call p (afterCalls p s off cs .store) (afterCalls p s off cs .device) c .answer)
-  pub bodies : (b : Body) → call p (afterCalls p s off cs .store) (afterCalls p s off cs .device) Step .answer ≡ Answer.Committed b
+  pub refusals : (c : Call) → Expected c (nextAnswer p s cs c)
+  pub bodies : (b : Body) → nextAnswer p s cs Step ≡ Answer.Committed b
       → Runs p state (suc (length cs)) b
 
 abbrev pub Demand3 : Type 0
@@ -130,16 +142,18 @@ unfoldable pub committedTasks : List Line → List ℕ
 committedTasks [] = []
 committedTasks (x ∷ xs) = committedTask (x .answered) ++ committedTasks xs
 
--- the task that each of these names, run on the memory m
+-- the task that a body's run names
 unfoldable pub namedAtEnd : Walked → List ℕ
 namedAtEnd (went k m) = k ∷ []
 namedAtEnd (served m) = []
 namedAtEnd lost = []
 
+-- the tasks that tasks name, each run on the memory m
 unfoldable pub namedBy : ℕ → List ℕ → List ℕ → List ℕ → List ℕ
 namedBy fuel p m [] = []
 namedBy fuel p m (t ∷ ts) = namedAtEnd (walkBody fuel p (Body.Task t) 0 m) ++ namedBy fuel p m ts
 
+-- along the serial run
 unfoldable pub fromState : Option Serial → (Serial → List ℕ) → List ℕ
 fromState none f = []
 fromState (some z) f = f z
@@ -159,7 +173,7 @@ TasksFollow =
 
 -- the store after these calls, then a cut, a boot and m steps
 abbrev pub recovering : List ℕ → List ℕ → List Call → ℕ → List ℕ
-recovering p s cs m = afterCalls p s off (cs ++ (Cut ∷ Boot ∷ steps m)) .store
+recovering p s cs m = reached p s (cs ++ (Cut ∷ Boot ∷ steps m)) .store
 
 -- every call of the list was answered as that call may be
 unfoldable pub AllExpected : List Line → Type 0
@@ -172,15 +186,15 @@ pub record Observed (p s : List ℕ) (cs : List Call) : Type 0 where
   pub tasks : committedTasks (history p s off cs) ++ (state .task ∷ []) ≡ entry p ∷ namedTasks (length cs) p (serialStart p) (history p s off cs)
   pub answers : AllExpected (history p s off cs)
   -- "recovery .. is a cut, a boot, then steps while the phase isn't 0": so many, and then it has left what the serial run has
-  pub goes-on : (m : ℕ) → m < recoverySteps (view (afterCalls p s off cs .store)) → view (recovering p s cs m) .phase ≢ 0
-  pub ends : view (recovering p s cs (recoverySteps (view (afterCalls p s off cs .store)))) .phase ≡ 0
-  pub left : Left (view (recovering p s cs (recoverySteps (view (afterCalls p s off cs .store))))) state
+  pub goes-on : (m : ℕ) → m < stepsToRecover p s cs → view (recovering p s cs m) .phase ≢ 0
+  pub ends : view (recovering p s cs (stepsToRecover p s cs)) .phase ≡ 0
+  pub left : Left (view (recovering p s cs (stepsToRecover p s cs))) state
   -- accepted is completed plus waiting
   pub balance :
-      countBy isAccept (history p s off cs) ≡ countBy isCompletion (history p s off cs) + length (waiting (view (afterCalls p s off cs .store)))
+      countBy isAccept (history p s off cs) ≡ countBy isCompletion (history p s off cs) + length (waiting (view (reached p s cs .store)))
   -- "for an event that of the oldest record"
-  pub oldest : (e : ℕ) → call p (afterCalls p s off cs .store) (afterCalls p s off cs .device) Step .answer ≡ Answer.Committed (Body.Event e)
-      → (r : Record) × (rest : List Record) × (waiting (view (afterCalls p s off cs .store)) ≡ r ∷ rest) × (r .event ≡ e)
+  pub oldest : (e : ℕ) → nextAnswer p s cs Step ≡ Answer.Committed (Body.Event e)
+      → (r : Record) × (rest : List Record) × (waiting (view (reached p s cs .store)) ≡ r ∷ rest) × (r .event ≡ e)
 
 abbrev pub ObservedByCalls : Type 0
 ObservedByCalls =
