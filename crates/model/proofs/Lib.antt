@@ -22,4 +22,6 @@ pub mod Words
 pub mod Numbers
 pub mod Repeats
 pub mod Blamed
+pub mod Definitions
 pub mod Starred
+pub mod Rows

@@ -1,17 +1,10 @@
 -- The starred cases of document 01: one theorem, whose rows the checker computes from the definitions. Assumes nothing.
 use mathlib.Core.Path.{refl}
-use Rattle.model.specs.Answer.{refusal}
-use Rattle.model.specs.Test.{pick, _and_, _or_, must, _then_, each}
-use Rattle.model.specs.Program.{programMark, decode, bounds, mayBeLast, signed, unsigned, shifted, less, effect, effectAt, newOpen, number}
-use Rattle.model.specs.Check.{contentsRule, rowsInside, limits, due, rowRule, rows, rowUsed, fieldsFit, lastFits, instructionRule, bodyRule, check}
-use Rattle.model.specs.Store.{Store, view, storeMark, storeContents, index, settled, findFrom, find, after, firstWaiting, distance, slot, recordsFrom, waiting, formatted, sizesRule, formatCheck, formatStore, format, storeRule}
-use Rattle.model.specs.Control.{obey, obeyAll, upTo, phaseRule, taskRule, openRule, openServing, countRule, pendingTaskRule, headRule, tailRule, pendingHeadRule, pendingOpenRule, addressRule, between, recordRule, controlRules, rules, earlyRules}
-use Rattle.model.specs.Device.{Out, fresh, off, moved, handled, judged, storing, taskStores, eventStores, taskLastStores, eventLastStores, lastStores, mayRun, endStores, placeSound, handlerSound, isFresh, zeros, deviceSound, look, bootCheck, boot, cut, atRest, postCheck, post, handlerStep, pairSound, copyStep, begun, recordSound, chooseStep, headSound, namedRow, openSound, headIs, ends, saves, placeFits, bodySound, shown, saveStep, act, saveRest, placeStep, nextStep, step}
-use Rattle.model.specs.Calls.{Call, Boot, Step, Cut, Post, call, history, afterCalls, steps, unlessRefused, Recovery, recovered, finish, recovery}
+use Rattle.model.proofs.Definitions.{definitions}
 use Rattle.model.specs.Starred.{counting, withTask, answer, stepsOf, storeOf, Starred}
 
 pub starred : Starred
-unfolding counting check contentsRule rows rowsInside rowRule limits due bodyRule instructionRule fieldsFit lastFits bounds mayBeLast must _then_ each pick _and_ _or_ programMark decode signed unsigned shifted less effect effectAt newOpen number rowUsed storeMark storeContents index settled findFrom find after firstWaiting distance slot recordsFrom waiting formatted sizesRule storeRule obey obeyAll upTo phaseRule taskRule openRule openServing countRule pendingTaskRule headRule tailRule pendingHeadRule pendingOpenRule addressRule between recordRule controlRules rules earlyRules fresh moved handled judged storing taskStores eventStores taskLastStores eventLastStores lastStores mayRun endStores placeSound handlerSound isFresh zeros deviceSound look bootCheck boot cut atRest postCheck post handlerStep pairSound copyStep begun recordSound chooseStep headSound namedRow openSound headIs ends saves placeFits bodySound shown saveStep act saveRest placeStep nextStep step call history afterCalls unlessRefused finish recovery withTask steps answer stepsOf storeOf refusal
+unfolding definitions counting withTask answer stepsOf storeOf
 starred =
     record {
       program-words = refl;

@@ -11,3 +11,8 @@ pub mod Serial
 pub mod Claims
 pub mod Demand3
 pub mod Starred
+pub mod Sample
+pub mod ProgramRows
+pub mod StateRows
+pub mod CallRows
+pub mod Rows

@@ -1,0 +1,440 @@
+-- Worked rows of what calls do: single steps, lists of calls, totals, runs, recovery; the numbers of the refusals; the serial run.
+use Prim.Native.Nat.{ℕ}
+use mathlib.Core.Bool.{Bool, true, false}
+use mathlib.Core.List.{List, [], _∷_, _++_, map}
+use mathlib.Core.Option.{Option}
+use lib.ListN.{replicate, set}
+use Rattle.model.specs.Answer.{Told, refusal}
+use Rattle.model.specs.Calls.{Call, Boot, Step, Cut, Post, Line, Now, history, afterCalls, isAccept, counted, Ran, run, Recovery, recovered, unfinished, recovery, countBy, steps}
+use Rattle.model.specs.Claims.{uncut}
+use Rattle.model.specs.Control.{rules, blames}
+use Rattle.model.specs.Demand3.{isIn, mayMeet, recoverySteps, isCompletion}
+use Rattle.model.specs.Device.{Out, out, refuse, boot, cut, post, step}
+use Rattle.model.specs.Program.{newOpen}
+use Rattle.model.specs.Serial.{Serial, serial}
+use Rattle.model.specs.Starred.{counting}
+use Rattle.model.specs.Store.{Record, view, waiting, Word, Phase, Task, Open, Count, Pending, PendingOpen, Head, Tail, Memory, Address, Value, Event, Datum, none, to, index, settled, formatted}
+use Rattle.model.specs.Types.{Answer, Body, Device, Ended, Free, Half, Next, Refusal, Resting, Run, Storing, Totals}
+use Rattle.model.specs.ProgramRows.{stores}
+use Rattle.model.specs.Sample.{Row, _⇒_, at, cleared, closed, controls, device, eventCommit, offValue, onValue, opened, registers, sample, task1, taskCommit, twoPairs, withInstruction}
+use Rattle.model.specs.StateRows.{wrongOpen}
+
+-- ---- What a step does: its one store, the device after it, its answer
+
+-- a handler at work for event 1 with data 66, and a body at an instruction
+abbrev handling : Next → Device
+handling n = device true registers (task1 2) 1 (Storing n 1 66)
+
+-- a body begun, register 0 with the data of an event
+abbrev begins : Body → ℕ → Out
+begins b x = out none (device true (set cleared 0 x) (Run b 0 0) 0 Resting) (Answer.Chosen b)
+
+-- a commit's last store, and a commit store
+abbrev endsWith : Word → ℕ → Answer → Out
+endsWith w x a = out (to w x) onValue a
+
+unfoldable pub outcomes : List (Row Out)
+outcomes =
+    -- "event, data, then tail. The tail store accepts the event": the slot after 3 is 0; a handler precedes a commit
+    step sample (controls 0 1 8 0 0 0 1 3) (handling Next.Event) ⇒ out (to (Event 3) 1) (handling Next.Data) Answer.Stored
+    ∷ step sample (controls 0 1 8 0 0 0 1 3) (handling Next.Data) ⇒ out (to (Datum 3) 66) (handling Next.Tail) Answer.Stored
+    ∷ step sample (controls 0 1 8 0 0 0 1 3) (handling Next.Tail) ⇒ out (to Tail 0) (at (task1 2)) Answer.Accepted
+    ∷ step sample taskCommit (device true registers (Free 1) 1 (Storing Next.Tail 1 66)) ⇒ out (to Tail 2) (at (Free 1)) Answer.Accepted
+    -- "then n copies, 9 from 12, 10 from 13, 8 becomes 0"
+    ∷ step sample taskCommit (at (Free 0)) ⇒ stores (Memory 2) 777 (Free 1)
+    ∷ step sample taskCommit (at (Free 1)) ⇒ stores (Memory 3) 888 (Free 2)
+    ∷ step sample taskCommit (at (Free 2)) ⇒ stores Task 2 (Free 3)
+    ∷ step sample taskCommit (at (Free 3)) ⇒ stores Open 8 (Free 4)
+    ∷ step sample taskCommit (at (Free 4)) ⇒ endsWith Phase 0 Answer.Stored
+    -- "n copies, 14 from 12, 8 becomes 0"
+    ∷ step sample eventCommit (at (Free 0)) ⇒ stores (Memory 2) 777 (Free 1)
+    ∷ step sample eventCommit (at (Free 1)) ⇒ stores Head 0 (Free 2)
+    ∷ step sample eventCommit (at (Free 2)) ⇒ endsWith Phase 0 Answer.Stored
+    -- "if word 10 is 0 and the queue isn't empty, the event at head; otherwise the current task"
+    ∷ step sample closed (at (Free 0)) ⇒ begins (Body.Event 1) 53
+    ∷ step sample opened (at (Free 0)) ⇒ begins (Body.Task 1) 0
+    ∷ step sample (controls 0 4 0 0 0 0 2 2) (at (Free 0)) ⇒ begins (Body.Task 4) 0
+    -- "the search of the log ends with the pair found": LOAD 3 2, with address 2 in both pairs
+    ∷ step (withInstruction 0x0830 2) (set opened 24 2) (twoPairs (task1 2)) ⇒ out none (device true (set registers 3 777) (task1 3) 2 Resting) Answer.Worked
+    -- "the next, without looking again at address or log, the value": SAVE 1 4, though pair 1 has address 3
+    ∷ step sample opened (at (Half (Body.Task 1) 1)) ⇒ out (to (Value 1) 2) (twoPairs (task1 2)) Answer.Stored
+    -- GO 2: "11 is n, 12 the next task, 13 the new open number, 8 becomes 1 (the commit store)"
+    ∷ step sample opened (at (Run (Body.Task 1) 3 0)) ⇒ stores Count 1 (Run (Body.Task 1) 3 1)
+    ∷ step sample opened (at (Run (Body.Task 1) 3 1)) ⇒ stores Pending 2 (Run (Body.Task 1) 3 2)
+    ∷ step sample opened (at (Run (Body.Task 1) 3 2)) ⇒ stores PendingOpen 8 (Run (Body.Task 1) 3 3)
+    ∷ step sample opened (at (Run (Body.Task 1) 3 3)) ⇒ endsWith Phase 1 (Answer.Committed (Body.Task 1))
+    -- "DONE: 11, 12 with the slot after head, 8 becomes 2"
+    ∷ step sample closed (at (Run (Body.Event 1) 1 0)) ⇒ stores Count 1 (Run (Body.Event 1) 1 1)
+    ∷ step sample closed (at (Run (Body.Event 1) 1 1)) ⇒ stores Pending 0 (Run (Body.Event 1) 1 2)
+    ∷ step sample closed (at (Run (Body.Event 1) 1 2)) ⇒ endsWith Phase 2 (Answer.Committed (Body.Event 1))
+    -- "A post makes no store, sets the handler to work": "post then 8, 20, 21"
+    ∷ post sample opened (at (task1 2)) 1 66 ⇒ out none (handling Next.Event) Answer.Done
+    ∷ post sample taskCommit (at (Free 1)) 0 9 ⇒ out none (device true registers (Free 1) 1 (Storing Next.Event 0 9)) Answer.Done
+    ∷ post sample opened offValue 2 66 ⇒ refuse offValue Refusal.PowerOff
+    ∷ post sample opened (handling Next.Data) 2 66 ⇒ refuse (handling Next.Data) Refusal.NoEvent
+    ∷ post sample opened (handling Next.Data) 1 67 ⇒ refuse (handling Next.Data) Refusal.HandlerBusy
+    ∷ post sample (controls 0 1 8 0 0 0 2 1) (at (task1 2)) 2 66 ⇒ refuse (at (task1 2)) Refusal.NoEvent
+    ∷ post sample (controls 0 1 8 0 0 0 2 1) (at (task1 2)) 1 66 ⇒ refuse (at (task1 2)) Refusal.QueueFull
+    ∷ post sample (controls 2 1 0 0 1 0 0 3) (at (Free 0)) 1 66 ⇒ refuse (at (Free 0)) Refusal.QueueFull
+    -- "Boot makes no store and turns that value on"; "boot 1 to 7, 26"; "A cut refuses nothing"
+    ∷ boot sample opened offValue ⇒ out none onValue Answer.Done
+    ∷ boot sample taskCommit (device false registers (task1 2) 1 (Storing Next.Tail 1 66)) ⇒ out none onValue Answer.Done
+    ∷ boot sample opened onValue ⇒ refuse onValue Refusal.PowerOn
+    ∷ boot sample wrongOpen onValue ⇒ refuse onValue (Refusal.Control 10)
+    ∷ cut ⇒ out none offValue Answer.Done
+    ∷ []
+
+-- after the contents and the control words come six words of memory, two pairs, four slots
+unfoldable pub placesOfWords : List (Row (List ℕ))
+placesOfWords =
+    map (index closed) (Phase ∷ Task ∷ Open ∷ Count ∷ Pending ∷ PendingOpen ∷ Head ∷ Tail ∷ []) ⇒ (8 ∷ 9 ∷ 10 ∷ 11 ∷ 12 ∷ 13 ∷ 14 ∷ 15 ∷ [])
+    ∷ map (index closed) (Memory 0 ∷ Memory 5 ∷ []) ⇒ (16 ∷ 21 ∷ [])
+    ∷ map (index closed) (Address 0 ∷ Value 0 ∷ Address 1 ∷ Value 1 ∷ []) ⇒ (22 ∷ 23 ∷ 24 ∷ 25 ∷ [])
+    ∷ map (index closed) (Event 0 ∷ Datum 0 ∷ Event 3 ∷ Datum 3 ∷ []) ⇒ (26 ∷ 27 ∷ 32 ∷ 33 ∷ [])
+    ∷ settled closed (to (Value 1) 9) ⇒ set closed 25 9
+    ∷ settled closed none ⇒ closed
+    ∷ []
+
+-- ---- Lists of calls, on a store freshly formatted with L 2 and Q 3, the device off at first
+
+abbrev answers : List Call → List Answer
+answers cs = map (λ (x : Line). x .answered) (history sample (formatted sample 2 3) offValue cs)
+
+abbrev left : List Call → Now
+left cs = afterCalls sample (formatted sample 2 3) offValue cs
+
+-- the stores after so many steps, after so many more, and so on
+unfoldable pub storesAfter : Now → List ℕ → List (List ℕ)
+storesAfter now [] = []
+storesAfter now (n ∷ ns) =
+    let next = afterCalls sample (now .store) (now .device) (steps n) in
+    next .store ∷ storesAfter next ns
+
+-- an event posted, and accepted by three steps
+abbrev posted : ℕ → ℕ → List Call
+posted e x = Post e x ∷ Step ∷ Step ∷ Step ∷ []
+
+abbrev isAccepted : List Answer
+isAccepted = Answer.Done ∷ Answer.Stored ∷ Answer.Stored ∷ Answer.Accepted ∷ []
+
+-- a task is chosen; one that only goes on commits, with no pair to copy; an event saves its data and commits, with one pair
+abbrev chosen : ℕ → List Answer
+chosen t = Answer.Chosen (Body.Task t) ∷ []
+
+abbrev goesOn : ℕ → List Answer
+goesOn t = chosen t ++ replicate 3 Answer.Stored ++ Answer.Committed (Body.Task t) ∷ replicate 3 Answer.Stored
+
+abbrev isServed : ℕ → List Answer
+isServed e = Answer.Chosen (Body.Event e) ∷ replicate 4 Answer.Stored ++ Answer.Committed (Body.Event e) ∷ replicate 3 Answer.Stored
+
+-- Task 1 is chosen, then event 0 is posted. It waits for the transaction of tasks 1, 2 and 3 to close; tasks 0, 4 and 1 follow, with
+-- numbers 0, 9 and 8.
+abbrev transaction : List Call
+transaction = Boot ∷ Step ∷ posted 0 50
+
+-- these, and task 1's SET, SAVE, ADD and GO
+abbrev transactionBegins : List Answer
+transactionBegins =
+    Answer.Done ∷ chosen 1 ++ isAccepted ++ Answer.Worked ∷ Answer.Stored ∷ Answer.Stored ∷ Answer.Worked ∷ replicate 3 Answer.Stored
+    ++ Answer.Committed (Body.Task 1) ∷ replicate 4 Answer.Stored
+
+-- three records wait, a fourth finds the queue full; an event is served, and a record goes into the ring's last slot
+abbrev filled : List Call
+filled = Boot ∷ posted 0 50 ++ posted 1 51 ++ posted 0 52
+
+abbrev refilled : List Call
+refilled = filled ++ Post 1 53 ∷ steps 9 ++ posted 1 53
+
+abbrev isFull : List Answer
+isFull = Answer.Refused Refusal.QueueFull ∷ []
+
+abbrev queueRefilled : List Answer
+queueRefilled = Answer.Done ∷ isAccepted ++ isAccepted ++ isAccepted ++ isFull ++ isServed 0 ++ isAccepted
+
+unfoldable pub schedules : List (Row (List Answer))
+schedules =
+    answers (transaction ++ steps 54) ⇒ (transactionBegins ++ goesOn 2 ++ goesOn 3 ++ isServed 0 ++ goesOn 0 ++ goesOn 4 ++ chosen 1)
+    -- cut with the transaction open, at GO
+    ∷ answers (transaction ++ steps 16 ++ Cut ∷ Boot ∷ Step ∷ [])
+    ⇒ (transactionBegins ++ chosen 2 ++ replicate 3 Answer.Stored ++ replicate 2 Answer.Done ++ chosen 2)
+    ∷ answers (refilled ++ Post 0 54 ∷ steps 28) ⇒ (queueRefilled ++ isFull ++ isServed 1 ++ isServed 0 ++ isServed 1 ++ chosen 1)
+    ∷ []
+
+unfoldable pub openNumbers : List (Row (List ℕ))
+openNumbers =
+    -- after tasks 1, 2 and 3, event 0, tasks 0 and 4
+    map (λ (s : List ℕ). view s .openNumber) (storesAfter (left transaction) (12 ∷ 8 ∷ 8 ∷ 9 ∷ 8 ∷ 8 ∷ [])) ⇒ (8 ∷ 8 ∷ 0 ∷ 0 ∷ 0 ∷ 0 ∷ [])
+    -- "The new open number is the ended task's if that isn't 0 and the next task has the same; otherwise 0"
+    ∷ (newOpen 8 8 ∷ newOpen 8 9 ∷ newOpen 8 0 ∷ newOpen 0 8 ∷ newOpen 0 0 ∷ []) ⇒ (8 ∷ 0 ∷ 0 ∷ 0 ∷ 0 ∷ [])
+    ∷ []
+
+-- before and after each of the three events that wait
+unfoldable pub memories : List (Row (List (List ℕ)))
+memories =
+    map (λ (s : List ℕ). view s .memory) (storesAfter (left refilled) (0 ∷ 9 ∷ 9 ∷ 9 ∷ []))
+    ⇒ ((50 ∷ 0 ∷ 0 ∷ 0 ∷ 0 ∷ 0 ∷ [])
+    ∷ (50 ∷ 0 ∷ 0 ∷ 0 ∷ 0 ∷ 51 ∷ [])
+    ∷ (52 ∷ 0 ∷ 0 ∷ 0 ∷ 0 ∷ 51 ∷ [])
+    ∷ (52 ∷ 0 ∷ 0 ∷ 0 ∷ 0 ∷ 53 ∷ [])
+    ∷ [])
+    ∷ []
+
+abbrev holds : ℕ → ℕ → Record
+holds e x = record { event = e; datum = x }
+
+-- "The waiting records run to tail from head, in phase 2 from word 12"
+unfoldable pub waitingRecords : List (Row (List Record))
+waitingRecords =
+    waiting (view (left (Boot ∷ posted 0 50) .store)) ⇒ (holds 0 50 ∷ [])
+    ∷ waiting (view (left (Boot ∷ posted 0 50 ++ posted 1 51) .store)) ⇒ (holds 0 50 ∷ holds 1 51 ∷ [])
+    ∷ waiting (view (left filled .store)) ⇒ (holds 0 50 ∷ holds 1 51 ∷ holds 0 52 ∷ [])
+    ∷ waiting (view (left refilled .store)) ⇒ (holds 1 51 ∷ holds 0 52 ∷ holds 1 53 ∷ [])
+    ∷ waiting (view (left (refilled ++ steps 6) .store)) ⇒ (holds 0 52 ∷ holds 1 53 ∷ [])
+    ∷ waiting (view (left (refilled ++ steps 9 ++ posted 0 55) .store)) ⇒ (holds 0 52 ∷ holds 1 53 ∷ holds 0 55 ∷ [])
+    ∷ waiting (view (controls 1 1 0 0 1 0 3 1)) ⇒ (holds 1 53 ∷ holds 0 50 ∷ [])
+    ∷ waiting (view (controls 2 1 0 0 0 0 3 1)) ⇒ (holds 0 50 ∷ [])
+    ∷ waiting (view (controls 0 1 0 0 1 0 2 2)) ⇒ []
+    ∷ []
+
+-- ---- The host's totals
+
+abbrev totals : ℕ → ℕ → ℕ → Totals
+totals c a s = record { committed = c; accepted = a; stores = s }
+
+abbrev greatest : ℕ
+greatest = 0xFFFFFFFF
+
+abbrev commitStore : Out
+commitStore = out (to Phase 1) onValue (Answer.Committed (Body.Task 1))
+
+abbrev tailStore : Out
+tailStore = out (to Tail 1) onValue Answer.Accepted
+
+unfoldable pub countings : List (Row Totals)
+countings =
+    counted (totals 5 60 700) commitStore ⇒ totals 6 60 701
+    ∷ counted (totals 5 60 700) (out (to Phase 2) onValue (Answer.Committed (Body.Event 1))) ⇒ totals 6 60 701
+    ∷ counted (totals 5 60 700) tailStore ⇒ totals 5 61 701
+    ∷ counted (totals 5 60 700) (out (to Count 1) onValue Answer.Stored) ⇒ totals 5 60 701
+    ∷ counted (totals 5 60 700) (out none onValue Answer.Worked) ⇒ totals 5 60 700
+    ∷ counted (totals 5 60 700) (out none onValue (Answer.Chosen (Body.Event 1))) ⇒ totals 5 60 700
+    ∷ counted (totals 5 60 700) (refuse onValue Refusal.LogFull) ⇒ totals 5 60 700
+    -- "32 bits, staying at the largest value"
+    ∷ counted (totals 0xFFFFFFFE 60 0xFFFFFFFE) commitStore ⇒ totals greatest 60 greatest
+    ∷ counted (totals greatest 60 greatest) commitStore ⇒ totals greatest 60 greatest
+    ∷ counted (totals 5 0xFFFFFFFE greatest) tailStore ⇒ totals 5 greatest greatest
+    ∷ counted (totals 5 greatest greatest) tailStore ⇒ totals 5 greatest greatest
+    ∷ []
+
+-- ---- Run
+
+abbrev ran : ℕ → Ended → List ℕ → Device → Totals → Ran
+ran n e s d t = record { steps = n; ended = e; store = s; device = d; totals = t }
+
+-- a freshly formatted store with other control words, memory, log and ring
+abbrev words : List ℕ → List ℕ → List ℕ → List ℕ → List ℕ
+words control memory log ring = 0xC0A1 ∷ 6 ∷ 2 ∷ 3 ∷ 8 ∷ 16 ∷ 22 ∷ 26 ∷ control ++ memory ++ log ++ ring
+
+-- event 0 is posted with data 50: a run accepts it in 3 steps, serves it in 9 with 8 stores, and ends task 1 in 13 with 10 stores
+abbrev runs : ℕ → Ran
+runs budget = run sample budget (formatted sample 2 3) (device true cleared (Free 0) 0 (Storing Next.Event 0 50)) (totals 0 0 0)
+
+abbrev eventAccepted : List ℕ
+eventAccepted = words (0 ∷ 1 ∷ 0 ∷ 0 ∷ 0 ∷ 0 ∷ 0 ∷ 1 ∷ []) (replicate 6 0) (replicate 4 0) (0 ∷ 50 ∷ replicate 6 0)
+
+abbrev eventServed : List ℕ
+eventServed = words (0 ∷ 1 ∷ 0 ∷ 1 ∷ 1 ∷ 0 ∷ 1 ∷ 1 ∷ []) (50 ∷ replicate 5 0) (0 ∷ 50 ∷ 0 ∷ 0 ∷ []) (0 ∷ 50 ∷ replicate 6 0)
+
+abbrev taskEnded : List ℕ
+taskEnded = words (0 ∷ 2 ∷ 8 ∷ 1 ∷ 2 ∷ 8 ∷ 1 ∷ 1 ∷ []) (50 ∷ 0 ∷ 0 ∷ 0 ∷ 9 ∷ 0 ∷ []) (4 ∷ 9 ∷ 0 ∷ 0 ∷ []) (0 ∷ 50 ∷ replicate 6 0)
+
+-- task 1 with LOADX 3 1 0 in the place of ADD: register 1 holds 9, which is no address
+abbrev runsWrong : ℕ → Ran
+runsWrong budget = run (withInstruction 0x0A31 0) budget (formatted sample 2 3) onValue (totals 10 20 30)
+
+abbrev atLoad : Ended → Ran
+atLoad e =
+    ran 4 e (words (0 ∷ 1 ∷ 0 ∷ 0 ∷ 0 ∷ 0 ∷ 0 ∷ 0 ∷ []) (replicate 6 0) (4 ∷ 9 ∷ 0 ∷ 0 ∷ []) (replicate 8 0))
+    (device true (set cleared 1 9) (task1 2) 1 Resting) (totals 10 20 32)
+
+unfoldable pub runRows : List (Row Ran)
+runRows =
+    runs 3 ⇒ ran 3 Ended.Spent eventAccepted onValue (totals 0 1 3)
+    ∷ runs 12 ⇒ ran 12 Ended.Spent eventServed onValue (totals 1 1 11)
+    ∷ runs 25 ⇒ ran 25 Ended.Spent taskEnded onValue (totals 2 1 21)
+    -- "the count of steps made, with spent or the refusal"
+    ∷ runsWrong 4 ⇒ atLoad Ended.Spent
+    ∷ runsWrong 99 ⇒ atLoad (Ended.Refused Refusal.Address)
+    ∷ run sample 99 opened offValue (totals 10 20 30) ⇒ ran 0 (Ended.Refused Refusal.PowerOff) opened offValue (totals 10 20 30)
+    -- "a budget of 0 looks at nothing and returns spent"
+    ∷ run [] 0 [] offValue (totals 10 20 30) ⇒ ran 0 Ended.Spent [] offValue (totals 10 20 30)
+    ∷ []
+
+-- ---- Recovery: "a cut, a boot, then steps while the phase isn't 0"
+
+-- with a cut before it, after n steps
+abbrev recoveredFrom : List ℕ → ℕ → Recovery
+recoveredFrom s n = recovery sample 9 (afterCalls sample s offValue (Boot ∷ steps n ++ Cut ∷ []) .store)
+
+-- memory words 2 and 3 from the log, task 2 current; memory word 2 from the log, head moved on
+abbrev taskDone : List ℕ
+taskDone = set (set (controls 0 2 8 2 2 8 3 1) 18 777) 19 888
+
+abbrev eventDone : List ℕ
+eventDone = set (controls 0 1 0 1 0 0 0 1) 18 777
+
+unfoldable pub recoveries : List (Row Recovery)
+recoveries =
+    -- "n + 3 steps from phase 1"
+    recovery sample 5 taskCommit ⇒ recovered 5 taskDone
+    ∷ recovery sample 4 taskCommit ⇒ unfinished
+    ∷ recoveredFrom taskCommit 0 ⇒ recovered 5 taskDone
+    ∷ recoveredFrom taskCommit 1 ⇒ recovered 5 taskDone
+    ∷ recoveredFrom taskCommit 2 ⇒ recovered 5 taskDone
+    ∷ recoveredFrom taskCommit 3 ⇒ recovered 5 taskDone
+    ∷ recoveredFrom taskCommit 4 ⇒ recovered 5 taskDone
+    ∷ recoveredFrom taskCommit 5 ⇒ recovered 0 taskDone
+    -- "and n + 2 from phase 2"
+    ∷ recovery sample 3 eventCommit ⇒ recovered 3 eventDone
+    ∷ recovery sample 2 eventCommit ⇒ unfinished
+    ∷ recoveredFrom eventCommit 0 ⇒ recovered 3 eventDone
+    ∷ recoveredFrom eventCommit 1 ⇒ recovered 3 eventDone
+    ∷ recoveredFrom eventCommit 2 ⇒ recovered 3 eventDone
+    ∷ recoveredFrom eventCommit 3 ⇒ recovered 0 eventDone
+    -- in phase 0 nothing is left to do; a store that boot refuses isn't recovered
+    ∷ recovery sample 0 closed ⇒ recovered 0 closed
+    ∷ recovery sample 9 wrongOpen ⇒ Recovery.refused (Refusal.Control 10)
+    ∷ []
+
+-- ---- "Numbers returned"
+
+abbrev told : ℕ → ℕ → ℕ → Told
+told n x y = record { number = n; first = x; second = y }
+
+unfoldable pub numbers : List (Row Told)
+numbers =
+    refusal Refusal.ProgramLength ⇒ told 1 0 0
+    ∷ refusal Refusal.ProgramMark ⇒ told 2 0 0
+    ∷ refusal (Refusal.ProgramSize 41) ⇒ told 3 41 0
+    ∷ refusal (Refusal.Row 42) ⇒ told 4 42 0
+    ∷ refusal (Refusal.Code 43 44) ⇒ told 5 43 44
+    ∷ refusal Refusal.StoreContents ⇒ told 6 0 0
+    ∷ refusal (Refusal.Control 45) ⇒ told 7 45 0
+    ∷ refusal Refusal.NoEvent ⇒ told 8 0 0
+    ∷ refusal Refusal.Sizes ⇒ told 9 0 0
+    ∷ refusal Refusal.HandlerBusy ⇒ told 20 0 0
+    ∷ refusal Refusal.QueueFull ⇒ told 21 0 0
+    ∷ refusal Refusal.PowerOff ⇒ told 22 0 0
+    ∷ refusal Refusal.Address ⇒ told 23 0 0
+    ∷ refusal Refusal.LogFull ⇒ told 24 0 0
+    ∷ refusal Refusal.State ⇒ told 25 0 0
+    ∷ refusal Refusal.PowerOn ⇒ told 26 0 0
+    ∷ []
+
+-- ---- The serial run
+
+pub data Shown : Type 0 where
+  stopped : Shown
+  -- memory, current task, open number, records
+  reached : List ℕ → ℕ → ℕ → List Record → Shown
+
+unfoldable pub shown : Option Serial → Shown
+shown Option.none = stopped
+shown (Option.some z) = reached (z .memory) (z .task) (z .openNumber) (z .records)
+
+-- what the serial run makes of lines, and of a list of calls with the device's answers
+abbrev fromLines : List Line → Shown
+fromLines xs = shown (serial 4 sample xs)
+
+abbrev fromCalls : List Call → Shown
+fromCalls cs = shown (serial 99 sample (history sample (formatted sample 2 3) offValue cs))
+
+abbrev line : Call → Answer → List Line
+line c a = record { called = c; answered = a } ∷ []
+
+abbrev accepts : ℕ → ℕ → List Line
+accepts e x = line (Post e x) Answer.Done ++ line Step Answer.Accepted
+
+abbrev refusedPost : List Line
+refusedPost = line (Post 1 51) (Answer.Refused Refusal.HandlerBusy)
+
+abbrev commits : Body → List Line
+commits b = line Step (Answer.Committed b)
+
+abbrev untouched : List ℕ
+untouched = 0 ∷ 0 ∷ 0 ∷ 0 ∷ 0 ∷ 0 ∷ []
+
+-- memory after task 1; after event 0 with data 50
+abbrev afterTask1 : List ℕ
+afterTask1 = 0 ∷ 0 ∷ 0 ∷ 0 ∷ 9 ∷ 0 ∷ []
+
+abbrev afterEvent0 : List ℕ
+afterEvent0 = 50 ∷ 0 ∷ 0 ∷ 0 ∷ 0 ∷ 0 ∷ []
+
+unfoldable pub serialRuns : List (Row Shown)
+serialRuns =
+    -- "It starts with memory 0, the entry task as current task, open number 0 and no records"
+    fromLines [] ⇒ reached untouched 1 0 []
+    -- "The answer accepted adds what the latest post with the answer done carried"
+    ∷ fromLines (accepts 0 50 ++ accepts 1 51) ⇒ reached untouched 1 0 (holds 0 50 ∷ holds 1 51 ∷ [])
+    ∷ fromLines (line (Post 0 50) Answer.Done ++ line Cut Answer.Done ++ accepts 1 51) ⇒ reached untouched 1 0 (holds 1 51 ∷ [])
+    ∷ fromLines (line (Post 0 50) Answer.Done ++ refusedPost ++ line Step Answer.Accepted) ⇒ reached untouched 1 0 (holds 0 50 ∷ [])
+    ∷ fromLines (line Step Answer.Accepted) ⇒ stopped  -- before any post
+    -- "for a task the current one"; "to DONE or to GO, which sets current task and open number"
+    ∷ fromLines (commits (Body.Task 1)) ⇒ reached afterTask1 2 8 []
+    ∷ fromLines (commits (Body.Task 1) ++ commits (Body.Task 2)) ⇒ reached afterTask1 3 8 []
+    ∷ fromLines (commits (Body.Task 1) ++ commits (Body.Task 2) ++ commits (Body.Task 3)) ⇒ reached afterTask1 0 0 []
+    ∷ fromLines (commits (Body.Task 2)) ⇒ stopped
+    -- "for an event that of the oldest record, which goes"
+    ∷ fromLines (accepts 0 50 ++ accepts 1 51 ++ commits (Body.Event 0)) ⇒ reached afterEvent0 1 0 (holds 1 51 ∷ [])
+    ∷ fromLines (accepts 0 50 ++ accepts 1 51 ++ commits (Body.Event 1)) ⇒ stopped
+    -- "at an event a record is there and the open number is 0"
+    ∷ fromLines (commits (Body.Event 0)) ⇒ stopped
+    ∷ fromLines (accepts 0 50 ++ commits (Body.Task 1) ++ commits (Body.Event 0)) ⇒ stopped
+    -- "each body run .. ends, each address below M": three instructions of four; LOADX and SAVEX at word 9; JUMP 2 for ever, JUMP 4;
+    -- DONE in a task, GO in an event
+    ∷ shown (serial 3 sample (commits (Body.Task 1))) ⇒ stopped
+    ∷ shown (serial 9 (withInstruction 0x0A31 0) (commits (Body.Task 1))) ⇒ stopped
+    ∷ shown (serial 9 (withInstruction 0x0B31 0) (commits (Body.Task 1))) ⇒ stopped
+    ∷ shown (serial 9 (withInstruction 0x0C00 2) (commits (Body.Task 1))) ⇒ stopped
+    ∷ shown (serial 9 (withInstruction 0x0C00 4) (commits (Body.Task 1))) ⇒ stopped
+    ∷ shown (serial 9 (set sample 35 0x1000) (commits (Body.Task 1))) ⇒ stopped
+    ∷ shown (serial 9 (set sample 45 0x0F00) (accepts 0 50 ++ commits (Body.Event 0))) ⇒ stopped
+    -- "instructions run from the first, on memory without a log": SAVEX 1 0 5 and JUMP 3 for ADD; the counting program
+    ∷ shown (serial 4 (withInstruction 0x0B10 5) (commits (Body.Task 1))) ⇒ reached (0 ∷ 0 ∷ 0 ∷ 0 ∷ 9 ∷ 9 ∷ []) 2 8 []
+    ∷ shown (serial 4 (withInstruction 0x0C00 3) (commits (Body.Task 1))) ⇒ reached afterTask1 2 8 []
+    ∷ shown (serial 5 counting (commits (Body.Task 0) ++ commits (Body.Task 0))) ⇒ reached (2 ∷ 0 ∷ []) 0 0 []
+    -- "All else, cuts and refusals too, changes nothing": the device's own answers
+    ∷ fromCalls (refilled ++ steps 18 ++ Cut ∷ Boot ∷ []) ⇒ reached (52 ∷ 0 ∷ 0 ∷ 0 ∷ 0 ∷ 51 ∷ []) 1 0 (holds 1 53 ∷ [])
+    ∷ fromCalls (transaction ++ steps 17 ++ Post 1 51 ∷ Cut ∷ Step ∷ []) ⇒ reached afterTask1 3 8 (holds 0 50 ∷ [])
+    ∷ []
+
+-- ---- What the claims count by
+
+-- two events are accepted, a task and an event commit
+abbrev twoAccepted : List Line
+twoAccepted = accepts 0 50 ++ accepts 1 51 ++ commits (Body.Event 0) ++ commits (Body.Task 1)
+
+unfoldable pub counts : List (Row (List ℕ))
+counts =
+    mayMeet Boot ⇒ (26 ∷ [])
+    ∷ mayMeet Step ⇒ (22 ∷ 23 ∷ 24 ∷ [])
+    ∷ mayMeet (Post 0 9) ⇒ (8 ∷ 20 ∷ 21 ∷ 22 ∷ [])
+    ∷ mayMeet Cut ⇒ []
+    -- "Uncut recovery takes n + 3 steps from phase 1 and n + 2 from phase 2"
+    ∷ (recoverySteps (view opened) ∷ recoverySteps (view taskCommit) ∷ recoverySteps (view eventCommit) ∷ []) ⇒ (0 ∷ 5 ∷ 3 ∷ [])
+    -- "Accepted is the number of records added so far, completed that of events committed"
+    ∷ map (λ (f : Answer → Bool). countBy f twoAccepted) (isAccept ∷ isCompletion ∷ []) ⇒ (2 ∷ 1 ∷ [])
+    ∷ []
+
+unfoldable pub tests : List (Row Bool)
+tests =
+    isIn 23 (22 ∷ 23 ∷ []) ⇒ true
+    ∷ isIn 25 (22 ∷ 23 ∷ []) ⇒ false
+    -- "Place: the word of any broken rule"
+    ∷ blames (rules sample (view (controls 0 1 0 0 0 0 4 4))) 14 ⇒ true
+    ∷ blames (rules sample (view (controls 0 1 0 0 0 0 4 4))) 15 ⇒ true
+    ∷ blames (rules sample (view (controls 0 1 0 0 0 0 4 4))) 9 ⇒ false
+    ∷ uncut (Boot ∷ Step ∷ Post 0 9 ∷ []) ⇒ true
+    ∷ uncut (Step ∷ Cut ∷ []) ⇒ false
+    ∷ []

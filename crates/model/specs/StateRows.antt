@@ -1,0 +1,281 @@
+-- Worked rows of what is refused: in the store's contents (6), in its control words (7), in the device state (25), and what a step checks of what it uses.
+use Prim.Native.Nat.{ℕ}
+use mathlib.Core.Bool.{true, false}
+use mathlib.Core.List.{List, [], _∷_, _++_}
+use lib.ListN.{getD, set, take}
+use Rattle.model.specs.Control.{Rule, broken, rules}
+use Rattle.model.specs.Device.{boot, post, step}
+use Rattle.model.specs.Store.{view, formatted}
+use Rattle.model.specs.Test.{pick}
+use Rattle.model.specs.Types.{Answer, Body, Device, Free, Half, Next, Place, Refusal, Resting, Run, Storing}
+use Rattle.model.specs.Sample.{Row, _⇒_, at, cleared, closed, controls, device, event1, eventCommit, offValue, onValue, opened, registers, sample, task1, taskCommit, twoPairs, withInstruction}
+
+-- ---- What boot, a step and a post meet in the program, in the store's contents (6) and in its control words (7)
+
+-- the device off for boot, on and without a body for a step and a post
+abbrev meets : List ℕ → List ℕ → List Answer
+meets p s = boot p s offValue .answer ∷ step p s onValue .answer ∷ post p s onValue 0 9 .answer ∷ []
+
+-- all three are refused; boot alone is refused; none is
+abbrev allRefused : Refusal → List Answer
+allRefused r = Answer.Refused r ∷ Answer.Refused r ∷ Answer.Refused r ∷ []
+
+abbrev bootRefused : Refusal → Answer → List Answer
+bootRefused r a = Answer.Refused r ∷ a ∷ Answer.Done ∷ []
+
+abbrev noneRefused : Answer → List Answer
+noneRefused a = Answer.Done ∷ a ∷ Answer.Done ∷ []
+
+unfoldable pub contents : List (Row (List Answer))
+contents =
+    meets sample opened ⇒ noneRefused (Answer.Chosen (Body.Task 1))
+    -- 1, 2 and 3 in each call, 4 and 5 in boot
+    ∷ meets (take 50 sample) opened ⇒ allRefused Refusal.ProgramLength
+    ∷ meets (set sample 0 0) opened ⇒ allRefused Refusal.ProgramMark
+    ∷ meets (set sample 2 17) opened ⇒ allRefused (Refusal.ProgramSize 2)
+    ∷ meets (set sample 10 0) opened ⇒ bootRefused (Refusal.Row 1) (Answer.Chosen (Body.Task 1))
+    ∷ meets (set sample 29 0x1100) opened ⇒ bootRefused (Refusal.Code 1 0) (Answer.Chosen (Body.Task 1))
+    -- "6: store contents or length wrong, or M unlike the program's"
+    ∷ meets sample (set opened 0 0xC0B1) ⇒ allRefused Refusal.StoreContents
+    ∷ meets sample (set opened 1 5) ⇒ allRefused Refusal.StoreContents
+    ∷ meets (set sample 3 7) opened ⇒ allRefused Refusal.StoreContents
+    ∷ meets sample (formatted sample 0 3) ⇒ allRefused Refusal.StoreContents
+    ∷ meets sample (formatted sample 65 3) ⇒ allRefused Refusal.StoreContents
+    ∷ meets sample (formatted sample 2 0) ⇒ allRefused Refusal.StoreContents
+    ∷ meets sample (formatted sample 2 33) ⇒ allRefused Refusal.StoreContents
+    ∷ meets sample (formatted sample 1 1) ⇒ noneRefused (Answer.Chosen (Body.Task 1))
+    ∷ meets sample (formatted sample 64 32) ⇒ noneRefused (Answer.Chosen (Body.Task 1))
+    ∷ meets sample (set opened 4 9) ⇒ allRefused Refusal.StoreContents
+    ∷ meets sample (set opened 5 17) ⇒ allRefused Refusal.StoreContents
+    ∷ meets sample (set opened 6 23) ⇒ allRefused Refusal.StoreContents
+    ∷ meets sample (set opened 7 27) ⇒ allRefused Refusal.StoreContents
+    ∷ meets sample (take 33 opened) ⇒ allRefused Refusal.StoreContents
+    ∷ meets sample (opened ++ 0 ∷ []) ⇒ allRefused Refusal.StoreContents
+    ∷ meets sample [] ⇒ allRefused Refusal.StoreContents
+    -- "1, 2, 3, 6, 7": with two faults, the first
+    ∷ meets (set sample 4 5) (set opened 0 0) ⇒ allRefused (Refusal.ProgramSize 4)
+    ∷ meets sample (set (set opened 0 0) 8 3) ⇒ allRefused Refusal.StoreContents
+    ∷ []
+
+-- the words of the broken rules, by rising word
+unfoldable pub brokenWords : List Rule → List ℕ
+brokenWords [] = []
+brokenWords (r ∷ rs) = pick (broken r) (r .word ∷ brokenWords rs) (brokenWords rs)
+
+pub record Findings : Type 0 where
+  pub broken : List ℕ
+  pub met : List Answer
+
+abbrev finds : List ℕ → Findings
+finds s = record { broken = brokenWords (rules sample (view s)); met = meets sample s }
+
+-- no rule is broken; these are, and every call meets the first; these are, and boot alone meets the first
+abbrev sound : Answer → Findings
+sound a = record { broken = []; met = noneRefused a }
+
+abbrev early : List ℕ → Findings
+early ws = record { broken = ws; met = allRefused (Refusal.Control (getD ws 0 0)) }
+
+abbrev late : List ℕ → Answer → Findings
+late ws a = record { broken = ws; met = bootRefused (Refusal.Control (getD ws 0 0)) a }
+
+unfoldable pub controlWords : List (Row Findings)
+controlWords =
+    -- phase 0: 8 phase, 9 task, 10 open, 11 count, 12 pending, 13 pending open, 14 head, 15 tail
+    finds (controls 0 1 8 9 9 9 0 2) ⇒ sound (Answer.Chosen (Body.Task 1))
+    ∷ finds (controls 0 1 0 9 9 9 0 2) ⇒ sound (Answer.Chosen (Body.Event 0))
+    ∷ finds (controls 0 4 9 0 0 0 3 3) ⇒ sound (Answer.Chosen (Body.Task 4))
+    ∷ finds (controls 0 5 9 0 0 0 0 2) ⇒ early (9 ∷ [])
+    ∷ finds (controls 0 1 9 0 0 0 0 2) ⇒ late (10 ∷ []) (Answer.Chosen (Body.Task 1))
+    ∷ finds (controls 0 4 8 0 0 0 0 2) ⇒ late (10 ∷ []) (Answer.Chosen (Body.Task 4))
+    ∷ finds (controls 0 1 0 0 0 0 4 2) ⇒ early (14 ∷ [])
+    ∷ finds (controls 0 1 0 0 0 0 2 4) ⇒ early (15 ∷ [])
+    -- "each waiting record's event below E", with records from slot 0 up to slot 2, from slot 3 up to slot 1, and with none
+    ∷ finds (set (controls 0 1 0 0 0 0 0 2) 26 2) ⇒ late (26 ∷ []) (Answer.Refused (Refusal.Control 26))
+    ∷ finds (set (controls 0 1 0 0 0 0 0 2) 28 2) ⇒ late (28 ∷ []) (Answer.Chosen (Body.Event 0))
+    ∷ finds (set (set (controls 0 1 0 0 0 0 0 2) 30 2) 32 2) ⇒ sound (Answer.Chosen (Body.Event 0))
+    ∷ finds (set (set (controls 0 1 8 0 0 0 3 1) 26 2) 32 2) ⇒ late (26 ∷ 32 ∷ []) (Answer.Chosen (Body.Task 1))
+    ∷ finds (set (set (controls 0 1 8 0 0 0 3 1) 28 2) 30 2) ⇒ sound (Answer.Chosen (Body.Task 1))
+    ∷ finds (set (set (controls 0 1 0 0 0 0 1 1) 26 2) 28 2) ⇒ sound (Answer.Chosen (Body.Task 1))
+    ∷ finds (set (controls 0 1 0 0 0 0 4 2) 26 2) ⇒ early (14 ∷ [])
+    ∷ finds (set (controls 0 1 0 0 0 0 0 4) 28 2) ⇒ early (15 ∷ [])
+    -- "8 at most 2"; "a rule that needs a broken word is passed over"
+    ∷ finds (set (controls 3 1 9 9 9 9 0 2) 26 2) ⇒ early (8 ∷ [])
+    ∷ finds (controls 3 5 9 9 9 9 4 4) ⇒ early (8 ∷ 9 ∷ 14 ∷ 15 ∷ [])
+    -- phase 1: "10 is free"; "12 below T and 13 is 0 or task 12's number"
+    ∷ finds (controls 1 1 77 2 2 8 0 2) ⇒ sound Answer.Stored
+    ∷ finds (controls 1 1 0 2 4 9 0 2) ⇒ sound Answer.Stored
+    ∷ finds (controls 1 1 0 2 4 0 0 2) ⇒ sound Answer.Stored
+    ∷ finds (controls 1 5 0 2 4 0 0 2) ⇒ early (9 ∷ [])
+    ∷ finds (controls 1 1 0 2 5 9 0 2) ⇒ early (12 ∷ [])
+    ∷ finds (controls 1 1 0 2 2 9 0 2) ⇒ late (13 ∷ []) Answer.Stored
+    ∷ finds (controls 1 1 0 2 2 8 4 4) ⇒ early (14 ∷ 15 ∷ [])
+    ∷ finds (set (controls 1 1 0 2 2 8 0 2) 28 2) ⇒ late (28 ∷ []) Answer.Stored
+    -- "11 at most L and the first n log addresses below M"
+    ∷ finds (set (controls 1 1 0 3 2 8 0 2) 22 6) ⇒ early (11 ∷ [])
+    ∷ finds (set (controls 1 1 0 2 2 8 0 2) 22 6) ⇒ late (22 ∷ []) (Answer.Refused (Refusal.Control 22))
+    ∷ finds (set (controls 1 1 0 2 2 8 0 2) 24 6) ⇒ late (24 ∷ []) Answer.Stored
+    ∷ finds (set (controls 1 1 0 1 2 8 0 2) 24 6) ⇒ sound Answer.Stored
+    ∷ finds (set (controls 0 1 8 2 2 8 0 2) 22 6) ⇒ sound (Answer.Chosen (Body.Task 1))
+    -- phase 2: "10 is 0"; "12 at most Q and equals 14, or is the slot after it with the queue not empty"
+    ∷ finds (controls 2 1 0 2 1 77 0 2) ⇒ sound Answer.Stored
+    ∷ finds (controls 2 1 0 2 0 0 0 2) ⇒ sound Answer.Stored
+    ∷ finds (controls 2 1 0 2 0 0 0 0) ⇒ sound Answer.Stored
+    ∷ finds (controls 2 1 0 2 0 0 3 1) ⇒ sound Answer.Stored
+    ∷ finds (controls 2 5 0 2 1 0 0 2) ⇒ early (9 ∷ [])
+    ∷ finds (controls 2 1 8 2 1 0 0 2) ⇒ early (10 ∷ [])
+    ∷ finds (controls 2 1 0 2 2 0 0 2) ⇒ early (12 ∷ [])
+    ∷ finds (controls 2 1 0 2 1 0 0 0) ⇒ early (12 ∷ [])
+    ∷ finds (controls 2 1 0 2 4 0 3 1) ⇒ early (12 ∷ [])
+    ∷ finds (controls 2 1 0 2 9 0 4 1) ⇒ early (14 ∷ [])
+    ∷ finds (controls 2 1 0 2 9 0 0 4) ⇒ early (15 ∷ [])
+    ∷ finds (set (controls 2 1 0 3 1 0 0 2) 22 6) ⇒ early (11 ∷ [])
+    ∷ finds (set (controls 2 1 0 2 1 0 0 2) 22 6) ⇒ late (22 ∷ []) (Answer.Refused (Refusal.Control 22))
+    ∷ finds (set (controls 2 1 0 2 1 0 0 2) 24 6) ⇒ late (24 ∷ []) Answer.Stored
+    -- "The waiting records run to tail from head, in phase 2 from word 12"
+    ∷ finds (set (controls 2 1 0 2 1 0 0 2) 26 2) ⇒ sound Answer.Stored
+    ∷ finds (set (controls 2 1 0 2 1 0 0 2) 28 2) ⇒ late (28 ∷ []) Answer.Stored
+    ∷ finds (set (controls 2 1 0 2 2 0 0 3) 30 2) ⇒ early (12 ∷ [])
+    ∷ []
+
+-- ---- "25: state unlike program or store": the answers of a step and of a post
+
+abbrev looked : List ℕ → Device → List Answer
+looked s d = step sample s d .answer ∷ post sample s d 0 9 .answer ∷ []
+
+-- both meet it; the step alone meets it; neither does
+abbrev both : Refusal → List Answer
+both r = Answer.Refused r ∷ Answer.Refused r ∷ []
+
+abbrev stepAlone : List Answer
+stepAlone = Answer.Refused Refusal.State ∷ Answer.Done ∷ []
+
+abbrev neither : Answer → List Answer
+neither a = a ∷ Answer.Done ∷ []
+
+unfoldable pub states : List (Row (List Answer))
+states =
+    -- "body or instruction out of range"
+    looked opened (at (task1 3)) ⇒ neither Answer.Stored
+    ∷ looked opened (at (task1 4)) ⇒ stepAlone
+    ∷ looked opened (at (Half (Body.Task 1) 4)) ⇒ stepAlone
+    ∷ looked opened (at (Run (Body.Task 5) 0 0)) ⇒ both Refusal.State
+    ∷ looked closed (at (event1 0)) ⇒ neither Answer.Stored
+    ∷ looked closed (at (event1 2)) ⇒ stepAlone
+    ∷ looked (set closed 32 2) (at (Run (Body.Event 2) 0 0)) ⇒ both Refusal.State
+    -- "log count above L"
+    ∷ looked opened (twoPairs (task1 0)) ⇒ neither Answer.Worked
+    ∷ looked opened (device true registers (task1 0) 3 Resting) ⇒ both Refusal.State
+    ∷ looked taskCommit (device true registers (Free 0) 3 Resting) ⇒ both Refusal.State
+    -- "commit place past its last store": n is 2, and 1
+    ∷ looked taskCommit (at (Free 4)) ⇒ neither Answer.Stored
+    ∷ looked taskCommit (at (Free 5)) ⇒ both Refusal.State
+    ∷ looked eventCommit (at (Free 2)) ⇒ neither Answer.Stored
+    ∷ looked eventCommit (at (Free 3)) ⇒ both Refusal.State
+    ∷ looked opened (at (Run (Body.Task 1) 3 3)) ⇒ neither (Answer.Committed (Body.Task 1))
+    ∷ looked opened (at (Run (Body.Task 1) 3 4)) ⇒ both Refusal.State
+    ∷ looked closed (at (Run (Body.Event 1) 1 2)) ⇒ neither (Answer.Committed (Body.Event 1))
+    ∷ looked closed (at (Run (Body.Event 1) 1 3)) ⇒ both Refusal.State
+    -- "or phase disagreeing; a body running in phase 1 or 2"
+    ∷ looked opened (at (Free 0)) ⇒ neither (Answer.Chosen (Body.Task 1))
+    ∷ looked opened (at (Free 1)) ⇒ both Refusal.State
+    ∷ looked taskCommit (at (task1 0)) ⇒ both Refusal.State
+    ∷ looked taskCommit (at (Half (Body.Task 1) 1)) ⇒ both Refusal.State
+    ∷ looked eventCommit (at (event1 0)) ⇒ both Refusal.State
+    ∷ looked eventCommit (at (Half (Body.Event 1) 0)) ⇒ both Refusal.State
+    -- "a commit begun in phase 0 without a body at GO or DONE"
+    ∷ looked opened (at (Run (Body.Task 1) 3 1)) ⇒ neither Answer.Stored
+    ∷ looked opened (at (Run (Body.Task 1) 0 1)) ⇒ stepAlone
+    ∷ looked opened (at (Run (Body.Task 1) 1 1)) ⇒ stepAlone
+    ∷ looked closed (at (Run (Body.Event 1) 1 1)) ⇒ neither Answer.Stored
+    ∷ looked closed (at (Run (Body.Event 1) 0 1)) ⇒ stepAlone
+    -- "half a SAVE without a SAVE or with L pairs"
+    ∷ looked opened (at (Half (Body.Task 1) 1)) ⇒ neither Answer.Stored
+    ∷ looked opened (at (Half (Body.Task 1) 0)) ⇒ stepAlone
+    ∷ looked opened (at (Half (Body.Task 1) 3)) ⇒ stepAlone
+    ∷ looked closed (at (Half (Body.Event 1) 1)) ⇒ stepAlone
+    ∷ looked opened (twoPairs (Half (Body.Task 1) 1)) ⇒ both Refusal.State
+    -- "in phase 0 a running body that isn't word 9's task, nor the event of a record at head with word 10 at 0"
+    ∷ looked opened (at (Run (Body.Task 0) 0 0)) ⇒ both Refusal.State
+    ∷ looked opened (at (Run (Body.Task 2) 0 0)) ⇒ both Refusal.State
+    ∷ looked opened (at (Half (Body.Task 2) 0)) ⇒ both Refusal.State
+    ∷ looked (controls 0 2 8 0 0 0 3 1) (at (Run (Body.Task 2) 0 0)) ⇒ neither Answer.Stored
+    ∷ looked opened (at (event1 0)) ⇒ both Refusal.State
+    ∷ looked (controls 0 1 0 0 0 0 3 3) (at (event1 0)) ⇒ both Refusal.State
+    ∷ looked closed (at (Run (Body.Event 0) 0 0)) ⇒ stepAlone
+    ∷ looked closed (at (Half (Body.Event 0) 0)) ⇒ stepAlone
+    ∷ looked closed (at (Half (Body.Event 1) 0)) ⇒ neither Answer.Stored
+    -- "a handler at work with the queue full or its event not below E"
+    ∷ looked opened (device true registers (task1 0) 1 (Storing Next.Event 1 66)) ⇒ (Answer.Stored ∷ Answer.Refused Refusal.HandlerBusy ∷ [])
+    ∷ looked opened (device true registers (task1 0) 1 (Storing Next.Event 2 66)) ⇒ both Refusal.State
+    ∷ looked (controls 0 1 8 0 0 0 2 1) (device true registers (task1 0) 1 (Storing Next.Tail 1 66)) ⇒ both Refusal.State
+    -- "off unlike its fixed value"
+    ∷ looked opened offValue ⇒ both Refusal.PowerOff
+    ∷ looked opened (device false (set cleared 0 1) (Free 0) 0 Resting) ⇒ both Refusal.State
+    ∷ looked opened (device false (set cleared 7 1) (Free 0) 0 Resting) ⇒ both Refusal.State
+    ∷ looked taskCommit (device false cleared (Free 1) 0 Resting) ⇒ both Refusal.State
+    ∷ looked opened (device false cleared (task1 0) 0 Resting) ⇒ both Refusal.State
+    ∷ looked opened (device false cleared (Half (Body.Task 1) 1) 0 Resting) ⇒ both Refusal.State
+    ∷ looked opened (device false cleared (Free 0) 1 Resting) ⇒ both Refusal.State
+    ∷ looked opened (device false cleared (Free 0) 0 (Storing Next.Event 1 66)) ⇒ both Refusal.State
+    -- "7, 25, 22": with two faults, the first
+    ∷ looked (set opened 8 3) (at (Free 1)) ⇒ both (Refusal.Control 8)
+    ∷ []
+
+-- ---- "a step then checks what it uses"
+
+abbrev asks : List ℕ → List ℕ → Place → Answer
+asks p s x = step p s (at x) .answer
+
+-- with an open number that isn't task 1's
+abbrev pub wrongOpen : List ℕ
+wrongOpen = controls 0 1 9 7 7 7 3 1
+
+unfoldable pub uses : List (Row Answer)
+uses =
+    -- "a chosen record (7)"
+    asks (set sample 25 0) (set closed 32 2) (event1 0) ⇒ Answer.Refused (Refusal.Control 32)
+    ∷ asks (set sample 1 32) (set closed 32 2) (event1 0) ⇒ Answer.Refused (Refusal.Control 32)
+    -- "the body's row (4: rows past the program, its limits, and its body behind the rows and inside the total)"
+    ∷ asks (set (set sample 1 32) 10 0) opened (task1 0) ⇒ Answer.Refused (Refusal.Row 0)
+    ∷ asks (set sample 10 0) opened (task1 0) ⇒ Answer.Refused (Refusal.Row 1)
+    ∷ asks (set sample 11 255) (controls 0 1 255 7 7 7 3 1) (task1 0) ⇒ Answer.Worked
+    ∷ asks (set sample 11 256) (controls 0 1 256 7 7 7 3 1) (task1 0) ⇒ Answer.Refused (Refusal.Row 1)
+    ∷ asks (set sample 26 1) closed (event1 0) ⇒ Answer.Refused (Refusal.Row 6)
+    ∷ asks (set sample 9 27) opened (task1 0) ⇒ Answer.Stored
+    ∷ asks (set sample 9 26) opened (task1 0) ⇒ Answer.Refused (Refusal.Row 1)
+    ∷ asks (set sample 9 43) opened (task1 0) ⇒ Answer.Stored
+    ∷ asks (set sample 9 44) opened (task1 0) ⇒ Answer.Refused (Refusal.Row 1)
+    ∷ asks (set sample 13 0) opened (task1 2) ⇒ Answer.Worked
+    -- "the instruction (5)"
+    ∷ asks (set sample 33 0x1100) opened (task1 1) ⇒ Answer.Stored
+    ∷ asks (set sample 33 0x1100) opened (task1 2) ⇒ Answer.Refused (Refusal.Code 1 2)
+    ∷ asks (set (set sample 29 0x1100) 10 0) opened (task1 0) ⇒ Answer.Refused (Refusal.Row 1)
+    ∷ asks (set sample 31 0x0810) opened (Half (Body.Task 1) 1) ⇒ Answer.Refused Refusal.State
+    ∷ asks (set sample 31 0x0818) opened (Half (Body.Task 1) 1) ⇒ Answer.Refused (Refusal.Code 1 1)
+    ∷ asks (set sample 49 0x0C00) closed (event1 1) ⇒ Answer.Worked
+    ∷ asks (set sample 49 0x0F00) closed (event1 1) ⇒ Answer.Refused (Refusal.Code 6 1)
+    ∷ asks (set (set sample 35 0x0200) 36 0) opened (task1 3) ⇒ Answer.Refused (Refusal.Code 1 3)
+    -- "at GO task k's row (4)"
+    ∷ asks (set sample 13 0) opened (task1 3) ⇒ Answer.Refused (Refusal.Row 2)
+    ∷ asks (set sample 12 26) opened (Run (Body.Task 1) 3 3) ⇒ Answer.Refused (Refusal.Row 2)
+    ∷ asks (set (set sample 13 0) 35 0x0F10) opened (task1 3) ⇒ Answer.Refused (Refusal.Code 1 3)
+    -- "the rest of 7"
+    ∷ asks sample wrongOpen (task1 0) ⇒ Answer.Refused (Refusal.Control 10)
+    ∷ asks sample wrongOpen (Half (Body.Task 1) 1) ⇒ Answer.Refused (Refusal.Control 10)
+    ∷ asks (set sample 13 0) wrongOpen (task1 3) ⇒ Answer.Refused (Refusal.Row 2)
+    ∷ asks (set sample 29 0x1100) wrongOpen (task1 0) ⇒ Answer.Refused (Refusal.Code 1 0)
+    -- "then of 25"
+    ∷ asks sample wrongOpen (task1 4) ⇒ Answer.Refused (Refusal.Control 10)
+    ∷ asks sample wrongOpen (Run (Body.Task 1) 0 1) ⇒ Answer.Refused (Refusal.Control 10)
+    ∷ asks (withInstruction 0x0830 2) opened (Run (Body.Task 1) 2 1) ⇒ Answer.Refused Refusal.State
+    ∷ asks (withInstruction 0x0C00 0) opened (Run (Body.Task 1) 2 1) ⇒ Answer.Refused Refusal.State
+    ∷ asks (withInstruction 0x0B31 4) opened (Run (Body.Task 1) 2 1) ⇒ Answer.Refused Refusal.State
+    -- "and a log pair"
+    ∷ asks sample (set taskCommit 22 6) (Free 1) ⇒ Answer.Stored
+    ∷ asks sample (set taskCommit 24 6) (Free 1) ⇒ Answer.Refused (Refusal.Control 24)
+    -- "then 23, 24": L pairs are in the log, for addresses 2 and 3
+    ∷ step (withInstruction 0x0930 3) opened (twoPairs (task1 2)) .answer ⇒ Answer.Stored
+    ∷ step (withInstruction 0x0930 5) opened (twoPairs (task1 2)) .answer ⇒ Answer.Refused Refusal.LogFull
+    ∷ step (withInstruction 0x0B31 4) opened (twoPairs (task1 2)) .answer ⇒ Answer.Refused Refusal.Address
+    ∷ []
