@@ -9,15 +9,15 @@ use native.Mathlib.Omega.{arith}
 use borrow.Author.Tests.{lt-ltb, le-ltb, le-leb, eq-eqb, ne-eqb, ltb-true}
 use lib.Dec.{ltb, leb, eqb}
 use lib.ListN.{length}
-use Rattle.model.proofs.Invariant.{Lengths, Tasked, Waiting, AtWork, Handles, StillAt, CopyingAt, TaskCommitAt, EventCommitAt, Mine, Running, EndingAt, HalfSaved, BodyAt, Placed, Inv}
-use Rattle.model.proofs.Kept.{first-head, first-pending, task-last-is, event-last-is}
+use Rattle.model.proofs.Invariant.{Handles, HeldAt, StillAt, CopyingAt, MineAt, EndingAt, HalfSaved, BodyAt, Placed, Resumes, On}
+use Rattle.model.proofs.Kept.{first-head, first-pending, lasting-in, task-last-is, event-last-is}
 use Rattle.model.proofs.LogLaws.{addr}
 use Rattle.model.proofs.ProgramLaws.{Contents, Leads, Sound}
 use Rattle.model.proofs.RingLaws.{Between, between-is, between-first, after-le}
 use Rattle.model.proofs.TestLaws.{pick-case, pick-true, pick-false, clash, below-or, and-true, and-left, and-right, or-true-left, or-true-right, not-false, must-true, then-passed, then-first, then-rest}
 use Rattle.model.specs.Check.{rowsInside, rowUsed, instructionRule, check}
 use Rattle.model.specs.Control.{Rule, broken, obey, obeyAll, upTo, phaseRule, taskRule, openRule, openServing, countRule, pendingTaskRule, headRule, tailRule, pendingHeadRule, pendingOpenRule, addressRule, between, recordRule, controlRules, rules, earlyRules}
-use Rattle.model.specs.Device.{taskLastStores, eventLastStores, lastStores, mayRun, endStores, placeSound, handlerSound, deviceSound, recordSound, headSound, namedRow, openSound, headIs, ends, saves, placeFits, bodySound}
+use Rattle.model.specs.Device.{taskStores, eventStores, lastStores, mayRun, endStores, placeSound, handlerSound, deviceSound, recordSound, headSound, namedRow, openSound, headIs, ends, saves, placeFits, bodySound}
 use Rattle.model.specs.Program.{word, tasks, events, memoryWords, instructions, transaction, number, effectAt}
 use Rattle.model.specs.Serial.{Serial}
 use Rattle.model.specs.Store.{Store, event, after, empty, full, firstWaiting, Task, Open, Phase, Head, to, Write}
@@ -65,28 +65,21 @@ pub data Phases (p : List ℕ) (v : Store) : Type 0 where
   ends-event : v .phase ≡ 2 → Copies p v → v .openNumber ≡ 0 → v .pending ≤ v .records
       → (v .pending ≡ v .head) ⊎ ((v .pending ≡ after (v .records) (v .head)) × (v .head ≢ v .tail)) → Phases p v
 
-module _ (p : List ℕ) (v : Store) (d : Device) (z : Serial) (k : ℕ) (i : Inv p v d z k) where
-  runs-still : StillAt v z → Phases p v
-  runs-still s = runs (s .phase-is) (rw (s .open-is, s .task-is) (i .tasked .open-in))
-
+module _ (p : List ℕ) (v : Store) (z : Serial) (held : HeldAt p v z) where
   copies : (c : ℕ) → CopyingAt p v z c → Copies p v
   copies c m = record { count-in = m .count-in; addresses = m .addresses }
 
-  phases : (x : Place) → Placed p v d z k x → Phases p v
-  phases (Free c) (inl (s, e)) = runs-still s
-  phases (Free c) (inr (m, inl t)) =
-      ends-task (t .phase-is) (copies c m) (rw (t .pending-is) (i .tasked .task-in)) (rw (t .pendingOpen-is, t .pending-is) (i .tasked .open-in))
-  phases (Free c) (inr (m, inr t)) =
-      ends-event (t .phase-is) (copies c m) (t .open-none) (rw (first-pending v (t .phase-is)) at (i .waits .first-in)) (t .pending-is)
-  phases (Run b j c) ((s, r), e) = runs-still s
-  phases (Half b j) ((s, r), e) = runs-still s
+  phases : Resumes p v z → Phases p v
+  phases (inl s) = runs (s .phase-is) (rw (s .open-is, s .task-is) (held .tasked .open-in))
+  phases (inr (m, inl t)) =
+      ends-task (t .phase-is) (copies 0 m) (rw (t .pending-is) (held .tasked .task-in)) (rw (t .pendingOpen-is, t .pending-is) (held .tasked .open-in))
+  phases (inr (m, inr t)) =
+      ends-event (t .phase-is) (copies 0 m) (t .open-none) (rw (first-pending v (t .phase-is)) at (held .waits .first-in)) (t .pending-is)
 
-  task-below : (x : Place) → Placed p v d z k x → v .task < tasks p
-  task-below (Free c) (inl (s, e)) = rw (s .task-is) (i .tasked .task-in)
-  task-below (Free c) (inr (m, inl t)) = t .task-in
-  task-below (Free c) (inr (m, inr t)) = rw (t .task-is) (i .tasked .task-in)
-  task-below (Run b j c) ((s, r), e) = rw (s .task-is) (i .tasked .task-in)
-  task-below (Half b j) ((s, r), e) = rw (s .task-is) (i .tasked .task-in)
+  task-below : Resumes p v z → v .task < tasks p
+  task-below (inl s) = rw (s .task-is) (held .tasked .task-in)
+  task-below (inr (m, inl t)) = t .task-in
+  task-below (inr (m, inr t)) = rw (t .task-is) (held .tasked .task-in)
 
 -- ---- rule 7
 
@@ -176,13 +169,13 @@ module _ (p : List ℕ) (v : Store) where
       go true e = obey-kept (recordRule p v x) (lt-ltb _ _ (known x l (between-is _ _ _ e)))
       go false e = obey-unasked (recordRule p v x) (and-false _ _ (and-false _ _ (and-false _ _ (and-false _ _ e))))
 
--- 7 whole, as boot has it, and what step and post look at early
-module _ (p : List ℕ) (v : Store) (d : Device) (z : Serial) (k : ℕ) (i : Inv p v d z k) where
+-- 7 whole, as boot has it, and what step and post look at early: both hold of the store, whatever the device
+module _ (p : List ℕ) (v : Store) (z : Serial) (held : HeldAt p v z) (resumes : Resumes p v z) where
   ph : Phases p v
-  ph = phases p v d z k i (d .place) (i .placed)
+  ph = phases p v z held resumes
 
   task-ok : obey (taskRule p v) ≡ Checked.Accepted
-  task-ok = task-obeyed p v (task-below p v d z k i (d .place) (i .placed))
+  task-ok = task-obeyed p v (task-below p v z held resumes)
 
   control-obeyed : obeyAll (controlRules p v) ≡ Checked.Accepted
   unfolding controlRules obeyAll
@@ -195,7 +188,7 @@ module _ (p : List ℕ) (v : Store) (d : Device) (z : Serial) (k : ℕ) (i : Inv
       (then-passed (pending-obeyed p v ph)
       (then-passed (pendingHead-obeyed p v ph)
       (then-passed (pendingOpen-obeyed p v ph)
-      (then-passed (head-obeyed p v (i .head-in)) (then-passed (tail-obeyed p v (i .waits .tail-in)) refl)))))))))
+      (then-passed (head-obeyed p v (held .head-in)) (then-passed (tail-obeyed p v (held .waits .tail-in)) refl)))))))))
 
   pub rules-obeyed : obeyAll (rules p v) ≡ Checked.Accepted
   unfolding rules
@@ -203,7 +196,7 @@ module _ (p : List ℕ) (v : Store) (d : Device) (z : Serial) (k : ℕ) (i : Inv
       obey-append (controlRules p v ++ upTo (addressRule p v) (v .pairs)) (upTo (recordRule p v) (v .records + 1))
       (obey-append (controlRules p v) (upTo (addressRule p v) (v .pairs)) control-obeyed
       (obey-upTo (addressRule p v) (v .pairs) (λ j l. address-obeyed p v ph j)))
-      (obey-upTo (recordRule p v) (v .records + 1) (λ x l. record-obeyed p v (i .waits .known) x (omega arith)))
+      (obey-upTo (recordRule p v) (v .records + 1) (λ x l. record-obeyed p v (held .waits .known) x (omega arith)))
 
   pub early-obeyed : obeyAll (earlyRules p v) ≡ Checked.Accepted
   unfolding earlyRules obeyAll
@@ -214,11 +207,12 @@ module _ (p : List ℕ) (v : Store) (d : Device) (z : Serial) (k : ℕ) (i : Inv
       (then-passed (count-obeyed p v ph)
       (then-passed (pending-obeyed p v ph)
       (then-passed (pendingHead-obeyed p v ph)
-      (then-passed (head-obeyed p v (i .head-in)) (then-passed (tail-obeyed p v (i .waits .tail-in)) refl)))))))
+      (then-passed (head-obeyed p v (held .head-in)) (then-passed (tail-obeyed p v (held .waits .tail-in)) refl)))))))
 
-  -- ---- 25
+-- ---- 25
 
-  may-run : (b : Body) (x : ℕ) → Mine (v .task) (v .openNumber) (v .head) (v .tail) (v .queue) x b → number p b < tasks p + events p → mayRun p v b ≡ true
+module _ (p : List ℕ) (v : Store) (d : Device) (z : Serial) (k : ℕ) (i : On p v d z k) where
+  may-run : (b : Body) (x : ℕ) → MineAt v x b → number p b < tasks p + events p → mayRun p v b ≡ true
   unfolding mayRun number
   may-run (Body.Task t) x m l = eq-eqb _ _ (m .0)
   may-run (Body.Event e) x m l =
@@ -227,6 +221,7 @@ module _ (p : List ℕ) (v : Store) (d : Device) (z : Serial) (k : ℕ) (i : Inv
 
   -- stores of a body's end that are made
   ends-four : (b : Body) (c : ℕ) (f : Effect) → EndingAt p v d b c f → c < 4
+  unfolding taskStores eventStores
   ends-four b c (Effect.Compute a x) t = omega arith
   ends-four b c (Effect.Jump a) t = omega arith
   ends-four b c (Effect.Read a x) t = omega arith
@@ -236,6 +231,7 @@ module _ (p : List ℕ) (v : Store) (d : Device) (z : Serial) (k : ℕ) (i : Inv
   ends-four b c Effect.Unknown t = absurd t
 
   ends-three : (b : Body) (e j c : ℕ) (f : Effect) → Leads p (tasks p + e) j f → EndingAt p v d b c f → c < 3
+  unfolding eventStores
   ends-three b e j c (Effect.Compute a x) l t = omega arith
   ends-three b e j c (Effect.Jump a) l t = omega arith
   ends-three b e j c (Effect.Read a x) l t = omega arith
@@ -259,16 +255,16 @@ module _ (p : List ℕ) (v : Store) (d : Device) (z : Serial) (k : ℕ) (i : Inv
   half-in l Effect.Unknown h = absurd h
 
   place-sound : Sound p → (x : Place) → Placed p v d z k x → placeSound p v (d .count) x ≡ true
-  unfolding placeSound taskLastStores eventLastStores
+  unfolding placeSound
   place-sound sound (Free c) (inl (s, e)) = pick-true _ _ (eq-eqb _ _ (s .phase-is)) ∙ eq-eqb _ _ e
   place-sound sound (Free c) (inr (m, inl t)) =
       pick-false _ _ (in-phase p v 1 0 (t .phase-is) refl)
       ∙ ap (λ (ws : List Write). ltb c (v .count + length ws)) (task-last-is v (t .phase-is))
-      ∙ lt-ltb _ _ (t .place)
+      ∙ lt-ltb _ _ (lasting-in (t .lasting))
   place-sound sound (Free c) (inr (m, inr t)) =
       pick-false _ _ (in-phase p v 2 0 (t .phase-is) refl)
       ∙ ap (λ (ws : List Write). ltb c (v .count + length ws)) (event-last-is v (t .phase-is))
-      ∙ lt-ltb _ _ (t .place)
+      ∙ lt-ltb _ _ (lasting-in (t .lasting))
   place-sound sound (Run b j c) ((s, (x, m, r)), e) =
       and-true (eq-eqb _ _ (s .phase-is))
       (and-true (may-run b x m (r .body-in))
@@ -281,28 +277,28 @@ module _ (p : List ℕ) (v : Store) (d : Device) (z : Serial) (k : ℕ) (i : Inv
   handler-sound Resting a = refl
   handler-sound (Storing n e x) a = and-true (lt-ltb _ _ (a .event-in)) (not-false (ne-eqb _ _ (a .room)))
 
-  pub device-sound : Sound p → d .on ≡ true → deviceSound p v d ≡ true
+  pub device-sound : Sound p → deviceSound p v d ≡ true
   unfolding deviceSound
-  device-sound sound on =
-      pick-true _ _ on
+  device-sound sound =
+      pick-true _ _ (i .on)
       ∙ and-true (le-leb _ _ (i .count-in)) (and-true (place-sound sound (d .place) (i .placed)) (handler-sound (d .handler) (i .handles)))
 
   -- ---- what a step checks of a body
 
-  head-sound : (b : Body) (x : ℕ) → StillAt v z → Mine (v .task) (v .openNumber) (v .head) (v .tail) (v .queue) x b → headSound p v b ≡ Checked.Accepted
+  head-sound : (b : Body) (x : ℕ) → StillAt v z → MineAt v x b → headSound p v b ≡ Checked.Accepted
   unfolding headSound recordSound
   head-sound (Body.Task t) x s m = refl
   head-sound (Body.Event e) x s m =
       must-true _
       (lt-ltb _ _
-      (i .waits .known (v .head) (i .head-in) (rw (first-head v 0 (s .phase-is) refl) (between-first (v .head) (v .tail) (m .1 .0)))))
+      (i .held .waits .known (v .head) (i .held .head-in) (rw (first-head v 0 (s .phase-is) refl) (between-first (v .head) (v .tail) (m .1 .0)))))
 
-  open-sound : (b : Body) → openSound p v b ≡ Checked.Accepted
+  open-sound : (b : Body) → StillAt v z → openSound p v b ≡ Checked.Accepted
   unfolding openSound
-  open-sound (Body.Task t) = open-obeyed p v ph
-  open-sound (Body.Event e) = refl
+  open-sound (Body.Task t) s = open-obeyed p v (phases p v z (i .held) (inl s))
+  open-sound (Body.Event e) s = refl
 
-  head-is : (b : Body) (x : ℕ) → Mine (v .task) (v .openNumber) (v .head) (v .tail) (v .queue) x b → headIs v b ≡ true
+  head-is : (b : Body) (x : ℕ) → MineAt v x b → headIs v b ≡ true
   unfolding headIs
   head-is (Body.Task t) x m = refl
   head-is (Body.Event e) x m = eq-eqb _ _ (m .1 .1 .0)
@@ -330,7 +326,7 @@ module _ (p : List ℕ) (v : Store) (d : Device) (z : Serial) (k : ℕ) (i : Inv
       (pick-true _ _ there
       ∙ then-passed (sound .rule n j (r .body-in) (r .place-in))
       (named-row sound n j _ (sound .leads n j (d .regs) (r .body-in) (r .place-in))))
-      (then-passed (open-sound b) (must-true _ (and-true there (and-true (head-is b x m) fits)))))))
+      (then-passed (open-sound b s) (must-true _ (and-true there (and-true (head-is b x m) fits)))))))
 
   pub run-fits : (b : Body) (j c : ℕ) (f : Effect) → EndingAt p v d b c f → placeFits (Run b j c) f ≡ true
   unfolding placeFits ends

@@ -9,7 +9,7 @@ use native.Mathlib.Omega.{arith}
 use borrow.Author.Tests.{leb-true, eqb-true, eq-eqb, le-leb}
 use lib.Dec.{leb, eqb}
 use lib.ListN.{length, take, drop, getD, replicate, length-append, length-replicate}
-use Rattle.model.proofs.Invariant.{Inv, Tasked, Waiting, Still}
+use Rattle.model.proofs.Invariant.{Inv, Waiting}
 use Rattle.model.proofs.Kept.{first-head}
 use Rattle.model.proofs.KeptWords.{InvWords}
 use Rattle.model.proofs.ProgramLaws.{Contents, Sound, check-passed}
@@ -102,15 +102,17 @@ module _ (p : List ℕ) (sound : Sound p) (l q : ℕ) (sizes : sizesRule l q ≡
   fresh-inv : Inv p v off (serialStart p) 0
   unfolding formatted storeContents serialStart fresh
   fresh-inv =
-      record {
-        tasked = record { task-in = sound .contents .entry-is; open-in = inl refl };
-        head-in = omega (arith, behind 4);
-        waits = rw (first-head v 0 refl refl, behind 4, behind 5) no-record;
-        handles = tt;
-        off-is = λ e. refl;
-        count-in = omega arith;
-        placed = inl (record { phase-is = refl; memory-is = memory-is; task-is = refl; open-is = behind 0 }, refl);
-      }
+      inl
+      (record {
+        held =
+            record {
+              tasked = record { task-in = sound .contents .entry-is; open-in = inl refl };
+              head-in = omega (arith, behind 4);
+              waits = rw (first-head v 0 refl refl, behind 4, behind 5) no-record;
+            };
+        resumes = inl (record { phase-is = refl; memory-is = memory-is; task-is = refl; open-is = behind 0 });
+        is-off = refl;
+      })
 
   pub fresh-words : InvWords p l q s off (serialStart p) 0
   fresh-words = record { sized = sized; contents = contents; inv = fresh-inv }

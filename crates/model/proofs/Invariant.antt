@@ -1,5 +1,6 @@
--- What holds of store, device and serial run after every call. Each predicate is a record over just the parts that it speaks of, so
--- that a proof of it stands as it is after a store to another part. Assumes nothing.
+-- What holds of store, device and serial run after every call: of a device that is off (`Off`), of one that is on (`On`). Each predicate is
+-- a record over just the parts that it speaks of, so that a proof of it stands as it is after a store to another part. "The first c
+-- stores of this list are made" is one predicate, `First`, for every row of stores. Assumes nothing.
 use Prim.Native.Nat.{ℕ, zero, suc, _+_, _-_, _*_, _≤_, _<_, min}
 use mathlib.Core.Path.{_≡_, refl, sym, ap, _∙_}
 use mathlib.Core.Logic.{_⊎_, inl, inr, _≢_}
@@ -9,11 +10,59 @@ use mathlib.Core.Option.{Option, some}
 use lib.ListN.{length, set, replicate}
 use Rattle.model.proofs.LogLaws.{addr, val, overlay, Distinct}
 use Rattle.model.proofs.RingLaws.{Between}
-use Rattle.model.specs.Device.{off}
+use Rattle.model.specs.Device.{off, taskStores, eventStores, taskLastStores, eventLastStores}
 use Rattle.model.specs.Program.{word, tasks, events, memoryWords, instructions, transaction, number, effectAt, newOpen}
 use Rattle.model.specs.Serial.{Serial, Walked, walk}
-use Rattle.model.specs.Store.{Store, Record, after, firstWaiting, waiting, recordsFrom, distance}
+use Rattle.model.specs.Store.{Store, Record, after, firstWaiting, recordsFrom, distance, Phase, Task, Open, Count, Pending, PendingOpen, Head, Tail, Memory, Address, Value, Event, Datum, Write, none, to}
 use Rattle.model.specs.Types.{Answer, Body, Device, Effect, Free, Half, Handler, Next, Place, Resting, Run, Storing}
+
+-- ---- the control words, but tail, which is the handler's
+
+pub record Controls : Type 0 where
+  pub phase : ℕ
+  pub task : ℕ
+  pub openNumber : ℕ
+  pub count : ℕ
+  pub pending : ℕ
+  pub pendingOpen : ℕ
+  pub head : ℕ
+
+abbrev pub controls : Store → Controls
+controls v =
+    record {
+      phase = v .phase;
+      task = v .task;
+      openNumber = v .openNumber;
+      count = v .count;
+      pending = v .pending;
+      pendingOpen = v .pendingOpen;
+      head = v .head;
+    }
+
+-- what a write stores to a control word stands there
+abbrev pub Has : Controls → Write → Type 0
+Has k none = ⊥
+Has k (to Phase x) = k .phase ≡ x
+Has k (to Task x) = k .task ≡ x
+Has k (to Open x) = k .openNumber ≡ x
+Has k (to Count x) = k .count ≡ x
+Has k (to Pending x) = k .pending ≡ x
+Has k (to PendingOpen x) = k .pendingOpen ≡ x
+Has k (to Head x) = k .head ≡ x
+Has k (to Tail x) = ⊥
+Has k (to (Memory a) x) = ⊥
+Has k (to (Address j) x) = ⊥
+Has k (to (Value j) x) = ⊥
+Has k (to (Event i) x) = ⊥
+Has k (to (Datum i) x) = ⊥
+
+-- the first n writes of a list are made
+abbrev pub First : Controls → ℕ → List Write → Type 0
+First k zero ws = Unit {0}
+First k (suc n) [] = ⊥
+First k (suc n) (w ∷ ws) = Has k w × First k n ws
+
+-- ---- parts of a store
 
 -- the parts have their lengths
 pub record Lengths (p : List ℕ) (v : Store) : Type 0 where
@@ -49,6 +98,13 @@ abbrev pub Handles : List ℕ → List ℕ → ℕ → ℕ → ℕ → Option Re
 Handles p queue q h t posted Resting = Unit {0}
 Handles p queue q h t posted (Storing n e x) = AtWork p queue q h t posted n e x
 
+-- ---- what holds of the store, whatever the device: of its head and waiting records, and of the serial run's task and open number
+
+pub record Held (p : List ℕ) (queue : List ℕ) (q h f t : ℕ) (records : List Record) (task open′ : ℕ) : Type 0 where
+  pub tasked : Tasked p task open′
+  pub head-in : h ≤ q
+  pub waits : Waiting p queue q f t records
+
 -- ---- phase 0: the store is as the serial run has it, with memory m, current task y and open number o
 
 pub record Still (phase task open′ : ℕ) (memory : List ℕ) (y o : ℕ) (m : List ℕ) : Type 0 where
@@ -67,25 +123,27 @@ pub record Copying (p : List ℕ) (l n c : ℕ) (memory log m : List ℕ) : Type
   pub copied : memory ≡ overlay base log (min c n)
   pub whole : overlay base log n ≡ m
 
--- words 8, 9, 10, 12 and 13
-pub record TaskCommit (p : List ℕ) (phase task open′ n pending pendingOpen c y o : ℕ) : Type 0 where
-  pub phase-is : phase ≡ 1
-  pub task-in : task < tasks p
-  pub pending-is : pending ≡ y
-  pub pendingOpen-is : pendingOpen ≡ o
-  pub place : c < n + 3
-  pub task-done : n < c → task ≡ pending
-  pub open-done : n + 1 < c → open′ ≡ pendingOpen
+-- the copies are made, and the first of the stores ws behind them
+pub record Lasting (k : Controls) (ws : List Write) (c : ℕ) : Type 0 where
+  pub last : ℕ
+  pub last-is : c - k .count ≡ last
+  pub inside : last < length ws
+  pub made : First k last ws
 
--- words 8, 9, 10, 12 and 14
-pub record EventCommit (phase task open′ n pending q h t c y o : ℕ) : Type 0 where
-  pub phase-is : phase ≡ 2
-  pub task-is : task ≡ y
-  pub open-is : open′ ≡ o
-  pub open-none : open′ ≡ 0
-  pub pending-is : (pending ≡ h) ⊎ ((pending ≡ after q h) × (h ≢ t))
-  pub place : c < n + 2
-  pub head-done : n < c → h ≡ pending
+pub record TaskCommit (p : List ℕ) (k : Controls) (ws : List Write) (c y o : ℕ) : Type 0 where
+  pub phase-is : k .phase ≡ 1
+  pub task-in : k .task < tasks p
+  pub pending-is : k .pending ≡ y
+  pub pendingOpen-is : k .pendingOpen ≡ o
+  pub lasting : Lasting k ws c
+
+pub record EventCommit (k : Controls) (ws : List Write) (q t c y o : ℕ) : Type 0 where
+  pub phase-is : k .phase ≡ 2
+  pub task-is : k .task ≡ y
+  pub open-is : k .openNumber ≡ o
+  pub open-none : k .openNumber ≡ 0
+  pub pending-is : (k .pending ≡ k .head) ⊎ ((k .pending ≡ after q (k .head)) × (k .head ≢ t))
+  pub lasting : Lasting k ws c
 
 -- ---- a body runs in phase 0
 
@@ -105,16 +163,15 @@ pub record Running (p : List ℕ) (memory log m : List ℕ) (k : ℕ) (b : Body)
   pub ran-in : ran ≤ k
   pub same : (f : ℕ) → walk (ran + f) p (number p b) 0 (x ∷ replicate 7 0) m ≡ walk f p (number p b) j r (overlay memory log l)
 
--- c stores of the commit are made at GO or DONE
-abbrev pub Ending : List ℕ → ℕ → ℕ → ℕ → ℕ → ℕ → ℕ → Body → ℕ → Effect → Type 0
-Ending p n pending pendingOpen q h l b c (Effect.Compute a x) = c ≡ 0
-Ending p n pending pendingOpen q h l b c (Effect.Jump k) = c ≡ 0
-Ending p n pending pendingOpen q h l b c (Effect.Read a x) = c ≡ 0
-Ending p n pending pendingOpen q h l b c (Effect.Write x y) = c ≡ 0
-Ending p n pending pendingOpen q h l b c (Effect.EndTask k) =
-    (c < 4) × ((0 < c → n ≡ l) × ((1 < c → pending ≡ k) × (2 < c → pendingOpen ≡ newOpen (transaction p (number p b)) (transaction p k))))
-Ending p n pending pendingOpen q h l b c Effect.EndEvent = (c < 3) × ((0 < c → n ≡ l) × (1 < c → pending ≡ after q h))
-Ending p n pending pendingOpen q h l b c Effect.Unknown = ⊥
+-- the first c stores of the body's end are made, at GO those of ws, at DONE those of us
+abbrev pub Ending : Controls → (ℕ → List Write) → List Write → ℕ → Effect → Type 0
+Ending k ws us c (Effect.Compute a x) = c ≡ 0
+Ending k ws us c (Effect.Jump a) = c ≡ 0
+Ending k ws us c (Effect.Read a x) = c ≡ 0
+Ending k ws us c (Effect.Write x y) = c ≡ 0
+Ending k ws us c (Effect.EndTask a) = (c < length (ws a)) × First k c (ws a)
+Ending k ws us c Effect.EndEvent = (c < length us) × First k c us
+Ending k ws us c Effect.Unknown = ⊥
 
 -- the address of a SAVE is stored behind l pairs that haven't it
 abbrev pub HalfSaved : List ℕ → List ℕ → ℕ → ℕ → Effect → Type 0
@@ -128,6 +185,9 @@ HalfSaved p log pairs l Effect.Unknown = ⊥
 
 -- ---- the whole, for the store v, the device d and the serial state z after k calls
 
+abbrev pub HeldAt : List ℕ → Store → Serial → Type 0
+HeldAt p v z = Held p (v .queue) (v .records) (v .head) (firstWaiting v) (v .tail) (z .records) (z .task) (z .openNumber)
+
 abbrev pub StillAt : Store → Serial → Type 0
 StillAt v z = Still (v .phase) (v .task) (v .openNumber) (v .memory) (z .task) (z .openNumber) (z .memory)
 
@@ -135,34 +195,45 @@ abbrev pub CopyingAt : List ℕ → Store → Serial → ℕ → Type 0
 CopyingAt p v z c = Copying p (v .pairs) (v .count) c (v .memory) (v .log) (z .memory)
 
 abbrev pub TaskCommitAt : List ℕ → Store → Serial → ℕ → Type 0
-TaskCommitAt p v z c =
-    TaskCommit p (v .phase) (v .task) (v .openNumber) (v .count) (v .pending) (v .pendingOpen) c (z .task) (z .openNumber)
+TaskCommitAt p v z c = TaskCommit p (controls v) (taskLastStores v) c (z .task) (z .openNumber)
 
 abbrev pub EventCommitAt : Store → Serial → ℕ → Type 0
-EventCommitAt v z c =
-    EventCommit (v .phase) (v .task) (v .openNumber) (v .count) (v .pending) (v .records) (v .head) (v .tail) c (z .task) (z .openNumber)
+EventCommitAt v z c = EventCommit (controls v) (eventLastStores v) (v .records) (v .tail) c (z .task) (z .openNumber)
+
+-- a commit of which c stores are made
+abbrev pub CommitAt : List ℕ → Store → Serial → ℕ → Type 0
+CommitAt p v z c = CopyingAt p v z c × (TaskCommitAt p v z c ⊎ EventCommitAt v z c)
+
+abbrev pub MineAt : Store → ℕ → Body → Type 0
+MineAt v x b = Mine (v .task) (v .openNumber) (v .head) (v .tail) (v .queue) x b
 
 abbrev pub BodyAt : List ℕ → Store → Device → Serial → ℕ → Body → ℕ → Type 0
 BodyAt p v d z k b j =
-    StillAt v z
-    × ((x : ℕ)
-    × Mine (v .task) (v .openNumber) (v .head) (v .tail) (v .queue) x b
-    × Running p (v .memory) (v .log) (z .memory) k b x j (d .regs) (d .count))
+    StillAt v z × ((x : ℕ) × MineAt v x b × Running p (v .memory) (v .log) (z .memory) k b x j (d .regs) (d .count))
 
 abbrev pub EndingAt : List ℕ → Store → Device → Body → ℕ → Effect → Type 0
-EndingAt p v d b c f = Ending p (v .count) (v .pending) (v .pendingOpen) (v .records) (v .head) (d .count) b c f
+EndingAt p v d b c f = Ending (controls v) (λ a. taskStores p (number p b) a (d .count)) (eventStores v (d .count)) c f
 
 abbrev pub Placed : List ℕ → Store → Device → Serial → ℕ → Place → Type 0
-Placed p v d z k (Free c) =
-    (StillAt v z × (c ≡ 0)) ⊎ (CopyingAt p v z c × (TaskCommitAt p v z c ⊎ EventCommitAt v z c))
+Placed p v d z k (Free c) = (StillAt v z × (c ≡ 0)) ⊎ CommitAt p v z c
 Placed p v d z k (Run b j c) = BodyAt p v d z k b j × EndingAt p v d b c (effectAt p (number p b) j (d .regs))
 Placed p v d z k (Half b j) = BodyAt p v d z k b j × HalfSaved p (v .log) (v .pairs) (d .count) (effectAt p (number p b) j (d .regs))
 
-pub record Inv (p : List ℕ) (v : Store) (d : Device) (z : Serial) (k : ℕ) : Type 0 where
-  pub tasked : Tasked p (z .task) (z .openNumber)
-  pub head-in : v .head ≤ v .records
-  pub waits : Waiting p (v .queue) (v .records) (firstWaiting v) (v .tail) (z .records)
+-- what a boot finds: nothing begun, or a commit to be made from its first pair on
+abbrev pub Resumes : List ℕ → Store → Serial → Type 0
+Resumes p v z = StillAt v z ⊎ CommitAt p v z 0
+
+pub record Off (p : List ℕ) (v : Store) (d : Device) (z : Serial) : Type 0 where
+  pub held : HeldAt p v z
+  pub resumes : Resumes p v z
+  pub is-off : d ≡ off
+
+pub record On (p : List ℕ) (v : Store) (d : Device) (z : Serial) (k : ℕ) : Type 0 where
+  pub held : HeldAt p v z
+  pub on : d .on ≡ true
   pub handles : Handles p (v .queue) (v .records) (v .head) (v .tail) (z .posted) (d .handler)
-  pub off-is : d .on ≡ false → d ≡ off
   pub count-in : d .count ≤ v .pairs
   pub placed : Placed p v d z k (d .place)
+
+abbrev pub Inv : List ℕ → Store → Device → Serial → ℕ → Type 0
+Inv p v d z k = Off p v d z ⊎ On p v d z k

@@ -1,4 +1,5 @@
--- Each call keeps the invariant, and the serial run follows it. Assumes nothing.
+-- Each call keeps the invariant, and the serial run follows it: what a kept call is; refused calls; the handler's stores; a commit's stores in
+-- phases 1 and 2. Assumes nothing.
 use Prim.Native.Nat.{ℕ, zero, suc, _+_, _-_, _*_, _≤_, _<_, min}
 use mathlib.Core.Path.{_≡_, refl, sym, ap, _∙_}
 use mathlib.Core.Logic.{_⊎_, inl, inr, ⊎-elim, _≢_}
@@ -10,15 +11,15 @@ use lib.Dec.{ltb, leb, eqb}
 use lib.ListN.{length, set, getD, replicate}
 use borrow.Author.Tests.{lt-ltb, le-ltb}
 use lib.Seq.{getD-set-other, getD-set-same}
-use Rattle.model.proofs.Invariant.{Lengths, Tasked, Waiting, AtWork, Handles, SoFar, Still, StillAt, Copying, CopyingAt, TaskCommit, TaskCommitAt, EventCommit, EventCommitAt, Mine, Running, Ending, EndingAt, HalfSaved, BodyAt, Placed, Inv}
+use Rattle.model.proofs.Invariant.{Controls, controls, First, Lengths, Waiting, AtWork, Handles, HeldAt, Lasting, Copying, CopyingAt, TaskCommit, TaskCommitAt, EventCommit, EventCommitAt, CommitAt, MineAt, Running, Placed, On, Inv}
 use Rattle.model.proofs.LogLaws.{addr, val, overlay, overlay-zero, overlay-suc, overlay-other, Distinct}
 use Rattle.model.proofs.RingLaws.{Between, after-le, after-injective, distance-tail, records-tail, records-free, between-tail, between-free}
-use Rattle.model.proofs.StoreLaws.{apply, Inside}
-use Rattle.model.proofs.TestLaws.{pick-case, pick-true, pick-false, clash, same-or, below-or, must-true}
+use Rattle.model.proofs.StoreLaws.{apply, requeued, retasked, Inside}
+use Rattle.model.proofs.TestLaws.{pick-true, pick-false, below-or, must-true}
 use Rattle.model.specs.Answer.{refusal}
 use Rattle.model.specs.Demand3.{Expected}
 use Rattle.model.specs.Calls.{Call, Boot, Step, Cut, Post}
-use Rattle.model.specs.Device.{Out, out, refuse, judged, off, fresh, handled, moved, handlerStep, storing, taskLastStores, eventLastStores, lastStores, pairSound, copyStep}
+use Rattle.model.specs.Device.{Out, out, refuse, judged, off, fresh, handled, moved, handlerStep, storing, taskStores, eventStores, taskLastStores, eventLastStores, lastStores, pairSound, copyStep}
 use Rattle.model.specs.Program.{word, tasks, events, memoryWords, instructions, transaction, number, effectAt, newOpen}
 use Rattle.model.specs.Serial.{Serial, walk, tell, withRecord, accept, afterDone}
 use Rattle.model.specs.Store.{Store, address, value, logAt, Record, after, firstWaiting, slot, recordsFrom, distance, Word, Phase, Task, Open, Count, Pending, PendingOpen, Head, Tail, Memory, Address, Value, Event, Datum, Write, none, to}
@@ -36,6 +37,12 @@ pub record Kept (p : List ℕ) (v : Store) (z : Serial) (k : ℕ) (c : Call) (o 
   pub tells : (fuel : ℕ) → k < fuel → tell fuel p z c (o .answer) ≡ some after
   pub expected : Expected c (o .answer)
   pub inv : Inv p (apply v (o .write)) (o .device) after (suc k)
+
+-- a step that stores a word and leaves the serial run where it was
+pub stored-kept : {p : List ℕ} {v : Store} {z : Serial} {k : ℕ} (w : Write) (e : Device) → InsideOf p v w → Inv p (apply v w) e z (suc k)
+    → Kept p v z k Step (out w e Answer.Stored)
+unfolding tell
+stored-kept {z = z} w e inside i = record { inside = inside; after = z; tells = λ fuel l. refl; expected = tt; inv = i }
 
 -- ---- one call later
 
@@ -56,17 +63,17 @@ placed-later p v d z k (Free c) h = h
 placed-later p v d z k (Run b j c) ((s, (x, m, r)), e) = ((s, (x, m, running-later r)), e)
 placed-later p v d z k (Half b j) ((s, (x, m, r)), e) = ((s, (x, m, running-later r)), e)
 
-pub inv-later : (p : List ℕ) (v : Store) (d : Device) (z : Serial) (k : ℕ) → Inv p v d z k → Inv p v d z (suc k)
-inv-later p v d z k i =
-    record {
-      tasked = i .tasked;
-      head-in = i .head-in;
-      waits = i .waits;
+inv-later : (p : List ℕ) (v : Store) (d : Device) (z : Serial) (k : ℕ) → Inv p v d z k → Inv p v d z (suc k)
+inv-later p v d z k (inl o) = inl o
+inv-later p v d z k (inr i) =
+    inr
+    (record {
+      held = i .held;
+      on = i .on;
       handles = i .handles;
-      off-is = i .off-is;
       count-in = i .count-in;
       placed = placed-later p v d z k (d .place) (i .placed);
-    }
+    })
 
 -- a refused call
 pub refused-kept : (p : List ℕ) (v : Store) (d : Device) (z : Serial) (k : ℕ) (c : Call) (r : Refusal) → Expected c (Answer.Refused r) → Inv p v d z k → Kept p v z k c (refuse d r)
@@ -84,7 +91,7 @@ unfolding firstWaiting
 first-pending v e = pick-true _ _ (ap (λ (x : ℕ). eqb x 2) e)
 
 -- a slot after tail that isn't head isn't the first waiting one either
-module _ (p : List ℕ) (v : Store) (d : Device) (z : Serial) (k : ℕ) (i : Inv p v d z k) where
+module _ (p : List ℕ) (v : Store) (d : Device) (z : Serial) (k : ℕ) (i : On p v d z k) where
   abbrev Room : Type 0
   Room = after (v .records) (v .tail) ≢ v .head → after (v .records) (v .tail) ≢ firstWaiting v
 
@@ -101,29 +108,12 @@ module _ (p : List ℕ) (v : Store) (d : Device) (z : Serial) (k : ℕ) (i : Inv
         where
           from-pending : (v .pending ≡ v .head) ⊎ ((v .pending ≡ after (v .records) (v .head)) × (v .head ≢ v .tail)) → after (v .records) (v .tail) ≢ v .head → after (v .records) (v .tail) ≢ v .pending
           from-pending (inl e) room = λ q. room (q ∙ e)
-          from-pending (inr (e, ne)) room = λ q. ne (sym (after-injective (v .records) (v .tail) (v .head) (i .waits .tail-in) (i .head-in) (q ∙ e)))
+          from-pending (inr (e, ne)) room =
+              λ q. ne (sym (after-injective (v .records) (v .tail) (v .head) (i .held .waits .tail-in) (i .held .head-in) (q ∙ e)))
       by-place (Run b j c) ((s, r), e) = by-head 0 (s .phase-is) refl
       by-place (Half b j) ((s, r), e) = by-head 0 (s .phase-is) refl
 
 -- ---- the handler: only the queue and its tail change
-
-abbrev pub requeued : Store → List ℕ → ℕ → Store
-requeued v queue t =
-    record {
-      pairs = v .pairs;
-      records = v .records;
-      phase = v .phase;
-      task = v .task;
-      openNumber = v .openNumber;
-      count = v .count;
-      pending = v .pending;
-      pendingOpen = v .pendingOpen;
-      head = v .head;
-      tail = t;
-      memory = v .memory;
-      log = v .log;
-      queue = queue;
-    }
 
 -- other records and another latest post
 abbrev pub queued : Serial → List Record → Option Record → Serial
@@ -131,11 +121,11 @@ queued z rs x = record { memory = z .memory; task = z .task; openNumber = z .ope
 
 module _ (p : List ℕ) (v : Store) (d : Device) (z : Serial) (k : ℕ) (queue : List ℕ) (t : ℕ) where
   abbrev pub MineStays : Type 0
-  MineStays = (b : Body) (x : ℕ) → Mine (v .task) (v .openNumber) (v .head) (v .tail) (v .queue) x b → Mine (v .task) (v .openNumber) (v .head) t queue x b
+  MineStays = (b : Body) (x : ℕ) → MineAt v x b → MineAt (requeued v queue t) x b
 
   pub placed-requeued : (h : Handler) (rs : List Record) (y : Option Record) → MineStays → (v .head ≢ v .tail → v .head ≢ t) → (x : Place)
       → Placed p v d z k x → Placed p (requeued v queue t) (handled d h) (queued z rs y) (suc k) x
-  unfolding handled
+  unfolding handled taskStores eventStores taskLastStores eventLastStores
   placed-requeued h rs y f g (Free c) (inl s) = inl s
   placed-requeued h rs y f g (Free c) (inr (m, inl s)) = inr (m, inl s)
   placed-requeued h rs y f g (Free c) (inr (m, inr s)) =
@@ -148,15 +138,14 @@ module _ (p : List ℕ) (v : Store) (d : Device) (z : Serial) (k : ℕ) (queue :
               open-is = s .open-is;
               open-none = s .open-none;
               pending-is = ⊎-elim inl (λ q. inr (q .0, g (q .1))) (s .pending-is);
-              place = s .place;
-              head-done = s .head-done;
+              lasting = s .lasting;
             }),
       )
   placed-requeued h rs y f g (Run b j c) ((s, (x, m, r)), e) = ((s, (x, f b x m, running-later r)), e)
   placed-requeued h rs y f g (Half b j) ((s, (x, m, r)), e) = ((s, (x, f b x m, running-later r)), e)
 
 -- a store to the tail's slot
-module _ (p : List ℕ) (v : Store) (lengths : Lengths p v) (d : Device) (on : d .on ≡ true) (z : Serial) (k : ℕ) (i : Inv p v d z k)
+module _ (p : List ℕ) (v : Store) (lengths : Lengths p v) (d : Device) (z : Serial) (k : ℕ) (i : On p v d z k)
     (y w : ℕ) (at : (y ≡ 2 * v .tail) ⊎ (y ≡ 2 * v .tail + 1)) where
   mine-free : MineStays p v d z k (set (v .queue) y w) (v .tail)
   mine-free (Body.Task n) x m = m
@@ -173,7 +162,7 @@ module _ (p : List ℕ) (v : Store) (lengths : Lengths p v) (d : Device) (on : d
 
   waits-free : Waiting p (set (v .queue) y w) (v .records) (firstWaiting v) (v .tail) (z .records)
   waits-free =
-      let q = i .waits in
+      let q = i .held .waits in
       record {
         first-in = q .first-in;
         tail-in = q .tail-in;
@@ -189,28 +178,28 @@ module _ (p : List ℕ) (v : Store) (lengths : Lengths p v) (d : Device) (on : d
       → Inv p (requeued v (set (v .queue) y w) (v .tail)) (handled d h) z (suc k)
   unfolding handled firstWaiting
   stored-free h hs =
-      record {
-        tasked = i .tasked;
-        head-in = i .head-in;
-        waits = waits-free;
+      inr
+      (record {
+        held = record { tasked = i .held .tasked; head-in = i .held .head-in; waits = waits-free };
+        on = i .on;
         handles = hs;
-        off-is = λ e. clash on e;
         count-in = i .count-in;
         placed = placed-requeued p v d z k (set (v .queue) y w) (v .tail) h (z .records) (z .posted) mine-free (λ ne. ne) (d .place) (i .placed);
-      }
+      })
 
-module _ (p : List ℕ) (v : Store) (lengths : Lengths p v) (d : Device) (on : d .on ≡ true) (z : Serial) (k : ℕ) (i : Inv p v d z k) where
-  tail-stored : (e x : ℕ) → AtWork p (v .queue) (v .records) (v .head) (v .tail) (z .posted) Next.Tail e x
-      → Inv p (requeued v (v .queue) (after (v .records) (v .tail))) (handled d Resting) (withRecord z (record { event = e; datum = x })) (suc k)
-  unfolding handled firstWaiting withRecord
-  tail-stored e x a =
-      let q = i .waits in
+module _ (p : List ℕ) (v : Store) (lengths : Lengths p v) (d : Device) (z : Serial) (k : ℕ) (i : On p v d z k) where
+  -- one record more waits
+  held-longer : (e x : ℕ) → AtWork p (v .queue) (v .records) (v .head) (v .tail) (z .posted) Next.Tail e x
+      → HeldAt p (requeued v (v .queue) (after (v .records) (v .tail))) (withRecord z (record { event = e; datum = x }))
+  unfolding firstWaiting withRecord
+  held-longer e x a =
+      let q = i .held .waits in
       let room = room-first p v d z k i (a .room) in
       let new : Record = record { event = e; datum = x } in
       let slot-is : slot (v .queue) (v .tail) ≡ new = unfold slot in λ s. record { event = a .so-far .0 s; datum = a .so-far .1 s } in
       record {
-        tasked = i .tasked;
-        head-in = i .head-in;
+        tasked = i .held .tasked;
+        head-in = i .held .head-in;
         waits =
             record {
               first-in = q .first-in;
@@ -220,11 +209,22 @@ module _ (p : List ℕ) (v : Store) (lengths : Lengths p v) (d : Device) (on : d
                   (records-tail (v .queue) (v .records) (v .tail) _ (firstWaiting v) (q .first-in) (q .tail-in) refl ∙ rw (q .same, slot-is));
               known = λ y l b. ⊎-elim (q .known y l) (λ (f : y ≡ v .tail). rw (f, a .so-far .0) (a .event-in)) (between-tail (v .records) (firstWaiting v) (v .tail) y (q .first-in) (q .tail-in) l room b);
             };
-        handles = tt;
-        off-is = λ f. clash on f;
-        count-in = i .count-in;
-        placed = placed-requeued p v d z k (v .queue) (after (v .records) (v .tail)) Resting (z .records ++ new ∷ []) (z .posted) mine (λ _ f. a .room (sym f)) (d .place) (i .placed);
       }
+
+  tail-stored : (e x : ℕ) → AtWork p (v .queue) (v .records) (v .head) (v .tail) (z .posted) Next.Tail e x
+      → Inv p (requeued v (v .queue) (after (v .records) (v .tail))) (handled d Resting) (withRecord z (record { event = e; datum = x })) (suc k)
+  unfolding handled withRecord
+  tail-stored e x a =
+      inr
+      (record {
+        held = held-longer e x a;
+        on = i .on;
+        handles = tt;
+        count-in = i .count-in;
+        placed =
+            placed-requeued p v d z k (v .queue) (after (v .records) (v .tail)) Resting (z .records ++ record { event = e; datum = x } ∷ []) (z .posted) mine
+            (λ _ f. a .room (sym f)) (d .place) (i .placed);
+      })
     where
       mine : MineStays p v d z k (v .queue) (after (v .records) (v .tail))
       mine (Body.Task n) y m = m
@@ -233,38 +233,26 @@ module _ (p : List ℕ) (v : Store) (lengths : Lengths p v) (d : Device) (on : d
   pub handler-kept : (n : Next) (e x : ℕ) → AtWork p (v .queue) (v .records) (v .head) (v .tail) (z .posted) n e x → Kept p v z k Step (handlerStep v d n e x)
   unfolding handlerStep apply tell accept
   handler-kept Next.Event e x a =
-      record {
-        inside = i .waits .tail-in;
-        after = z;
-        tells = λ fuel l. refl;
-        expected = tt;
-        inv =
-            stored-free p v lengths d on z k i (2 * v .tail) e (inl refl) _
-            (record {
-              event-in = a .event-in;
-              room = a .room;
-              posted-is = a .posted-is;
-              so-far = getD-set-same (v .queue) (2 * v .tail) e 0 (omega (arith, i .waits .tail-in, lengths .queue-length));
-            });
-      }
+      stored-kept (to (Event (v .tail)) e) _ (i .held .waits .tail-in)
+      (stored-free p v lengths d z k i (2 * v .tail) e (inl refl) _
+      (record {
+        event-in = a .event-in;
+        room = a .room;
+        posted-is = a .posted-is;
+        so-far = getD-set-same (v .queue) (2 * v .tail) e 0 (omega (arith, i .held .waits .tail-in, lengths .queue-length));
+      }))
   handler-kept Next.Data e x a =
-      record {
-        inside = i .waits .tail-in;
-        after = z;
-        tells = λ fuel l. refl;
-        expected = tt;
-        inv =
-            stored-free p v lengths d on z k i (2 * v .tail + 1) x (inr refl) _
-            (record {
-              event-in = a .event-in;
-              room = a .room;
-              posted-is = a .posted-is;
-              so-far = (
-                getD-set-other (v .queue) (2 * v .tail + 1) (2 * v .tail) x 0 (omega arith) ∙ a .so-far,
-                getD-set-same (v .queue) (2 * v .tail + 1) x 0 (omega (arith, i .waits .tail-in, lengths .queue-length)),
-              );
-            });
-      }
+      stored-kept (to (Datum (v .tail)) x) _ (i .held .waits .tail-in)
+      (stored-free p v lengths d z k i (2 * v .tail + 1) x (inr refl) _
+      (record {
+        event-in = a .event-in;
+        room = a .room;
+        posted-is = a .posted-is;
+        so-far = (
+          getD-set-other (v .queue) (2 * v .tail + 1) (2 * v .tail) x 0 (omega arith) ∙ a .so-far,
+          getD-set-same (v .queue) (2 * v .tail + 1) x 0 (omega (arith, i .held .waits .tail-in, lengths .queue-length)),
+        );
+      }))
   handler-kept Next.Tail e x a =
       record {
         inside = tt;
@@ -276,42 +264,16 @@ module _ (p : List ℕ) (v : Store) (lengths : Lengths p v) (d : Device) (on : d
 
 -- ---- a commit's stores in phases 1 and 2
 
--- the same commit, one store later, and at a boot
-task-later : {p : List ℕ} {phase task open′ n pending pendingOpen c y o : ℕ} → TaskCommit p phase task open′ n pending pendingOpen c y o → c < n
-    → TaskCommit p phase task open′ n pending pendingOpen (c + 1) y o
-task-later s h =
-    record {
-      phase-is = s .phase-is;
-      task-in = s .task-in;
-      pending-is = s .pending-is;
-      pendingOpen-is = s .pendingOpen-is;
-      place = omega arith;
-      task-done = λ l. absurd (omega arith);
-      open-done = λ l. absurd (omega arith);
-    }
+-- a commit of which no pair, or not every pair, is copied has made none of its last stores
+pub copies-left : {k : Controls} {ws : List Write} {c : ℕ} → c ≤ k .count → 0 < length ws → Lasting k ws c
+copies-left l more = record { last = 0; last-is = omega arith; inside = more; made = tt }
 
-event-later : {phase task open′ n pending q h t c y o : ℕ} → EventCommit phase task open′ n pending q h t c y o → c < n
-    → EventCommit phase task open′ n pending q h t (c + 1) y o
-event-later s h =
-    record {
-      phase-is = s .phase-is;
-      task-is = s .task-is;
-      open-is = s .open-is;
-      open-none = s .open-none;
-      pending-is = s .pending-is;
-      place = omega arith;
-      head-done = λ l. absurd (omega arith);
-    }
+pub lasting-in : {k : Controls} {ws : List Write} {c : ℕ} → Lasting k ws c → c < k .count + length ws
+lasting-in l = omega (arith, l .last-is, l .inside)
 
 -- r stores are left of a commit of which c are made
 abbrev pub Remaining : Store → ℕ → ℕ → Type 0
-Remaining v c r =
-    ((v .phase ≡ 0) × (r ≡ 0)) ⊎ (((v .phase ≡ 1) × (r + c ≡ v .count + 3)) ⊎ ((v .phase ≡ 2) × (r + c ≡ v .count + 2)))
-
-remaining-less : (v : Store) (c r : ℕ) → Remaining v c (suc r) → Remaining v (c + 1) r
-remaining-less v c r (inl n) = absurd (omega arith)
-remaining-less v c r (inr (inl n)) = inr (inl (n .0, omega arith))
-remaining-less v c r (inr (inr n)) = inr (inr (n .0, omega arith))
+Remaining v c r = ((v .phase ≡ 0) × (r ≡ 0)) ⊎ ((v .phase ≢ 0) × (r + c ≡ v .count + length (lastStores v)))
 
 -- a commit's store, after which r are left
 pub record Turn (v : Store) (o : Out) (r : ℕ) : Type 0 where
@@ -330,11 +292,17 @@ pub event-last-is : (v : Store) → v .phase ≡ 2 → lastStores v ≡ eventLas
 unfolding lastStores
 event-last-is v e = pick-false _ _ (ap (λ (x : ℕ). eqb x 1) e)
 
-module _ (p : List ℕ) (v : Store) (d : Device) (on : d .on ≡ true) (rest : d .handler ≡ Resting) (z : Serial) (k : ℕ)
-    (i : Inv p v d z k) (c : ℕ) (m : CopyingAt p v z c) where
+module _ (p : List ℕ) (v : Store) (d : Device) (rest : d .handler ≡ Resting) (z : Serial) (k : ℕ) (i : On p v d z k) (c : ℕ)
+    (m : CopyingAt p v z c) where
   -- the device one store later
   abbrev further : Device
   further = moved d (d .regs) (Free (c + 1)) (d .count)
+
+  -- the same at another store: the commit goes on
+  goes-on : (u : Store) → HeldAt p u z → u .pairs ≡ v .pairs → CommitAt p u z (c + 1) → Inv p u further z (suc k)
+  unfolding moved
+  goes-on u held pairs commit =
+      inr (record { held = held; on = i .on; handles = rw rest tt; count-in = omega (arith, i .count-in); placed = inr commit })
 
   copy-is : c < v .count → copyStep p v d c ≡ out (to (Memory (address v c)) (value v c)) further Answer.Stored
   unfolding copyStep pairSound judged
@@ -343,41 +311,38 @@ module _ (p : List ℕ) (v : Store) (d : Device) (on : d .on ≡ true) (rest : d
       ∙ ap (λ (x : Checked). judged x d (out (to (Memory (address v c)) (value v c)) further Answer.Stored))
       (must-true (Refusal.Control (logAt (memoryWords p) + 2 * c)) (lt-ltb _ _ (m .addresses c h)))
 
+  copied-one : c < v .count → Copying p (v .pairs) (v .count) (c + 1) (set (v .memory) (address v c) (value v c)) (v .log) (z .memory)
+  copied-one h =
+      record {
+        count-in = m .count-in;
+        addresses = m .addresses;
+        base = m .base;
+        copied =
+            let now : min c (v .count) ≡ c = omega arith in
+            let then′ : suc c ≡ min (c + 1) (v .count) = omega arith in
+            ap (λ (l : List ℕ). set l (address v c) (value v c)) (m .copied ∙ ap (overlay (m .base) (v .log)) now)
+            ∙ sym (overlay-suc (m .base) (v .log) c)
+            ∙ ap (overlay (m .base) (v .log)) then′;
+        whole = m .whole;
+      }
+
+  task-on : TaskCommitAt p v z c → Lasting (controls v) (taskLastStores v) (c + 1) → TaskCommitAt p v z (c + 1)
+  task-on s l =
+      record { phase-is = s .phase-is; task-in = s .task-in; pending-is = s .pending-is; pendingOpen-is = s .pendingOpen-is; lasting = l }
+
+  event-on : EventCommitAt v z c → Lasting (controls v) (eventLastStores v) (c + 1) → EventCommitAt v z (c + 1)
+  event-on s l =
+      record { phase-is = s .phase-is; task-is = s .task-is; open-is = s .open-is; open-none = s .open-none; pending-is = s .pending-is; lasting = l }
+
   copy-kept : (TaskCommitAt p v z c ⊎ EventCommitAt v z c) → c < v .count → Kept p v z k Step (copyStep p v d c)
-  unfolding apply tell moved firstWaiting
+  unfolding apply firstWaiting taskLastStores eventLastStores
   copy-kept t h =
       rw (copy-is h)
-      (record {
-        inside = m .addresses c h;
-        after = z;
-        tells = λ fuel l. refl;
-        expected = tt;
-        inv =
-            record {
-              tasked = i .tasked;
-              head-in = i .head-in;
-              waits = i .waits;
-              handles = i .handles;
-              off-is = λ e. clash on e;
-              count-in = i .count-in;
-              placed =
-                  inr (
-                    record {
-                      count-in = m .count-in;
-                      addresses = m .addresses;
-                      base = m .base;
-                      copied =
-                          let now : min c (v .count) ≡ c = omega arith in
-                          let then′ : suc c ≡ min (c + 1) (v .count) = omega arith in
-                          ap (λ (l : List ℕ). set l (address v c) (value v c)) (m .copied ∙ ap (overlay (m .base) (v .log)) now)
-                          ∙ sym (overlay-suc (m .base) (v .log) c)
-                          ∙ ap (overlay (m .base) (v .log)) then′;
-                      whole = m .whole;
-                    },
-                    ⊎-elim (λ s. inl (task-later s h)) (λ s. inr (event-later s h)) t,
-                  );
-            };
-      })
+      (stored-kept (to (Memory (address v c)) (value v c)) further (m .addresses c h)
+      (goes-on (apply v (to (Memory (address v c)) (value v c))) (i .held) refl (
+        copied-one h,
+        ⊎-elim (λ s. inl (task-on s (copies-left (omega arith) (omega arith)))) (λ s. inr (event-on s (copies-left (omega arith) (omega arith)))) t,
+      )))
 
   -- all pairs are copied
   memory-whole : v .count ≤ c → v .memory ≡ z .memory
@@ -393,218 +358,177 @@ module _ (p : List ℕ) (v : Store) (d : Device) (on : d .on ≡ true) (rest : d
         whole = m .whole;
       }
 
-  last-is : (j : ℕ) → c ≡ v .count + j → copyStep p v d c ≡ storing (lastStores v) j further Answer.Stored
+  last-is : v .count ≤ c → (j : ℕ) → c - v .count ≡ j → copyStep p v d c ≡ storing (lastStores v) j further Answer.Stored
   unfolding copyStep
-  last-is j e =
-      let f : c - v .count ≡ j = omega arith in
-      let h : v .count ≤ c = omega arith in
-      pick-false _ _ (le-ltb _ _ h) ∙ ap (λ (x : ℕ). storing (lastStores v) x further Answer.Stored) f
+  last-is h j e = pick-false _ _ (le-ltb _ _ h) ∙ ap (λ (x : ℕ). storing (lastStores v) x further Answer.Stored) e
 
-  task-last-kept : TaskCommitAt p v z c → (j : ℕ) → c ≡ v .count + j
-      → Kept p v z k Step (storing (taskLastStores v) j further Answer.Stored)
-  unfolding taskLastStores storing pick apply tell moved firstWaiting fresh
-  task-last-kept s zero e =
-      record {
-        inside = tt;
-        after = z;
-        tells = λ fuel l. refl;
-        expected = tt;
-        inv =
-            record {
-              tasked = i .tasked;
-              head-in = i .head-in;
-              waits = i .waits;
-              handles = i .handles;
-              off-is = λ f. clash on f;
-              count-in = i .count-in;
-              placed =
-                  inr (
-                    copied-further (omega arith),
-                    inl
-                        (record {
-                          phase-is = s .phase-is;
-                          task-in = rw (s .pending-is) (i .tasked .task-in);
-                          pending-is = s .pending-is;
-                          pendingOpen-is = s .pendingOpen-is;
-                          place = omega arith;
-                          task-done = λ l. refl;
-                          open-done = λ l. absurd (omega arith);
-                        }),
-                  );
-            };
-      }
-  task-last-kept s (suc zero) e =
-      record {
-        inside = tt;
-        after = z;
-        tells = λ fuel l. refl;
-        expected = tt;
-        inv =
-            record {
-              tasked = i .tasked;
-              head-in = i .head-in;
-              waits = i .waits;
-              handles = i .handles;
-              off-is = λ f. clash on f;
-              count-in = i .count-in;
-              placed =
-                  inr (
-                    copied-further (omega arith),
-                    inl
-                        (record {
-                          phase-is = s .phase-is;
-                          task-in = s .task-in;
-                          pending-is = s .pending-is;
-                          pendingOpen-is = s .pendingOpen-is;
-                          place = omega arith;
-                          task-done = λ l. s .task-done (omega arith);
-                          open-done = λ l. refl;
-                        }),
-                  );
-            };
-      }
-  task-last-kept s (suc (suc zero)) e =
-      record {
-        inside = tt;
-        after = z;
-        tells = λ fuel l. refl;
-        expected = tt;
-        inv =
-            record {
-              tasked = i .tasked;
-              head-in = i .head-in;
-              waits = rw (first-head v 1 (s .phase-is) refl) at (i .waits);
-              handles = tt;
-              off-is = λ f. clash refl f;
-              count-in = omega arith;
-              placed =
-                  inl (
-                    record {
-                      phase-is = refl;
-                      memory-is = memory-whole (omega arith);
-                      task-is = s .task-done (omega arith) ∙ s .pending-is;
-                      open-is = s .open-done (omega arith) ∙ s .pendingOpen-is;
-                    },
-                    refl,
-                  );
-            };
-      }
-  task-last-kept s (suc (suc (suc j))) e = absurd (omega (arith, s .place))
+  -- ---- the last stores of a task's commit
 
-  event-last-kept : EventCommitAt v z c → (j : ℕ) → c ≡ v .count + j
-      → Kept p v z k Step (storing (eventLastStores v) j further Answer.Stored)
-  unfolding eventLastStores storing pick apply tell moved firstWaiting fresh
-  event-last-kept s zero e =
-      record {
-        inside = tt;
-        after = z;
-        tells = λ fuel l. refl;
-        expected = tt;
-        inv =
-            record {
-              tasked = i .tasked;
-              head-in = rw (first-pending v (s .phase-is)) at (i .waits .first-in);
-              waits = rw (first-pending (apply v (to Head (v .pending))) (s .phase-is)) (rw (first-pending v (s .phase-is)) at (i .waits));
-              handles = rw rest tt;
-              off-is = λ f. clash on f;
-              count-in = i .count-in;
-              placed =
-                  inr (
-                    copied-further (omega arith),
-                    inr
-                        (record {
-                          phase-is = s .phase-is;
-                          task-is = s .task-is;
-                          open-is = s .open-is;
-                          open-none = s .open-none;
-                          pending-is = inl refl;
-                          place = omega arith;
-                          head-done = λ l. refl;
-                        }),
-                  );
-            };
-      }
-  event-last-kept s (suc zero) e =
-      record {
-        inside = tt;
-        after = z;
-        tells = λ fuel l. refl;
-        expected = tt;
-        inv =
-            record {
-              tasked = i .tasked;
-              head-in = i .head-in;
-              waits = rw (first-pending v (s .phase-is) ∙ sym (s .head-done (omega arith))) at (i .waits);
-              handles = tt;
-              off-is = λ f. clash refl f;
-              count-in = omega arith;
-              placed =
-                  inl (
-                    record {
-                      phase-is = refl;
-                      memory-is = memory-whole (omega arith);
-                      task-is = s .task-is;
-                      open-is = s .open-is;
-                    },
-                    refl,
-                  );
-            };
-      }
-  event-last-kept s (suc (suc j)) e = absurd (omega (arith, s .place))
+  module _ (h : v .count ≤ c) (s : TaskCommitAt p v z c) where
+    -- words 9 and 10 become y and o, the first j + 1 of these stores are made
+    task-stored : (w : Write) (y o j : ℕ) → InsideOf p v w → apply v w ≡ retasked v y o → y < tasks p → c - v .count ≡ j → suc j < length (taskLastStores v)
+        → First (controls (retasked v y o)) (suc j) (taskLastStores v) → Kept p v z k Step (out w further Answer.Stored)
+    unfolding taskLastStores firstWaiting
+    task-stored w y o j inside is below at more made =
+        stored-kept w further inside
+        (rw is
+        (goes-on (retasked v y o) (i .held) refl (
+          copied-further h,
+          inl
+              (record {
+                phase-is = s .phase-is;
+                task-in = below;
+                pending-is = s .pending-is;
+                pendingOpen-is = s .pendingOpen-is;
+                lasting = record { last = suc j; last-is = omega arith; inside = more; made = made };
+              }),
+        )))
+
+    task-ended : v .task ≡ v .pending → v .openNumber ≡ v .pendingOpen → Kept p v z k Step (out (to Phase 0) (fresh true) Answer.Stored)
+    unfolding apply fresh firstWaiting pick
+    task-ended task open′ =
+        stored-kept (to Phase 0) (fresh true) tt
+        (inr
+        (record {
+          held = record { tasked = i .held .tasked; head-in = i .held .head-in; waits = rw (first-head v 1 (s .phase-is) refl) at (i .held .waits) };
+          on = refl;
+          handles = tt;
+          count-in = omega arith;
+          placed =
+              inl (
+                record {
+                  phase-is = refl;
+                  memory-is = memory-whole h;
+                  task-is = task ∙ s .pending-is;
+                  open-is = open′ ∙ s .pendingOpen-is;
+                },
+                refl,
+              );
+        }))
+
+    task-last-kept : (j : ℕ) → c - v .count ≡ j → j < length (taskLastStores v) → First (controls v) j (taskLastStores v)
+        → Kept p v z k Step (storing (taskLastStores v) j further Answer.Stored)
+    unfolding taskLastStores storing pick apply
+    task-last-kept zero at more made =
+        task-stored (to Task (v .pending)) (v .pending) (v .openNumber) 0 tt refl (rw (s .pending-is) (i .held .tasked .task-in)) at (omega arith) (refl, tt)
+    task-last-kept (suc zero) at more (task, _) =
+        task-stored (to Open (v .pendingOpen)) (v .task) (v .pendingOpen) 1 tt refl (s .task-in) at (omega arith) (task, (refl, tt))
+    task-last-kept (suc (suc zero)) at more (task, (open′, _)) = task-ended task open′
+    task-last-kept (suc (suc (suc j))) at more made = absurd (omega arith)
+
+  -- ---- the last stores of an event's commit
+
+  module _ (h : v .count ≤ c) (s : EventCommitAt v z c) where
+    head-stored : c - v .count ≡ 0 → Kept p v z k Step (out (to Head (v .pending)) further Answer.Stored)
+    unfolding apply eventLastStores
+    head-stored at =
+        let u = apply v (to Head (v .pending)) in
+        let waits : Waiting p (v .queue) (v .records) (firstWaiting u) (v .tail) (z .records) =
+        rw (first-pending u (s .phase-is)) (rw (first-pending v (s .phase-is)) at (i .held .waits)) in
+        stored-kept (to Head (v .pending)) further tt
+        (goes-on u (record { tasked = i .held .tasked; head-in = rw (first-pending v (s .phase-is)) at (i .held .waits .first-in); waits = waits }) refl (
+          copied-further h,
+          inr
+              (record {
+                phase-is = s .phase-is;
+                task-is = s .task-is;
+                open-is = s .open-is;
+                open-none = s .open-none;
+                pending-is = inl refl;
+                lasting = record { last = 1; last-is = omega arith; inside = omega arith; made = (refl, tt) };
+              }),
+        ))
+
+    event-ended : v .head ≡ v .pending → Kept p v z k Step (out (to Phase 0) (fresh true) Answer.Stored)
+    unfolding apply fresh firstWaiting pick
+    event-ended head =
+        stored-kept (to Phase 0) (fresh true) tt
+        (inr
+        (record {
+          held =
+              record {
+                tasked = i .held .tasked;
+                head-in = i .held .head-in;
+                waits = rw (first-pending v (s .phase-is) ∙ sym head) at (i .held .waits);
+              };
+          on = refl;
+          handles = tt;
+          count-in = omega arith;
+          placed = inl (record { phase-is = refl; memory-is = memory-whole h; task-is = s .task-is; open-is = s .open-is }, refl);
+        }))
+
+    event-last-kept : (j : ℕ) → c - v .count ≡ j → j < length (eventLastStores v) → First (controls v) j (eventLastStores v)
+        → Kept p v z k Step (storing (eventLastStores v) j further Answer.Stored)
+    unfolding eventLastStores storing pick
+    event-last-kept zero at more made = head-stored at
+    event-last-kept (suc zero) at more (head, _) = event-ended head
+    event-last-kept (suc (suc j)) at more made = absurd (omega arith)
+
+  last-kept : (TaskCommitAt p v z c ⊎ EventCommitAt v z c) → v .count ≤ c → Kept p v z k Step (copyStep p v d c)
+  last-kept (inl s) h =
+      let l = s .lasting in
+      rw (last-is h (l .last) (l .last-is), task-last-is v (s .phase-is)) (task-last-kept h s (l .last) (l .last-is) (l .inside) (l .made))
+  last-kept (inr s) h =
+      let l = s .lasting in
+      rw (last-is h (l .last) (l .last-is), event-last-is v (s .phase-is)) (event-last-kept h s (l .last) (l .last-is) (l .inside) (l .made))
 
   pub commit-kept : (TaskCommitAt p v z c ⊎ EventCommitAt v z c) → Kept p v z k Step (copyStep p v d c)
-  commit-kept t =
-      below-or c (v .count) (copy-kept t)
-      (λ h.
-      let e : c ≡ v .count + (c - v .count) = omega arith in
-      rw (last-is (c - v .count) e)
-      (⊎-elim (λ s. rw (task-last-is v (s .phase-is)) (task-last-kept s (c - v .count) e))
-      (λ s. rw (event-last-is v (s .phase-is)) (event-last-kept s (c - v .count) e)) t))
+  commit-kept t = below-or c (v .count) (copy-kept t) (last-kept t)
 
   -- ---- how many stores are left
 
+  less-left : (r : ℕ) → Remaining v c (suc r) → Remaining v (c + 1) r
+  less-left r (inl n) = absurd (omega arith)
+  less-left r (inr n) = inr (n .0, omega arith)
+
+  none-left : v .count ≤ c → (ws : List Write) → lastStores v ≡ ws → suc (c - v .count) ≡ length ws → (r : ℕ) → Remaining v c (suc r) → r ≡ 0
+  none-left h ws e f r (inl n) = absurd (omega arith)
+  none-left h ws e f r (inr n) = let l : length (lastStores v) ≡ length ws = ap length e in omega arith
+
   turn-copy : (r : ℕ) → Remaining v c (suc r) → c < v .count → Turn v (copyStep p v d c) r
-  unfolding apply moved
+  unfolding apply moved lastStores taskLastStores eventLastStores
   turn-copy r n h =
       rw (copy-is h)
-      (record { answer-is = refl; on = on; rests = rest; place = c + 1; place-is = refl; remaining = remaining-less v c r n })
+      (record { answer-is = refl; on = i .on; rests = rest; place = c + 1; place-is = refl; remaining = less-left r n })
+
+  turn-task : v .count ≤ c → v .phase ≡ 1 → (j : ℕ) → c - v .count ≡ j → j < length (taskLastStores v) → (r : ℕ) → Remaining v c (suc r)
+      → Turn v (storing (taskLastStores v) j further Answer.Stored) r
+  unfolding taskLastStores eventLastStores lastStores apply moved storing pick fresh
+  turn-task h e zero at more r n = record { answer-is = refl; on = i .on; rests = rest; place = c + 1; place-is = refl; remaining = less-left r n }
+  turn-task h e (suc zero) at more r n = record { answer-is = refl; on = i .on; rests = rest; place = c + 1; place-is = refl; remaining = less-left r n }
+  turn-task h e (suc (suc zero)) at more r n =
+      record {
+        answer-is = refl;
+        on = refl;
+        rests = refl;
+        place = 0;
+        place-is = refl;
+        remaining = inl (refl, none-left h _ (task-last-is v e) (omega arith) r n);
+      }
+  turn-task h e (suc (suc (suc j))) at more r n = absurd (omega arith)
+
+  turn-event : v .count ≤ c → v .phase ≡ 2 → (j : ℕ) → c - v .count ≡ j → j < length (eventLastStores v) → (r : ℕ) → Remaining v c (suc r)
+      → Turn v (storing (eventLastStores v) j further Answer.Stored) r
+  unfolding taskLastStores eventLastStores lastStores apply moved storing pick fresh
+  turn-event h e zero at more r n = record { answer-is = refl; on = i .on; rests = rest; place = c + 1; place-is = refl; remaining = less-left r n }
+  turn-event h e (suc zero) at more r n =
+      record {
+        answer-is = refl;
+        on = refl;
+        rests = refl;
+        place = 0;
+        place-is = refl;
+        remaining = inl (refl, none-left h _ (event-last-is v e) (omega arith) r n);
+      }
+  turn-event h e (suc (suc j)) at more r n = absurd (omega arith)
 
   turn-last : (TaskCommitAt p v z c ⊎ EventCommitAt v z c) → (r : ℕ) → Remaining v c (suc r) → v .count ≤ c → Turn v (copyStep p v d c) r
-  unfolding taskLastStores eventLastStores apply moved storing pick fresh
-  turn-last t r n h =
-      let e : c ≡ v .count + (c - v .count) = omega arith in
-      rw (last-is (c - v .count) e)
-      (⊎-elim (λ s. rw (task-last-is v (s .phase-is)) (by-task s (c - v .count) e n))
-      (λ s. rw (event-last-is v (s .phase-is)) (by-event s (c - v .count) e n)) t)
-    where
-      ws : List Write
-      ws = to Task (v .pending) ∷ to Open (v .pendingOpen) ∷ to Phase 0 ∷ []
-
-      us : List Write
-      us = to Head (v .pending) ∷ to Phase 0 ∷ []
-
-      by-task : TaskCommitAt p v z c → (j : ℕ) → c ≡ v .count + j → Remaining v c (suc r) → Turn v (storing (taskLastStores v) j further Answer.Stored) r
-      by-task s zero e n = record { answer-is = refl; on = on; rests = rest; place = c + 1; place-is = refl; remaining = remaining-less v c r n }
-      by-task s (suc zero) e n = record { answer-is = refl; on = on; rests = rest; place = c + 1; place-is = refl; remaining = remaining-less v c r n }
-      by-task s (suc (suc zero)) e n =
-          record { answer-is = refl; on = refl; rests = refl; place = 0; place-is = refl; remaining = inl (refl, none-left (s .phase-is) n) }
-        where
-          none-left : v .phase ≡ 1 → Remaining v c (suc r) → r ≡ 0
-          none-left f (inl x) = omega arith
-          none-left f (inr (inl x)) = omega arith
-          none-left f (inr (inr x)) = omega arith
-      by-task s (suc (suc (suc j))) e n = absurd (omega (arith, s .place))
-
-      by-event : EventCommitAt v z c → (j : ℕ) → c ≡ v .count + j → Remaining v c (suc r) → Turn v (storing (eventLastStores v) j further Answer.Stored) r
-      by-event s zero e n = record { answer-is = refl; on = on; rests = rest; place = c + 1; place-is = refl; remaining = remaining-less v c r n }
-      by-event s (suc zero) e n =
-          record { answer-is = refl; on = refl; rests = refl; place = 0; place-is = refl; remaining = inl (refl, none-left (s .phase-is) n) }
-        where
-          none-left : v .phase ≡ 2 → Remaining v c (suc r) → r ≡ 0
-          none-left f (inl x) = omega arith
-          none-left f (inr (inl x)) = omega arith
-          none-left f (inr (inr x)) = omega arith
-      by-event s (suc (suc j)) e n = absurd (omega (arith, s .place))
+  turn-last (inl s) r n h =
+      let l = s .lasting in
+      rw (last-is h (l .last) (l .last-is), task-last-is v (s .phase-is)) (turn-task h (s .phase-is) (l .last) (l .last-is) (l .inside) r n)
+  turn-last (inr s) r n h =
+      let l = s .lasting in
+      rw (last-is h (l .last) (l .last-is), event-last-is v (s .phase-is)) (turn-event h (s .phase-is) (l .last) (l .last-is) (l .inside) r n)
 
   pub turn : (TaskCommitAt p v z c ⊎ EventCommitAt v z c) → (r : ℕ) → Remaining v c (suc r) → Turn v (copyStep p v d c) r
   turn t r n = below-or c (v .count) (turn-copy r n) (turn-last t r n)

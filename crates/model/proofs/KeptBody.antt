@@ -12,17 +12,17 @@ use borrow.Author.Tests.{lt-ltb, le-ltb, eqb-true, eqb-false, eq-eqb, ltb-true, 
 use lib.Dec.{ltb, leb, eqb}
 use lib.ListN.{length, set, getD, replicate}
 use lib.Seq.{getD-set-other, getD-set-same}
-use Rattle.model.proofs.Invariant.{Lengths, Tasked, Waiting, Still, StillAt, Copying, CopyingAt, TaskCommit, TaskCommitAt, EventCommit, EventCommitAt, Mine, Running, Ending, EndingAt, HalfSaved, BodyAt, Placed, Inv}
-use Rattle.model.proofs.Kept.{Kept, InsideOf, refused-kept, running-later, first-head, first-pending}
+use Rattle.model.proofs.Invariant.{Lengths, Tasked, Waiting, StillAt, Copying, MineAt, Running, Ending, EndingAt, HalfSaved, On, Inv}
+use Rattle.model.proofs.Kept.{Kept, refused-kept, stored-kept, copies-left, running-later, first-head, first-pending}
 use Rattle.model.proofs.LogLaws.{addr, val, overlay, overlay-zero, overlay-suc, overlay-other, overlay-elsewhere, overlay-pair, overlay-overwrite, overlay-append, length-overlay, Distinct, find-pair, find-nothing}
 use Rattle.model.proofs.ProgramLaws.{Contents, Leads, Sound}
 use Rattle.model.proofs.RingLaws.{Between, after-le, between-first, between-head, records-head}
-use Rattle.model.proofs.StoreLaws.{apply, Inside}
+use Rattle.model.proofs.StoreLaws.{apply, relogged, recommitted, Inside}
 use Rattle.model.proofs.TestLaws.{pick-case, pick-true, pick-false, clash, same-or, below-or, and-true, and-left, and-right, must-true, then-passed}
 use Rattle.model.specs.Answer.{refusal}
 use Rattle.model.specs.Calls.{Call, Step}
 use Rattle.model.specs.Demand3.{isIn, mayMeet}
-use Rattle.model.specs.Device.{Out, out, refuse, judged, fresh, moved, begun, storing, taskStores, eventStores, recordSound, chooseStep, shown, saveStep, act, saveRest}
+use Rattle.model.specs.Device.{Out, out, refuse, judged, fresh, moved, begun, storing, taskStores, eventStores, taskLastStores, eventLastStores, recordSound, chooseStep, shown, saveStep, act, saveRest}
 use Rattle.model.specs.Program.{word, tasks, events, memoryWords, instructions, transaction, number, effectAt, newOpen}
 use Rattle.model.specs.Serial.{Serial, Walked, went, served, lost, advance, walk, walkBody, afterTask, afterEvent, serveOldest, runBody, tell}
 use Rattle.model.specs.Store.{Store, address, value, event, datum, Record, queueAt, after, empty, firstWaiting, slot, recordsFrom, distance, find, Word, Phase, Count, Pending, PendingOpen, Address, Value, Write, none, to}
@@ -31,79 +31,40 @@ use Rattle.model.specs.Types.{Answer, Body, Checked, Device, Effect, Fou
 
 -- no store of a body's end is made
 ending-none : (p : List ℕ) (v : Store) (d : Device) (b : Body) (i j : ℕ) (f : Effect) → Leads p i j f → EndingAt p v d b 0 f
+unfolding taskStores eventStores
 ending-none p v d b i j (Effect.Compute a x) h = refl
 ending-none p v d b i j (Effect.Jump k) h = refl
 ending-none p v d b i j (Effect.Read a x) h = refl
 ending-none p v d b i j (Effect.Write x y) h = refl
-ending-none p v d b i j (Effect.EndTask k) h =
-    (omega arith, (λ l. absurd (omega arith), (λ l. absurd (omega arith), λ l. absurd (omega arith))))
-ending-none p v d b i j Effect.EndEvent h = (omega arith, (λ l. absurd (omega arith), λ l. absurd (omega arith)))
+ending-none p v d b i j (Effect.EndTask k) h = (omega arith, tt)
+ending-none p v d b i j Effect.EndEvent h = (omega arith, tt)
 ending-none p v d b i j Effect.Unknown h = absurd h
 
--- other words 11, 12 and 13
-abbrev recommitted : Store → ℕ → ℕ → ℕ → Store
-recommitted v n y o =
-    record {
-      pairs = v .pairs;
-      records = v .records;
-      phase = v .phase;
-      task = v .task;
-      openNumber = v .openNumber;
-      count = n;
-      pending = y;
-      pendingOpen = o;
-      head = v .head;
-      tail = v .tail;
-      memory = v .memory;
-      log = v .log;
-      queue = v .queue;
-    }
-
--- another log
-abbrev relogged : Store → List ℕ → Store
-relogged v log =
-    record {
-      pairs = v .pairs;
-      records = v .records;
-      phase = v .phase;
-      task = v .task;
-      openNumber = v .openNumber;
-      count = v .count;
-      pending = v .pending;
-      pendingOpen = v .pendingOpen;
-      head = v .head;
-      tail = v .tail;
-      memory = v .memory;
-      log = log;
-      queue = v .queue;
-    }
-
-module _ (p : List ℕ) (sound : Sound p) (v : Store) (lengths : Lengths p v) (d : Device) (on : d .on ≡ true) (z : Serial) (k : ℕ)
-    (i : Inv p v d z k) (still : StillAt v z) where
+module _ (p : List ℕ) (sound : Sound p) (v : Store) (lengths : Lengths p v) (d : Device) (z : Serial) (k : ℕ)
+    (i : On p v d z k) (still : StillAt v z) where
   -- a body goes on at instruction j
   runs : (log : List ℕ) (b : Body) (x j : ℕ) (r : List ℕ) (l : ℕ)
-      → Mine (v .task) (v .openNumber) (v .head) (v .tail) (v .queue) x b
+      → MineAt v x b
       → Running p (v .memory) log (z .memory) (suc k) b x j r l
       → l ≤ v .pairs
       → Inv p (relogged v log) (moved d r (Run b j 0) l) z (suc k)
   unfolding moved firstWaiting
   runs log b x j r l mine h s =
-      record {
-        tasked = i .tasked;
-        head-in = i .head-in;
-        waits = i .waits;
+      inr
+      (record {
+        held = i .held;
+        on = i .on;
         handles = i .handles;
-        off-is = λ e. clash on e;
         count-in = s;
         placed = (
           (still, (x, mine, h)),
           ending-none p (relogged v log) (moved d r (Run b j 0) l) b (number p b) j (effectAt p (number p b) j r) (sound .leads (number p b) j r (h .body-in) (h .place-in)),
         );
-      }
+      })
 
   -- ---- choosing
 
-  begins : (b : Body) (x : ℕ) → Mine (v .task) (v .openNumber) (v .head) (v .tail) (v .queue) x b → number p b < tasks p + events p
+  begins : (b : Body) (x : ℕ) → MineAt v x b → number p b < tasks p + events p
       → Kept p v z k Step (out none (begun d b x) (Answer.Chosen b))
   unfolding begun tell apply
   begins b x mine h =
@@ -133,12 +94,12 @@ module _ (p : List ℕ) (sound : Sound p) (v : Store) (lengths : Lengths p v) (d
       let open′ : v .openNumber ≡ 0 = eqb-true _ _ (and-left _ _ e) in
       let some-record : v .head ≢ v .tail = eqb-false _ _ (not-true _ (and-right _ _ e)) in
       let known : event v (v .head) < events p =
-      i .waits .known (v .head) (i .head-in)
+      i .held .waits .known (v .head) (i .held .head-in)
       (rw (first-head v 0 (still .phase-is) refl) (between-first (v .head) (v .tail) some-record)) in
       let passed : recordSound p v ≡ Checked.Accepted = must-true _ (lt-ltb _ _ known) in
       rw passed
       (begins (Body.Event (event v (v .head))) (datum v (v .head)) (open′, (some-record, (refl, refl))) (omega arith)))
-      (λ e. begins (Body.Task (v .task)) 0 (refl, refl) (rw (still .task-is) (omega (arith, i .tasked .task-in))))
+      (λ e. begins (Body.Task (v .task)) 0 (refl, refl) (rw (still .task-is) (omega (arith, i .held .tasked .task-in))))
 
 -- ---- one instruction
 
@@ -158,9 +119,9 @@ shown-is v l y apart h = go (find (v .log) l y) refl
         rw (← (q .1)) (sym (overlay-pair (v .memory) (v .log) l n apart (rw (q .1) h) (q .0)))
     go Found.Nothing e = sym (overlay-elsewhere (v .memory) (v .log) l y (find-nothing (v .log) l y e))
 
-module _ (p : List ℕ) (sound : Sound p) (v : Store) (lengths : Lengths p v) (d : Device) (on : d .on ≡ true) (z : Serial) (k : ℕ)
-    (i : Inv p v d z k) (still : StillAt v z) (b : Body) (j x : ℕ)
-    (mine : Mine (v .task) (v .openNumber) (v .head) (v .tail) (v .queue) x b)
+module _ (p : List ℕ) (sound : Sound p) (v : Store) (lengths : Lengths p v) (d : Device) (z : Serial) (k : ℕ)
+    (i : On p v d z k) (still : StillAt v z) (b : Body) (j x : ℕ)
+    (mine : MineAt v x b)
     (h : Running p (v .memory) (v .log) (z .memory) k b x j (d .regs) (d .count)) where
   abbrev n : ℕ
   n = number p b
@@ -183,7 +144,7 @@ module _ (p : List ℕ) (sound : Sound p) (v : Store) (lengths : Lengths p v) (d
       → ((g : ℕ) → advance p j (d .regs) seen (λ c s o. walk g p n c s o) f ≡ walk g p n a r (overlay (v .memory) log l))
       → Inv p (relogged v log) (moved d r (Run b a 0) l) z (suc k)
   goes-on f e log a r l place addresses apart count same =
-      runs p sound v lengths d on z k i still log b x a r l mine
+      runs p sound v lengths d z k i still log b x a r l mine
       (record {
         body-in = h .body-in;
         place-in = place;
@@ -217,46 +178,39 @@ module _ (p : List ℕ) (sound : Sound p) (v : Store) (lengths : Lengths p v) (d
       let l = d .count in
       let log = set (v .log) (2 * l) y in
       let keeps : (m : ℕ) → m < l → addr log m ≡ addr (v .log) m = λ m s. getD-set-other (v .log) (2 * l) (2 * m) y 0 (omega arith) in
-      record {
-        inside = room;
-        after = z;
-        tells = λ fuel s. refl;
-        expected = tt;
-        inv =
-            record {
-              tasked = i .tasked;
-              head-in = i .head-in;
-              waits = i .waits;
-              handles = i .handles;
-              off-is = λ f. clash on f;
-              count-in = i .count-in;
-              placed = (
-                (
-                  still,
-                  (
-                    x,
-                    mine,
-                    record {
-                      body-in = h .body-in;
-                      place-in = h .place-in;
-                      addresses = λ m s. rw (keeps m s) (h .addresses m s);
-                      distinct = record { apart = λ m o s t. rw (keeps m (omega arith), keeps o t) (h .distinct .apart m o s t) };
-                      ran = h .ran;
-                      ran-in = omega (arith, h .ran-in);
-                      same = λ g. rw (overlay-other (v .memory) (v .log) (2 * l) y l (omega arith)) (h .same g);
-                    },
-                  ),
-                ),
-                rw e (
-                  below,
-                  (
-                    room,
-                    (getD-set-same (v .log) (2 * l) y 0 (omega (arith, lengths .log-length)), λ m s. rw (keeps m s) (new m s)),
-                  ),
-                ),
-              );
-            };
-      }
+      stored-kept (to (Address l) y) _ room
+      (inr
+      (record {
+        held = i .held;
+        on = i .on;
+        handles = i .handles;
+        count-in = i .count-in;
+        placed = (
+          (
+            still,
+            (
+              x,
+              mine,
+              record {
+                body-in = h .body-in;
+                place-in = h .place-in;
+                addresses = λ m s. rw (keeps m s) (h .addresses m s);
+                distinct = record { apart = λ m o s t. rw (keeps m (omega arith), keeps o t) (h .distinct .apart m o s t) };
+                ran = h .ran;
+                ran-in = omega (arith, h .ran-in);
+                same = λ g. rw (overlay-other (v .memory) (v .log) (2 * l) y l (omega arith)) (h .same g);
+              },
+            ),
+          ),
+          rw e (
+            below,
+            (
+              room,
+              (getD-set-same (v .log) (2 * l) y 0 (omega (arith, lengths .log-length)), λ m s. rw (keeps m s) (new m s)),
+            ),
+          ),
+        );
+      }))
 
   save-kept : (y w : ℕ) → effectAt p n j (d .regs) ≡ Effect.Write y w → j + 1 < instructions p n → y < memoryWords p
       → (f : Found) → find (v .log) (d .count) y ≡ f → Kept p v z k Step (saveStep v d b j y w f)
@@ -264,24 +218,18 @@ module _ (p : List ℕ) (sound : Sound p) (v : Store) (lengths : Lengths p v) (d
   save-kept y w e place below (Found.Pair a) q =
       let pair = find-pair (v .log) (d .count) y a q in
       let keeps : (m : ℕ) → addr (set (v .log) (2 * a + 1) w) m ≡ addr (v .log) m = λ m. getD-set-other (v .log) (2 * a + 1) (2 * m) w 0 (omega arith) in
-      record {
-        inside = omega (arith, pair .0, i .count-in);
-        after = z;
-        tells = λ fuel l. refl;
-        expected = tt;
-        inv =
-            goes-on (Effect.Write y w) e (set (v .log) (2 * a + 1) w) (j + 1) (d .regs) (d .count) place
-            (λ m l. rw (keeps m) (h .addresses m l))
-            (record { apart = λ m o l s. rw (keeps m, keeps o) (h .distinct .apart m o l s) }) (i .count-in)
-            (λ g.
-            pick-true _ _ (lt-ltb _ _ below)
-            ∙ ap (λ (m : List ℕ). walk g p n (j + 1) (d .regs) m)
-            (sym (overlay-overwrite (v .memory) (v .log) (d .count) a w (h .distinct) (omega (arith, i .count-in, lengths .log-length)) (pair .0)
-            ∙ ap (λ (c : ℕ). set seen c w) (pair .1))));
-      }
+      stored-kept (to (Value a) w) _ (omega (arith, pair .0, i .count-in))
+      (goes-on (Effect.Write y w) e (set (v .log) (2 * a + 1) w) (j + 1) (d .regs) (d .count) place
+      (λ m l. rw (keeps m) (h .addresses m l))
+      (record { apart = λ m o l s. rw (keeps m, keeps o) (h .distinct .apart m o l s) }) (i .count-in)
+      (λ g.
+      pick-true _ _ (lt-ltb _ _ below)
+      ∙ ap (λ (m : List ℕ). walk g p n (j + 1) (d .regs) m)
+      (sym (overlay-overwrite (v .memory) (v .log) (d .count) a w (h .distinct) (omega (arith, i .count-in, lengths .log-length)) (pair .0)
+      ∙ ap (λ (c : ℕ). set seen c w) (pair .1)))))
   save-kept y w e place below Found.Nothing q =
       pick-case (λ (o : Out). Kept p v z k Step o) (λ s. half-saved y w e below (find-nothing (v .log) (d .count) y q) (ltb-true _ _ s))
-      (λ s. refused-kept p v d z k Step Refusal.LogFull refl i)
+      (λ s. refused-kept p v d z k Step Refusal.LogFull refl (inr i))
 
   pub rest-kept : (f : Effect) → effectAt p n j (d .regs) ≡ f → Leads p n j f → HalfSaved p (v .log) (v .pairs) (d .count) f → Kept p v z k Step (saveRest d b j f)
   unfolding saveRest tell apply advance
@@ -325,30 +273,39 @@ module _ (p : List ℕ) (sound : Sound p) (v : Store) (lengths : Lengths p v) (d
       ap (λ (a : ℕ). walk a p n 0 (x ∷ replicate 7 0) (z .memory)) q ∙ walked f e (fuel - suc (h .ran))
 
   waits-head : Waiting p (v .queue) (v .records) (v .head) (v .tail) (z .records)
-  waits-head = rw (first-head v 0 (still .phase-is) refl) at (i .waits)
+  waits-head = rw (first-head v 0 (still .phase-is) refl) at (i .held .waits)
 
   -- words 11 to 13 are stored one by one
   staged : (w : Word) (y c a o m : ℕ) → Inside (memoryWords p) (v .pairs) (v .records) w → apply v (to w y) ≡ recommitted v a o m
-      → (f : Effect) → effectAt p n j (d .regs) ≡ f → Ending p a o m (v .records) (v .head) (d .count) b c f
+      → (f : Effect) → effectAt p n j (d .regs) ≡ f → EndingAt p (recommitted v a o m) d b c f
       → Kept p v z k Step (out (to w y) (moved d (d .regs) (Run b j c) (d .count)) Answer.Stored)
-  unfolding tell moved
+  unfolding moved
   staged w y c a o m s q f e t =
-      record {
-        inside = s;
-        after = z;
-        tells = λ fuel l. refl;
-        expected = tt;
-        inv =
-            rw q
-            (record {
-              tasked = i .tasked;
-              head-in = i .head-in;
+      stored-kept (to w y) _ s
+      (rw q
+      (inr
+      (record {
+        held =
+            record {
+              tasked = i .held .tasked;
+              head-in = i .held .head-in;
               waits = rw (first-head (recommitted v a o m) 0 (still .phase-is) refl) waits-head;
-              handles = i .handles;
-              off-is = λ g. clash on g;
-              count-in = i .count-in;
-              placed = ((still, (x, mine, running-later h)), rw e t);
-            });
+            };
+        on = i .on;
+        handles = i .handles;
+        count-in = i .count-in;
+        placed = ((still, (x, mine, running-later h)), rw e t);
+      })))
+
+  -- the commit store: nothing is copied yet
+  none-copied : v .count ≡ d .count → Copying p (v .pairs) (v .count) 0 (v .memory) (v .log) seen
+  none-copied count =
+      record {
+        count-in = omega (arith, i .count-in);
+        addresses = λ y l. h .addresses y (omega arith);
+        base = v .memory;
+        copied = let q : min 0 (v .count) ≡ 0 = omega arith in sym (ap (overlay (v .memory) (v .log)) q ∙ overlay-zero (v .memory) (v .log));
+        whole = ap (overlay (v .memory) (v .log)) count;
       }
 
 -- "8 becomes 1 (the commit store)"
@@ -357,19 +314,19 @@ unfolding newOpen
 new-open-in p x a =
     pick-case (λ (o : ℕ). (o ≡ 0) ⊎ (o ≡ transaction p a)) (λ e. inr (eqb-true _ _ e)) (λ e. inl refl)
 
-task-commits : (p : List ℕ) (sound : Sound p) (v : Store) (lengths : Lengths p v) (d : Device) (on : d .on ≡ true) (z : Serial) (k : ℕ)
-    (i : Inv p v d z k) (still : StillAt v z) (t j x : ℕ)
-    (mine : Mine (v .task) (v .openNumber) (v .head) (v .tail) (v .queue) x (Body.Task t))
+task-commits : (p : List ℕ) (sound : Sound p) (v : Store) (lengths : Lengths p v) (d : Device) (z : Serial) (k : ℕ)
+    (i : On p v d z k) (still : StillAt v z) (t j x : ℕ)
+    (mine : MineAt v x (Body.Task t))
     (h : Running p (v .memory) (v .log) (z .memory) k (Body.Task t) x j (d .regs) (d .count)) (a : ℕ)
     → effectAt p t j (d .regs) ≡ Effect.EndTask a → a < tasks p → v .count ≡ d .count → v .pending ≡ a
     → v .pendingOpen ≡ newOpen (transaction p t) (transaction p a)
     → Kept p v z k Step (out (to Phase 1) (fresh true) (Answer.Committed (Body.Task t)))
-unfolding tell apply fresh runBody afterTask walkBody number advance
-task-commits p sound v lengths d on z k i still t j x mine h a e below count pending pendingOpen =
+unfolding tell apply fresh runBody afterTask walkBody number advance taskLastStores
+task-commits p sound v lengths d z k i still t j x mine h a e below count pending pendingOpen =
     let is : t ≡ z .task = mine .0 ∙ still .task-is in
     let w = overlay (v .memory) (v .log) (d .count) in
     let ends : (fuel : ℕ) → k < fuel → walk fuel p t 0 (0 ∷ replicate 7 0) (z .memory) ≡ went a w =
-    λ fuel l. ap (λ (y : ℕ). walk fuel p t 0 (y ∷ replicate 7 0) (z .memory)) (sym (mine .1)) ∙ walk-ends p sound v lengths d on z k i still (Body.Task t) j x mine h (Effect.EndTask a) e fuel l in
+    λ fuel l. ap (λ (y : ℕ). walk fuel p t 0 (y ∷ replicate 7 0) (z .memory)) (sym (mine .1)) ∙ walk-ends p sound v lengths d z k i still (Body.Task t) j x mine h (Effect.EndTask a) e fuel l in
     record {
       inside = tt;
       after =
@@ -383,54 +340,50 @@ task-commits p sound v lengths d on z k i still t j x mine h a e below count pen
       tells = λ fuel l. pick-true _ _ (eq-eqb _ _ is) ∙ ap (afterTask p z) (ends fuel l);
       expected = tt;
       inv =
-          record {
-            tasked = record { task-in = below; open-in = new-open-in p (transaction p (z .task)) a };
-            head-in = i .head-in;
-            waits =
-                rw (first-head (apply v (to Phase 1)) 1 refl refl)
-                (waits-head p sound v lengths d on z k i still (Body.Task t) j x mine h);
+          inr
+          (record {
+            held =
+                record {
+                  tasked = record { task-in = below; open-in = new-open-in p (transaction p (z .task)) a };
+                  head-in = i .held .head-in;
+                  waits =
+                      rw (first-head (apply v (to Phase 1)) 1 refl refl)
+                      (waits-head p sound v lengths d z k i still (Body.Task t) j x mine h);
+                };
+            on = refl;
             handles = tt;
-            off-is = λ g. clash refl g;
             count-in = omega arith;
             placed =
                 inr (
-                  record {
-                    count-in = omega (arith, i .count-in);
-                    addresses = λ y l. h .addresses y (omega arith);
-                    base = v .memory;
-                    copied = let q : min 0 (v .count) ≡ 0 = omega arith in sym (ap (overlay (v .memory) (v .log)) q ∙ overlay-zero (v .memory) (v .log));
-                    whole = ap (overlay (v .memory) (v .log)) count;
-                  },
+                  none-copied p sound v lengths d z k i still (Body.Task t) j x mine h count,
                   inl
                       (record {
                         phase-is = refl;
-                        task-in = omega (arith, still .task-is, i .tasked .task-in);
+                        task-in = omega (arith, still .task-is, i .held .tasked .task-in);
                         pending-is = pending;
                         pendingOpen-is = pendingOpen ∙ ap (λ (y : ℕ). newOpen (transaction p y) (transaction p a)) is;
-                        place = omega arith;
-                        task-done = λ l. absurd (omega arith);
-                        open-done = λ l. absurd (omega arith);
+                        lasting = copies-left (omega arith) (omega arith);
                       }),
                 );
-          };
+          });
     }
 
 -- "8 becomes 2"
-event-commits : (p : List ℕ) (sound : Sound p) (v : Store) (lengths : Lengths p v) (d : Device) (on : d .on ≡ true) (z : Serial) (k : ℕ)
-    (i : Inv p v d z k) (still : StillAt v z) (e j x : ℕ)
-    (mine : Mine (v .task) (v .openNumber) (v .head) (v .tail) (v .queue) x (Body.Event e))
+event-commits : (p : List ℕ) (sound : Sound p) (v : Store) (lengths : Lengths p v) (d : Device) (z : Serial) (k : ℕ)
+    (i : On p v d z k) (still : StillAt v z) (e j x : ℕ)
+    (mine : MineAt v x (Body.Event e))
     (h : Running p (v .memory) (v .log) (z .memory) k (Body.Event e) x j (d .regs) (d .count))
     → effectAt p (tasks p + e) j (d .regs) ≡ Effect.EndEvent → v .count ≡ d .count → v .pending ≡ after (v .records) (v .head)
     → Kept p v z k Step (out (to Phase 2) (fresh true) (Answer.Committed (Body.Event e)))
-unfolding tell apply fresh runBody serveOldest afterEvent walkBody number advance slot
-event-commits p sound v lengths d on z k i still e j x mine h ends count pending =
+unfolding tell apply fresh runBody serveOldest afterEvent walkBody number advance slot eventLastStores
+event-commits p sound v lengths d z k i still e j x mine h ends count pending =
     let q = v .records in
-    let waits = waits-head p sound v lengths d on z k i still (Body.Event e) j x mine h in
+    let waits = waits-head p sound v lengths d z k i still (Body.Event e) j x mine h in
     let w = overlay (v .memory) (v .log) (d .count) in
     let some-record = mine .1 .0 in
     let rest = recordsFrom (v .queue) q (after q (v .head)) (distance q (after q (v .head)) (v .tail)) in
     let records-are : z .records ≡ slot (v .queue) (v .head) ∷ rest =
-    sym (waits .same) ∙ records-head (v .queue) q (v .head) (v .tail) (i .head-in) (waits .tail-in) some-record in
+    sym (waits .same) ∙ records-head (v .queue) q (v .head) (v .tail) (i .held .head-in) (waits .tail-in) some-record in
     record {
       inside = tt;
       after = record { memory = w; task = z .task; openNumber = z .openNumber; records = rest; posted = z .posted };
@@ -440,32 +393,30 @@ event-commits p sound v lengths d on z k i still e j x mine h ends count pending
           ∙ pick-true _ _ (and-true (eq-eqb _ _ (mine .1 .1 .0)) (eq-eqb _ _ (sym (still .open-is) ∙ mine .0)))
           ∙ ap (afterEvent z rest)
           (ap (λ (y : ℕ). walk fuel p (tasks p + e) 0 (y ∷ replicate 7 0) (z .memory)) (mine .1 .1 .1)
-          ∙ walk-ends p sound v lengths d on z k i still (Body.Event e) j x mine h Effect.EndEvent ends fuel l);
+          ∙ walk-ends p sound v lengths d z k i still (Body.Event e) j x mine h Effect.EndEvent ends fuel l);
       expected = tt;
       inv =
-          record {
-            tasked = i .tasked;
-            head-in = i .head-in;
-            waits =
-                rw (first-pending (apply v (to Phase 2)) refl ∙ pending)
-                (record {
-                  first-in = after-le q (v .head) (i .head-in);
-                  tail-in = waits .tail-in;
-                  same = refl;
-                  known = λ y l s. waits .known y l (between-head q (v .head) (v .tail) y (i .head-in) (waits .tail-in) l some-record s);
-                });
+          inr
+          (record {
+            held =
+                record {
+                  tasked = i .held .tasked;
+                  head-in = i .held .head-in;
+                  waits =
+                      rw (first-pending (apply v (to Phase 2)) refl ∙ pending)
+                      (record {
+                        first-in = after-le q (v .head) (i .held .head-in);
+                        tail-in = waits .tail-in;
+                        same = refl;
+                        known = λ y l s. waits .known y l (between-head q (v .head) (v .tail) y (i .held .head-in) (waits .tail-in) l some-record s);
+                      });
+                };
+            on = refl;
             handles = tt;
-            off-is = λ g. clash refl g;
             count-in = omega arith;
             placed =
                 inr (
-                  record {
-                    count-in = omega (arith, i .count-in);
-                    addresses = λ y l. h .addresses y (omega arith);
-                    base = v .memory;
-                    copied = let o : min 0 (v .count) ≡ 0 = omega arith in sym (ap (overlay (v .memory) (v .log)) o ∙ overlay-zero (v .memory) (v .log));
-                    whole = ap (overlay (v .memory) (v .log)) count;
-                  },
+                  none-copied p sound v lengths d z k i still (Body.Event e) j x mine h count,
                   inr
                       (record {
                         phase-is = refl;
@@ -473,89 +424,87 @@ event-commits p sound v lengths d on z k i still e j x mine h ends count pending
                         open-is = still .open-is;
                         open-none = mine .0;
                         pending-is = inr (pending, some-record);
-                        place = omega arith;
-                        head-done = λ l. absurd (omega arith);
+                        lasting = copies-left (omega arith) (omega arith);
                       }),
                 );
-          };
+          });
     }
 
 -- GO stands in a task, DONE in an event
-task-last : (p : List ℕ) (sound : Sound p) (v : Store) (lengths : Lengths p v) (d : Device) (on : d .on ≡ true) (z : Serial) (k : ℕ)
-    (i : Inv p v d z k) (still : StillAt v z) (b : Body) (j x : ℕ)
-    (mine : Mine (v .task) (v .openNumber) (v .head) (v .tail) (v .queue) x b)
+task-last : (p : List ℕ) (sound : Sound p) (v : Store) (lengths : Lengths p v) (d : Device) (z : Serial) (k : ℕ)
+    (i : On p v d z k) (still : StillAt v z) (b : Body) (j x : ℕ)
+    (mine : MineAt v x b)
     (h : Running p (v .memory) (v .log) (z .memory) k b x j (d .regs) (d .count)) (a : ℕ)
     → effectAt p (number p b) j (d .regs) ≡ Effect.EndTask a → Leads p (number p b) j (Effect.EndTask a) → v .count ≡ d .count → v .pending ≡ a
     → v .pendingOpen ≡ newOpen (transaction p (number p b)) (transaction p a)
     → Kept p v z k Step (out (to Phase 1) (fresh true) (Answer.Committed b))
 unfolding number
-task-last p sound v lengths d on z k i still (Body.Task t) j x mine h a e leads count pending pendingOpen =
-    task-commits p sound v lengths d on z k i still t j x mine h a e (leads .1) count pending pendingOpen
-task-last p sound v lengths d on z k i still (Body.Event n) j x mine h a e leads count pending pendingOpen =
+task-last p sound v lengths d z k i still (Body.Task t) j x mine h a e leads count pending pendingOpen =
+    task-commits p sound v lengths d z k i still t j x mine h a e (leads .1) count pending pendingOpen
+task-last p sound v lengths d z k i still (Body.Event n) j x mine h a e leads count pending pendingOpen =
     let l : tasks p + n < tasks p = ltb-true _ _ (leads .0) in absurd (omega arith)
 
-event-last : (p : List ℕ) (sound : Sound p) (v : Store) (lengths : Lengths p v) (d : Device) (on : d .on ≡ true) (z : Serial) (k : ℕ)
-    (i : Inv p v d z k) (still : StillAt v z) (b : Body) (j x : ℕ)
-    (mine : Mine (v .task) (v .openNumber) (v .head) (v .tail) (v .queue) x b)
+event-last : (p : List ℕ) (sound : Sound p) (v : Store) (lengths : Lengths p v) (d : Device) (z : Serial) (k : ℕ)
+    (i : On p v d z k) (still : StillAt v z) (b : Body) (j x : ℕ)
+    (mine : MineAt v x b)
     (h : Running p (v .memory) (v .log) (z .memory) k b x j (d .regs) (d .count))
     → effectAt p (number p b) j (d .regs) ≡ Effect.EndEvent → Leads p (number p b) j Effect.EndEvent → v .count ≡ d .count
     → v .pending ≡ after (v .records) (v .head)
     → Kept p v z k Step (out (to Phase 2) (fresh true) (Answer.Committed b))
 unfolding number
-event-last p sound v lengths d on z k i still (Body.Task t) j x mine h e leads count pending =
-    let l : tasks p ≤ t = ltb-false _ _ leads in absurd (omega (arith, mine .0, still .task-is, i .tasked .task-in))
-event-last p sound v lengths d on z k i still (Body.Event n) j x mine h e leads count pending =
-    event-commits p sound v lengths d on z k i still n j x mine h e count pending
+event-last p sound v lengths d z k i still (Body.Task t) j x mine h e leads count pending =
+    let l : tasks p ≤ t = ltb-false _ _ leads in absurd (omega (arith, mine .0, still .task-is, i .held .tasked .task-in))
+event-last p sound v lengths d z k i still (Body.Event n) j x mine h e leads count pending =
+    event-commits p sound v lengths d z k i still n j x mine h e count pending
 
-module _ (p : List ℕ) (sound : Sound p) (v : Store) (lengths : Lengths p v) (d : Device) (on : d .on ≡ true) (z : Serial) (k : ℕ)
-    (i : Inv p v d z k) (still : StillAt v z) (b : Body) (j x : ℕ)
-    (mine : Mine (v .task) (v .openNumber) (v .head) (v .tail) (v .queue) x b)
+module _ (p : List ℕ) (sound : Sound p) (v : Store) (lengths : Lengths p v) (d : Device) (z : Serial) (k : ℕ)
+    (i : On p v d z k) (still : StillAt v z) (b : Body) (j x : ℕ)
+    (mine : MineAt v x b)
     (h : Running p (v .memory) (v .log) (z .memory) k b x j (d .regs) (d .count)) where
   task-end-kept : (a : ℕ) → effectAt p (number p b) j (d .regs) ≡ Effect.EndTask a → Leads p (number p b) j (Effect.EndTask a) → (c : ℕ)
       → EndingAt p v d b c (Effect.EndTask a)
       → Kept p v z k Step (storing (taskStores p (number p b) a (d .count)) c (moved d (d .regs) (Run b j (c + 1)) (d .count)) (Answer.Committed b))
-  unfolding storing pick taskStores apply
-  task-end-kept a e leads zero t =
-      staged p sound v lengths d on z k i still b j x mine h Count (d .count) 1 (d .count) (v .pending) (v .pendingOpen) tt refl (Effect.EndTask a) e
-      (omega arith, (λ l. refl, (λ l. absurd (omega arith), λ l. absurd (omega arith))))
-  task-end-kept a e leads (suc zero) t =
-      staged p sound v lengths d on z k i still b j x mine h Pending a 2 (v .count) a (v .pendingOpen) tt refl (Effect.EndTask a) e
-      (omega arith, (λ l. t .1 .0 (omega arith), (λ l. refl, λ l. absurd (omega arith))))
-  task-end-kept a e leads (suc (suc zero)) t =
-      staged p sound v lengths d on z k i still b j x mine h PendingOpen _ 3 (v .count) (v .pending) _ tt refl (Effect.EndTask a) e
-      (omega arith, (λ l. t .1 .0 (omega arith), (λ l. t .1 .1 .0 (omega arith), λ l. refl)))
-  task-end-kept a e leads (suc (suc (suc zero))) t =
-      task-last p sound v lengths d on z k i still b j x mine h a e leads (t .1 .0 (omega arith)) (t .1 .1 .0 (omega arith)) (t .1 .1 .1 (omega arith))
-  task-end-kept a e leads (suc (suc (suc (suc c)))) t = absurd (omega (arith, t .0))
+  unfolding storing pick taskStores eventStores apply
+  task-end-kept a e leads zero (l, _) =
+      staged p sound v lengths d z k i still b j x mine h Count (d .count) 1 (d .count) (v .pending) (v .pendingOpen) tt refl (Effect.EndTask a) e
+      (omega arith, (refl, tt))
+  task-end-kept a e leads (suc zero) (l, (count, _)) =
+      staged p sound v lengths d z k i still b j x mine h Pending a 2 (v .count) a (v .pendingOpen) tt refl (Effect.EndTask a) e
+      (omega arith, (count, (refl, tt)))
+  task-end-kept a e leads (suc (suc zero)) (l, (count, (pending, _))) =
+      staged p sound v lengths d z k i still b j x mine h PendingOpen _ 3 (v .count) (v .pending) _ tt refl (Effect.EndTask a) e
+      (omega arith, (count, (pending, (refl, tt))))
+  task-end-kept a e leads (suc (suc (suc zero))) (l, (count, (pending, (open′, _)))) =
+      task-last p sound v lengths d z k i still b j x mine h a e leads count pending open′
+  task-end-kept a e leads (suc (suc (suc (suc c)))) (l, made) = absurd (omega arith)
 
   event-end-kept : effectAt p (number p b) j (d .regs) ≡ Effect.EndEvent → Leads p (number p b) j Effect.EndEvent → (c : ℕ)
       → EndingAt p v d b c Effect.EndEvent
       → Kept p v z k Step (storing (eventStores v (d .count)) c (moved d (d .regs) (Run b j (c + 1)) (d .count)) (Answer.Committed b))
-  unfolding storing pick eventStores apply
-  event-end-kept e leads zero t =
-      staged p sound v lengths d on z k i still b j x mine h Count (d .count) 1 (d .count) (v .pending) (v .pendingOpen) tt refl Effect.EndEvent e
-      (omega arith, (λ l. refl, λ l. absurd (omega arith)))
-  event-end-kept e leads (suc zero) t =
-      staged p sound v lengths d on z k i still b j x mine h Pending (after (v .records) (v .head)) 2 (v .count) (after (v .records) (v .head)) (v .pendingOpen) tt refl Effect.EndEvent e
-      (omega arith, (λ l. t .1 .0 (omega arith), λ l. refl))
-  event-end-kept e leads (suc (suc zero)) t =
-      event-last p sound v lengths d on z k i still b j x mine h e leads (t .1 .0 (omega arith)) (t .1 .1 (omega arith))
-  event-end-kept e leads (suc (suc (suc c))) t = absurd (omega (arith, t .0))
+  unfolding storing pick taskStores eventStores apply
+  event-end-kept e leads zero (l, _) =
+      staged p sound v lengths d z k i still b j x mine h Count (d .count) 1 (d .count) (v .pending) (v .pendingOpen) tt refl Effect.EndEvent e
+      (omega arith, (refl, tt))
+  event-end-kept e leads (suc zero) (l, (count, _)) =
+      staged p sound v lengths d z k i still b j x mine h Pending (after (v .records) (v .head)) 2 (v .count) (after (v .records) (v .head)) (v .pendingOpen) tt refl Effect.EndEvent e
+      (omega arith, (count, (refl, tt)))
+  event-end-kept e leads (suc (suc zero)) (l, (count, (pending, _))) = event-last p sound v lengths d z k i still b j x mine h e leads count pending
+  event-end-kept e leads (suc (suc (suc c))) (l, made) = absurd (omega arith)
 
   pub act-kept : (c : ℕ) (f : Effect) → effectAt p (number p b) j (d .regs) ≡ f → Leads p (number p b) j f → EndingAt p v d b c f → Kept p v z k Step (act p v d b j c f)
   unfolding act advance refusal isIn mayMeet _or_
-  act-kept c (Effect.Compute a y) e leads t = works p sound v lengths d on z k i still b j x mine h (Effect.Compute a y) e (j + 1) (set (d .regs) a y) leads (λ g. refl)
-  act-kept c (Effect.Jump a) e leads t = works p sound v lengths d on z k i still b j x mine h (Effect.Jump a) e a (d .regs) leads (λ g. refl)
+  act-kept c (Effect.Compute a y) e leads t = works p sound v lengths d z k i still b j x mine h (Effect.Compute a y) e (j + 1) (set (d .regs) a y) leads (λ g. refl)
+  act-kept c (Effect.Jump a) e leads t = works p sound v lengths d z k i still b j x mine h (Effect.Jump a) e a (d .regs) leads (λ g. refl)
   act-kept c (Effect.Read a y) e leads t =
       pick-case (λ (o : Out). Kept p v z k Step o)
       (λ s.
       let below : y < length (v .memory) = omega (arith, ltb-true y (memoryWords p) s, lengths .memory-length) in
-      works p sound v lengths d on z k i still b j x mine h (Effect.Read a y) e (j + 1) _ leads
+      works p sound v lengths d z k i still b j x mine h (Effect.Read a y) e (j + 1) _ leads
       (λ g. pick-true _ _ s ∙ ap (λ (m : ℕ). walk g p (number p b) (j + 1) (set (d .regs) a m) (overlay (v .memory) (v .log) (d .count))) (sym (shown-is v (d .count) y (h .distinct) below))))
-      (λ s. refused-kept p v d z k Step Refusal.Address refl i)
+      (λ s. refused-kept p v d z k Step Refusal.Address refl (inr i))
   act-kept c (Effect.Write y w) e leads t =
-      pick-case (λ (o : Out). Kept p v z k Step o) (λ s. save-kept p sound v lengths d on z k i still b j x mine h y w e leads (ltb-true _ _ s) (find (v .log) (d .count) y) refl)
-      (λ s. refused-kept p v d z k Step Refusal.Address refl i)
+      pick-case (λ (o : Out). Kept p v z k Step o) (λ s. save-kept p sound v lengths d z k i still b j x mine h y w e leads (ltb-true _ _ s) (find (v .log) (d .count) y) refl)
+      (λ s. refused-kept p v d z k Step Refusal.Address refl (inr i))
   act-kept c (Effect.EndTask a) e leads t = task-end-kept a e leads c t
   act-kept c Effect.EndEvent e leads t = event-end-kept e leads c t
   act-kept c Effect.Unknown e leads t = absurd leads

@@ -10,9 +10,9 @@ use native.Mathlib.Omega.{arith}
 use borrow.Author.Tests.{ltb-true, eqb-false, not-true}
 use lib.Dec.{ltb, eqb}
 use Rattle.model.proofs.Checks.{rules-obeyed, early-obeyed, device-sound}
-use Rattle.model.proofs.Invariant.{Lengths, Inv}
+use Rattle.model.proofs.Invariant.{Lengths, On, Inv}
 use Rattle.model.proofs.Kept.{Kept, refused-kept, InsideOf}
-use Rattle.model.proofs.KeptCalls.{next-kept, fresh-kept, posted-kept}
+use Rattle.model.proofs.KeptCalls.{held-of, resumes-of, turned-off-kept, turned-on-kept, next-kept, posted-kept}
 use Rattle.model.proofs.ProgramLaws.{Sound}
 use Rattle.model.proofs.StoreLaws.{viewAt, apply, Sized, view-is, view-settled, settled-sized, lengths-are, rule-kept}
 use Rattle.model.proofs.TestLaws.{pick-false, clash, must-true, then-skip, not-false}
@@ -86,18 +86,26 @@ module _ (p : List ℕ) (sound : Sound p) (l q : ℕ) (s : List ℕ) (d : Device
 
   sound-device : deviceSound p (view s) d ≡ true
   unfolding deviceSound zeros isFresh fresh pick _and_
-  sound-device = by-power (d .on) refl
+  sound-device = by-power (i .inv)
     where
-      by-power : (b : Bool) → d .on ≡ b → deviceSound p (view s) d ≡ true
-      by-power true e = ap (λ (u : Store). deviceSound p u d) view-at ∙ device-sound p v d z k (i .inv) sound e
-      by-power false e = ap (deviceSound p (view s)) (i .inv .off-is e)
+      by-power : Inv p v d z k → deviceSound p (view s) d ≡ true
+      by-power (inl o) = ap (deviceSound p (view s)) (o .is-off)
+      by-power (inr j) = ap (λ (u : Store). deviceSound p u d) view-at ∙ device-sound p v d z k j sound
+
+  pub when-on : d .on ≡ true → On p v d z k
+  unfolding fresh
+  when-on on = by-power (i .inv)
+    where
+      by-power : Inv p v d z k → On p v d z k
+      by-power (inl o) = clash on (ap (λ (e : Device). e .on) (o .is-off))
+      by-power (inr j) = j
 
   pub look-is : look p s d ≡ must (d .on) Refusal.PowerOff
   unfolding look
   look-is =
       then-skip _ (sound .head)
       ∙ then-skip _ (i .contents)
-      ∙ then-skip _ (ap (λ (u : Store). obeyAll (earlyRules p u)) view-at ∙ early-obeyed p v d z k (i .inv))
+      ∙ then-skip _ (ap (λ (u : Store). obeyAll (earlyRules p u)) view-at ∙ early-obeyed p v z (held-of (i .inv)) (resumes-of p v d z k (i .inv)))
       ∙ then-skip _ (must-true _ sound-device)
 
   pub boot-is : bootCheck p s d ≡ must (not (d .on)) Refusal.PowerOn
@@ -105,7 +113,7 @@ module _ (p : List ℕ) (sound : Sound p) (l q : ℕ) (s : List ℕ) (d : Device
   boot-is =
       then-skip _ (sound .passed)
       ∙ then-skip _ (i .contents)
-      ∙ then-skip _ (ap (λ (u : Store). obeyAll (rules p u)) view-at ∙ rules-obeyed p v d z k (i .inv))
+      ∙ then-skip _ (ap (λ (u : Store). obeyAll (rules p u)) view-at ∙ rules-obeyed p v z (held-of (i .inv)) (resumes-of p v d z k (i .inv)))
 
   -- ---- the calls
 
@@ -122,19 +130,19 @@ module _ (p : List ℕ) (sound : Sound p) (l q : ℕ) (s : List ℕ) (d : Device
   unfolding boot refusal isIn mayMeet _or_ afterDone
   boot-kept =
       judged-words Boot (not (d .on)) Refusal.PowerOn (out none (fresh true) Answer.Done) (bootCheck p s d) boot-is refl
-      (λ e. to-words Boot _ (fresh-kept p v d z k (i .inv) Boot refl true))
+      (λ e. to-words Boot _ (turned-on-kept p v d z k (i .inv)))
 
   pub cut-kept : KeptWords p l q s z k Cut cut
   unfolding cut afterDone
-  cut-kept = to-words Cut _ (fresh-kept p v d z k (i .inv) Cut refl false)
+  cut-kept = to-words Cut _ (turned-off-kept p v d z k (i .inv))
 
   pub step-kept : KeptWords p l q s z k Step (step p s d)
   unfolding step refusal isIn mayMeet _or_
   step-kept =
       judged-words Step (d .on) Refusal.PowerOff (nextStep p (view s) d (d .handler)) (look p s d) look-is refl
       (λ e.
-      rw view-at
-      (to-words Step (nextStep p v d (d .handler)) (next-kept p sound v lengths d e z k (i .inv) (d .handler) refl (i .inv .handles))))
+      let j = when-on e in
+      rw view-at (to-words Step (nextStep p v d (d .handler)) (next-kept p sound v lengths d z k j (d .handler) refl (j .handles))))
 
   post-kept : (e x : ℕ) → KeptWords p l q s z k (Post e x) (post p s d e x)
   unfolding post postCheck refusal isIn mayMeet _or_
@@ -155,7 +163,7 @@ module _ (p : List ℕ) (sound : Sound p) (l q : ℕ) (s : List ℕ) (d : Device
       judged-words (Post e x) room Refusal.QueueFull _ _ refl refl
       (λ free.
       let not-full : after (v .records) (v .tail) ≢ v .head = eqb-false _ _ (not-true _ (ap (λ (u : Store). not (full u)) (sym view-at) ∙ free)) in
-      to-words (Post e x) o (posted-kept p v d z k (i .inv) on e x (ltb-true _ _ below) not-full))))))))
+      to-words (Post e x) o (posted-kept p v d z k (when-on on) e x (ltb-true _ _ below) not-full))))))))
 
   pub call-kept : (c : Call) → KeptWords p l q s z k c (call p s d c)
   unfolding call

@@ -8,17 +8,19 @@ use mathlib.Core.List.{List, [], _∷_}
 use mathlib.Core.Option.{Option, some}
 use native.Mathlib.Nat.{not-suc-le-zero, add-zero, zero-add, add-assoc, add-comm}
 use native.Mathlib.Omega.{arith}
+use borrow.Author.Tests.{ne-eqb}
 use lib.Dec.{eqb}
-use Rattle.model.proofs.Invariant.{Inv, Waiting, StillAt, Placed}
-use Rattle.model.proofs.Kept.{Remaining, Turn, turn, first-head}
-use Rattle.model.proofs.KeptWords.{InvWords, KeptWords, step-kept, cut-kept, boot-kept, view-at, look-is, boot-is}
-use Rattle.model.proofs.KeptCalls.{fresh-inv}
+use lib.ListN.{length}
+use Rattle.model.proofs.Invariant.{StillAt, Placed, Resumes, On, Inv}
+use Rattle.model.proofs.Kept.{lasting-in, task-last-is, event-last-is, Remaining, Turn, turn}
+use Rattle.model.proofs.KeptWords.{InvWords, KeptWords, when-on, step-kept, view-at, look-is, boot-is}
+use Rattle.model.proofs.KeptCalls.{held-of, resumes-of, off-inv, on-inv}
 use Rattle.model.proofs.ProgramLaws.{Sound}
 use Rattle.model.proofs.StoreLaws.{viewAt}
 use Rattle.model.proofs.TestLaws.{pick-true, pick-false, must-true}
 use Rattle.model.specs.Calls.{Call, Boot, Step, Cut, unlessRefused, Recovery, recovered, refused, unfinished, finish, recovery}
 use Rattle.model.specs.Demand3.{Left, recoverySteps, Recovers}
-use Rattle.model.specs.Device.{Out, out, judged, fresh, off, look, bootCheck, boot, cut, copyStep, placeStep, nextStep, step}
+use Rattle.model.specs.Device.{Out, out, judged, fresh, off, turnedOn, taskLastStores, eventLastStores, lastStores, look, bootCheck, boot, cut, copyStep, placeStep, nextStep, step}
 use Rattle.model.specs.Program.{memoryWords}
 use Rattle.model.specs.Serial.{Serial, tell}
 use Rattle.model.specs.Store.{Store, view, Write, none, settled, waiting, firstWaiting}
@@ -27,20 +29,18 @@ use Rattle.model.specs.Types.{Answer, Checked, Device, Free, Half, Handl
 
 pub waiting-is : (p : List ℕ) (v : Store) (d : Device) (z : Serial) (k : ℕ) → Inv p v d z k → waiting v ≡ z .records
 unfolding waiting
-waiting-is p v d z k i = i .waits .same
+waiting-is p v d z k i = held-of i .waits .same
 
 -- in phase 0 the store has what the serial run has
 module _ (p : List ℕ) (v : Store) (d : Device) (z : Serial) (k : ℕ) (i : Inv p v d z k) (e : v .phase ≡ 0) where
-  still-at : (x : Place) → Placed p v d z k x → StillAt v z
-  still-at (Free c) (inl (s, f)) = s
-  still-at (Free c) (inr (m, inl t)) = absurd (omega (arith, t .phase-is))
-  still-at (Free c) (inr (m, inr t)) = absurd (omega (arith, t .phase-is))
-  still-at (Run b j c) ((s, r), f) = s
-  still-at (Half b j) ((s, r), f) = s
+  still-at : Resumes p v z → StillAt v z
+  still-at (inl s) = s
+  still-at (inr (m, inl t)) = absurd (omega (arith, t .phase-is))
+  still-at (inr (m, inr t)) = absurd (omega (arith, t .phase-is))
 
   left-at : Left v z
   left-at =
-      let s = still-at (d .place) (i .placed) in
+      let s = still-at (resumes-of p v d z k i) in
       record { memory = s .memory-is; task = s .task-is; openNumber = s .open-is; records = waiting-is p v d z k i }
 
 -- ---- one step of recovery
@@ -64,37 +64,34 @@ module _ (p : List ℕ) (sound : Sound p) (l q : ℕ) (s : List ℕ) (d : Device
       ∙ pick-false _ _ busy
 
   -- nothing is left to store: the phase is 0
-  all-done : (c : ℕ) → d .place ≡ Free c → Remaining v c 0 → v .phase ≡ 0
-  all-done c at (inl n) = n .0
-  all-done c at (inr n) = by-commit (rw at at (i .inv .placed)) n
+  all-done : (c : ℕ) → d .on ≡ true → d .place ≡ Free c → Remaining v c 0 → v .phase ≡ 0
+  all-done c on at (inl n) = n .0
+  all-done c on at (inr n) = by-commit (rw at at (when-on p sound l q s d z k i on .placed)) n
     where
-      by-commit : Placed p v d z k (Free c) → ((v .phase ≡ 1) × (0 + c ≡ v .count + 3)) ⊎ ((v .phase ≡ 2) × (0 + c ≡ v .count + 2)) → v .phase ≡ 0
+      by-commit : Placed p v d z k (Free c) → (v .phase ≢ 0) × (0 + c ≡ v .count + length (lastStores v)) → v .phase ≡ 0
       by-commit (inl (s, e)) n = s .phase-is
-      by-commit (inr (m, inl t)) (inl n) = absurd (omega (arith, t .place))
-      by-commit (inr (m, inl t)) (inr n) = absurd (omega (arith, t .phase-is))
-      by-commit (inr (m, inr t)) (inl n) = absurd (omega (arith, t .phase-is))
-      by-commit (inr (m, inr t)) (inr n) = absurd (omega (arith, t .place))
+      by-commit (inr (m, inl t)) n = absurd (omega (arith, lasting-in (t .lasting), ap length (task-last-is v (t .phase-is))))
+      by-commit (inr (m, inr t)) n = absurd (omega (arith, lasting-in (t .lasting), ap length (event-last-is v (t .phase-is))))
 
   -- something is left: a commit is at work, and makes its next store
   next-turn : (c r : ℕ) → d .on ≡ true → d .handler ≡ Resting → d .place ≡ Free c → Remaining v c (suc r) → Turn v (step p s d) r
-  next-turn c r on rest at n = by-commit (rw at at (i .inv .placed)) n
+  next-turn c r on rest at n = by-commit (rw at at (j .placed)) n
     where
+      j : On p v d z k
+      j = when-on p sound l q s d z k i on
+
       busy : (m : ℕ) → v .phase ≡ m → eqb m 0 ≡ false → eqb (v .phase) 0 ≡ false
       busy m e f = ap (λ (x : ℕ). eqb x 0) e ∙ f
 
       by-commit : Placed p v d z k (Free c) → Remaining v c (suc r) → Turn v (step p s d) r
       by-commit (inl (s, e)) (inl n) = absurd (omega arith)
-      by-commit (inl (s, e)) (inr (inl n)) = absurd (omega (arith, s .phase-is))
-      by-commit (inl (s, e)) (inr (inr n)) = absurd (omega (arith, s .phase-is))
-      by-commit (inr (m, inl t)) n =
-          rw (commit-is on rest c at (busy 1 (t .phase-is) refl)) (turn p v d on rest z k (i .inv) c m (inl t) r n)
-      by-commit (inr (m, inr t)) n =
-          rw (commit-is on rest c at (busy 2 (t .phase-is) refl)) (turn p v d on rest z k (i .inv) c m (inr t) r n)
+      by-commit (inl (s, e)) (inr n) = absurd (n .0 (s .phase-is))
+      by-commit (inr (m, inl t)) n = rw (commit-is on rest c at (busy 1 (t .phase-is) refl)) (turn p v d rest z k j c m (inl t) r n)
+      by-commit (inr (m, inr t)) n = rw (commit-is on rest c at (busy 2 (t .phase-is) refl)) (turn p v d rest z k j c m (inr t) r n)
 
   some-left : (c r : ℕ) → Remaining v c (suc r) → eqb (v .phase) 0 ≡ false
   some-left c r (inl n) = absurd (omega arith)
-  some-left c r (inr (inl n)) = ap (λ (x : ℕ). eqb x 0) (n .0)
-  some-left c r (inr (inr n)) = ap (λ (x : ℕ). eqb x 0) (n .0)
+  some-left c r (inr n) = ne-eqb _ _ (n .0)
 
   -- a step that stored leaves the serial run where it was
   stored-same : (h : KeptWords p l q s z k Step (step p s d)) → step p s d .answer ≡ Answer.Stored → h .after ≡ z
@@ -127,7 +124,7 @@ finishes : (p : List ℕ) (sound : Sound p) (l q r fuel n : ℕ) (s : List ℕ) 
     → d .on ≡ true → d .handler ≡ Resting → d .place ≡ Free c → Remaining (viewAt (memoryWords p) l q s) c r → r ≤ fuel
     → Finishes p s d z fuel n r
 finishes p sound l q zero fuel n s d z k c i on rest at m h =
-    let done = all-done p sound l q s d z k i c at m in
+    let done = all-done p sound l q s d z k i c on at m in
     record {
       store = s;
       ends = finish-none p fuel n s d done ∙ ap (λ (x : ℕ). recovered x s) (sym (add-zero n));
@@ -151,40 +148,42 @@ finishes p sound l q (suc r) (suc fuel) n s d z k c i on rest at m h =
     }
 
 -- the stores that a boot finds unmade
-steps-remain : (p : List ℕ) (v : Store) (z : Serial) (k : ℕ) → Placed p v (fresh true) z k (Free 0) → Remaining v 0 (recoverySteps v)
-unfolding recoverySteps
-steps-remain p v z k (inl (s, e)) =
+steps-remain : (p : List ℕ) (v : Store) (z : Serial) → Resumes p v z → Remaining v 0 (recoverySteps v)
+unfolding recoverySteps taskLastStores eventLastStores
+steps-remain p v z (inl s) =
     inl (
       s .phase-is,
       pick-false _ _ (ap (λ (x : ℕ). eqb x 1) (s .phase-is)) ∙ pick-false _ _ (ap (λ (x : ℕ). eqb x 2) (s .phase-is)),
     )
-steps-remain p v z k (inr (m, inl t)) =
-    inr
-    (inl (
-      t .phase-is,
-      ap (λ (x : ℕ). x + 0) (pick-true _ _ (ap (λ (x : ℕ). eqb x 1) (t .phase-is))) ∙ add-zero (v .count + 3),
-    ))
-steps-remain p v z k (inr (m, inr t)) =
-    inr
-    (inr (
-      t .phase-is,
+steps-remain p v z (inr (m, inl t)) =
+    inr (
+      omega (arith, t .phase-is),
+      ap (λ (x : ℕ). x + 0) (pick-true _ _ (ap (λ (x : ℕ). eqb x 1) (t .phase-is)))
+          ∙ add-zero (v .count + 3)
+          ∙ sym (ap (λ (ws : List Write). v .count + length ws) (task-last-is v (t .phase-is))),
+    )
+steps-remain p v z (inr (m, inr t)) =
+    inr (
+      omega (arith, t .phase-is),
       ap (λ (x : ℕ). x + 0)
           (pick-false _ _ (ap (λ (x : ℕ). eqb x 1) (t .phase-is)) ∙ pick-true _ _ (ap (λ (x : ℕ). eqb x 2) (t .phase-is)))
-          ∙ add-zero (v .count + 2),
-    ))
+          ∙ add-zero (v .count + 2)
+          ∙ sym (ap (λ (ws : List Write). v .count + length ws) (event-last-is v (t .phase-is))),
+    )
 
 pub recovers : (p : List ℕ) (sound : Sound p) (l q : ℕ) (s : List ℕ) (d : Device) (z : Serial) (k : ℕ) → InvWords p l q s d z k → (fuel : ℕ)
     → recoverySteps (view s) ≤ fuel → Recovers p s z fuel
 unfolding recovery cut boot judged unlessRefused fresh must
 recovers p sound l q s d z k i fuel h =
     let v = viewAt (memoryWords p) l q s in
-    let powered : (on : Bool) → InvWords p l q s (fresh on) z (suc k) =
-    λ on. record { sized = i .sized; contents = i .contents; inv = fresh-inv p v d z k (i .inv) on } in
-    let booted : boot p s off ≡ out none (fresh true) Answer.Done =
-    ap (λ (x : Checked). judged x off (out none (fresh true) Answer.Done)) (boot-is p sound l q s off z (suc k) (powered false)) in
-    let n = steps-remain p v z (suc k) (powered true .inv .placed) in
+    let found = resumes-of p v d z k (i .inv) in
+    let off-words : InvWords p l q s off z (suc k) = record { sized = i .sized; contents = i .contents; inv = off-inv p v d z k (i .inv) } in
+    let on-words : InvWords p l q s turnedOn z (suc k) =
+    record { sized = i .sized; contents = i .contents; inv = inr (on-inv p v d z k (held-of (i .inv)) found) } in
+    let booted : boot p s off ≡ out none turnedOn Answer.Done =
+    ap (λ (x : Checked). judged x off (out none turnedOn Answer.Done)) (boot-is p sound l q s off z (suc k) off-words) in
     let f =
-    finishes p sound l q (recoverySteps v) fuel 0 s (fresh true) z (suc k) 0 (powered true) refl refl refl n
+    finishes p sound l q (recoverySteps v) fuel 0 s turnedOn z (suc k) 0 on-words refl refl refl (steps-remain p v z found)
     (subst (λ (u : Store). recoverySteps u ≤ fuel) (view-at p sound l q s d z k i) h) in
     record {
       store = f .store;

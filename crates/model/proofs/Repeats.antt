@@ -12,11 +12,10 @@ use lib.ListN.{length, set}
 use lib.Seq.{getD-set-other}
 use Rattle.model.proofs.Checks.{obey-kept, obey-unasked}
 use Rattle.model.proofs.Early.{Early, Stands, MayRun, look-passed, Controlled, Shaped}
-use Rattle.model.proofs.Kept.{requeued}
 use Rattle.model.proofs.Numbers.{Low, low-contents, low-store}
 use Rattle.model.proofs.Refused.{Bare, refused-is}
 use Rattle.model.proofs.RingLaws.{after-le}
-use Rattle.model.proofs.StoreLaws.{viewAt, apply, Sized, Inside, view-after, rule-kept}
+use Rattle.model.proofs.StoreLaws.{viewAt, apply, requeued, Sized, Inside, view-after, rule-kept}
 use Rattle.model.proofs.TestLaws.{pick-case, pick-true, pick-false, clash, and-true, and-left, and-right, not-false, must-true, then-passed, then-first, then-rest, must-passed}
 use Rattle.model.specs.Answer.{refusal}
 use Rattle.model.specs.Calls.{Call, Boot, Step, Cut, Post, call, afterCalls}

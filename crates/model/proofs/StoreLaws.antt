@@ -38,6 +38,23 @@ abbrev pub parts : ℕ → ℕ → ℕ → ℕ → ℕ → ℕ → ℕ → ℕ �
 parts l q ph ta op n pe po h t m lo qu =
     record { pairs = l; records = q; phase = ph; task = ta; openNumber = op; count = n; pending = pe; pendingOpen = po; head = h; tail = t; memory = m; log = lo; queue = qu }
 
+-- a store with another queue and tail; another log; other words 9 and 10; other words 11 to 13
+abbrev pub requeued : Store → List ℕ → ℕ → Store
+requeued v queue t =
+    parts (v .pairs) (v .records) (v .phase) (v .task) (v .openNumber) (v .count) (v .pending) (v .pendingOpen) (v .head) t (v .memory) (v .log) queue
+
+abbrev pub relogged : Store → List ℕ → Store
+relogged v log =
+    parts (v .pairs) (v .records) (v .phase) (v .task) (v .openNumber) (v .count) (v .pending) (v .pendingOpen) (v .head) (v .tail) (v .memory) log (v .queue)
+
+abbrev pub retasked : Store → ℕ → ℕ → Store
+retasked v ta op =
+    parts (v .pairs) (v .records) (v .phase) ta op (v .count) (v .pending) (v .pendingOpen) (v .head) (v .tail) (v .memory) (v .log) (v .queue)
+
+abbrev pub recommitted : Store → ℕ → ℕ → ℕ → Store
+recommitted v n pe po =
+    parts (v .pairs) (v .records) (v .phase) (v .task) (v .openNumber) n pe po (v .head) (v .tail) (v .memory) (v .log) (v .queue)
+
 -- the parts after one store
 unfoldable pub apply : Store → Write → Store
 apply v none = v
