@@ -1,12 +1,11 @@
-//! With the feature `library`: link the static libraries that `rt staticlib exports` and `rt staticlib bus` write, or one archive
-//! with the functions of both, named by RUNTIME_ARCHIVE.
+//! With the feature `library`: link the static library that `rt staticlib exports` writes, or the archive that RUNTIME_ARCHIVE names.
 
 use std::path::{Path, PathBuf};
 
 fn link(archive: &Path) {
     println!("cargo::rerun-if-changed={}", archive.display());
     let Ok(archive) = archive.canonicalize() else {
-        println!("cargo::error={} isn't there. `rt staticlib exports` and `rt staticlib bus`, in the repository, write it.", archive.display());
+        println!("cargo::error={} isn't there. `rt staticlib exports`, in the repository, writes it.", archive.display());
         return;
     };
     let folder = archive.parent().expect("a file stands in a folder").display().to_string();
@@ -26,10 +25,6 @@ fn main() {
         return;
     }
     let here = PathBuf::from(std::env::var_os("CARGO_MANIFEST_DIR").expect("set by cargo"));
-    if let Some(path) = std::env::var_os("RUNTIME_ARCHIVE") {
-        return link(&here.join(path));
-    }
-    for name in ["libexports.a", "libbus.a"] {
-        link(&here.join("../target/staticlib").join(name));
-    }
+    let named = std::env::var_os("RUNTIME_ARCHIVE");
+    link(&here.join(named.unwrap_or("../target/staticlib/libexports.a".into())));
 }

@@ -1,5 +1,4 @@
-/* The functions of the library target/staticlib/libexports.a, which `rt staticlib exports` writes; the last one is in libbus.a,
- * which `rt staticlib bus` writes.
+/* The functions of the library target/staticlib/libexports.a, which `rt staticlib exports` writes.
  * What each call takes, answers and refuses: docs/USING.md.
  *
  * A program and a store are words with their number. The store is nonvolatile; the host keeps it.
@@ -10,7 +9,8 @@
  *   17 its data. What a case doesn't have is 0, so the device that is off has 18 zeros.
  * totals: 3 numbers, which the host keeps: bodies committed, events accepted, stores made.
  * answer: 5 words, written by every call: case, kind of body (0 task, 1 event), number (of the body or of
- *   the refusal), place (two words). What a case doesn't have is 0.
+ *   the refusal), place (two words). What a case doesn't have is 0. A step's answer has a sixth word: the index
+ *   of the store's word that it stored, even where the value stayed the same; 65535 where it stored none.
  *
  *   case        of                               words 1 to 4
  *   0 done      check, format, boot, post, cut   0
@@ -47,7 +47,7 @@ void runtime_boot(const uint16_t *program, size_t program_length, const uint16_t
                   uint16_t device[18], uint16_t answer[5]);
 
 void runtime_step(const uint16_t *program, size_t program_length, uint16_t *store, size_t store_length,
-                  uint16_t device[18], uint32_t totals[3], uint16_t answer[5]);
+                  uint16_t device[18], uint32_t totals[3], uint16_t answer[6]);
 
 void runtime_post(const uint16_t *program, size_t program_length, const uint16_t *store, size_t store_length,
                   uint16_t device[18], uint16_t event, uint16_t data, uint16_t answer[5]);
@@ -57,11 +57,6 @@ void runtime_cut(uint16_t device[18], uint16_t answer[5]);
 /* The number of steps made; a refused one isn't counted. */
 uint32_t runtime_run(const uint16_t *program, size_t program_length, uint16_t *store, size_t store_length,
                      uint16_t device[18], uint32_t totals[3], uint32_t budget, uint16_t answer[5]);
-
-/* Which word the next step stores, even where its value stays the same: its index in the store, or 65536 for
- * none (a step that stores nothing or is refused, or words that stand for no device state). Changes nothing. */
-uint32_t runtime_next_store(const uint16_t *program, size_t program_length, const uint16_t *store,
-                            size_t store_length, const uint16_t device[18]);
 
 #ifdef __cplusplus
 }

@@ -62,6 +62,10 @@ impl<'a> Bench<'a> {
     }
 
     fn step(&mut self) -> Answer {
+        self.whole_step().answer
+    }
+
+    fn whole_step(&mut self) -> StepAnswer {
         self.runtime.step(&self.program, &mut self.store, &mut self.device, &mut self.totals)
     }
 
@@ -150,13 +154,18 @@ fn nine_steps_and_ten(runtime: &dyn Runtime) {
 
 fn each_of_fourteen_steps(runtime: &dyn Runtime) {
     let mut bench = Bench::counting(runtime);
-    let answers: Vec<Answer> = (0..14).map(|_| bench.step()).collect();
+    let (answers, stored): (Vec<Answer>, Vec<Option<u16>>) =
+        (0..14).map(|_| bench.whole_step()).map(|step| (step.answer, step.stored)).unzip();
     let mut expected = vec![Answer::Chosen(Body::Task(0))];
     expected.extend([Answer::Worked; 3]);
     expected.extend([Answer::Stored; 5]);
     expected.push(Answer::Committed(Body::Task(0)));
     expected.extend([Answer::Stored; 4]);
     assert_eq!(answers, expected);
+    // The log's address and value; 11, 12, 13 and 8; memory 0; 9, 10 and 8. Words 12, 13, 9 and 10 stay 0.
+    let words = [18, 19, 11, 12, 13, 8, 16, 9, 10, 8].map(Some);
+    assert_eq!(stored[..4], [None; 4]);
+    assert_eq!(stored[4..], words);
 }
 
 fn post_and_three_steps(runtime: &dyn Runtime) {
@@ -274,7 +283,8 @@ fn store_of_24_words(runtime: &dyn Runtime) {
         assert_eq!(runtime.boot(&COUNTING, &mut short, &mut device), refused(6));
         assert_eq!(device, Device::OFF);
         let mut device = bench.device;
-        assert_eq!(runtime.step(&COUNTING, &mut short, &mut device, &mut totals), refused(6));
+        let step = runtime.step(&COUNTING, &mut short, &mut device, &mut totals);
+        assert_eq!(step, StepAnswer { answer: refused(6), stored: None });
         assert_eq!(runtime.post(&COUNTING, &mut short, &mut device, 0, 7), refused(6));
         let run = runtime.run(&COUNTING, &mut short, &mut device, &mut totals, 9);
         assert_eq!(run, RunAnswer { steps: 0, end: End::Refused(off) });

@@ -4,12 +4,18 @@
 //! The shapes are those of include/runtime.h. A device is 18 words (`Device::to_words`), totals are three 32-bit
 //! numbers (committed, accepted, stores). An answer is five words: case, kind of body (0 task, 1 event), number,
 //! and a place of two words. Cases: 0 done, 1 chosen, 2 worked, 3 stored, 4 committed, 5 accepted, 6 refused,
-//! 7 spent (of a run), 8 no device. Words that a case doesn't have are 0.
+//! 7 spent (of a run), 8 no device. Words that a case doesn't have are 0. A step's answer has a sixth word: the
+//! index of the word that it stored, or `NO_STORE`.
 
 use crate::runtime::*;
 use crate::scenario::{Call, Outcome};
 
 pub const ANSWER_WORDS: usize = 5;
+
+pub const STEP_WORDS: usize = 6;
+
+/// In the place of a word's index: no word was stored.
+pub const NO_STORE: u16 = 65535;
 
 #[derive(Clone, Copy)]
 pub struct Functions {
@@ -19,7 +25,7 @@ pub struct Functions {
     pub format: unsafe extern "C" fn(*const u16, usize, u16, u16, *mut u16, usize, *mut u16),
     /// program, its length, store, its length, device, answer
     pub boot: unsafe extern "C" fn(*const u16, usize, *mut u16, usize, *mut u16, *mut u16),
-    /// program, its length, store, its length, device, totals, answer
+    /// program, its length, store, its length, device, totals, answer of six words
     pub step: unsafe extern "C" fn(*const u16, usize, *mut u16, usize, *mut u16, *mut u32, *mut u16),
     /// program, its length, store, its length, device, event, data, answer
     pub post: unsafe extern "C" fn(*const u16, usize, *mut u16, usize, *mut u16, u16, u16, *mut u16),
@@ -27,8 +33,6 @@ pub struct Functions {
     pub cut: unsafe extern "C" fn(*mut u16, *mut u16),
     /// program, its length, store, its length, device, totals, budget, answer; the steps made
     pub run: unsafe extern "C" fn(*const u16, usize, *mut u16, usize, *mut u16, *mut u32, u32, *mut u16) -> u32,
-    /// program, its length, store, its length, device; the word that the next step stores, or `NO_STORE`
-    pub next_store: Option<unsafe extern "C" fn(*const u16, usize, *const u16, usize, *const u16) -> u32>,
 }
 
 /// Numbers that no call returns. They stand for words that are no answer of the call, for words that come back
@@ -59,6 +63,11 @@ pub fn answer_words(answer: &Answer) -> [u16; ANSWER_WORDS] {
         Answer::Refused(refusal) => [6, 0, refusal.number, refusal.place.0, refusal.place.1],
         Answer::NoDevice => [8, 0, 0, 0, 0],
     }
+}
+
+pub fn step_words(step: &StepAnswer) -> [u16; STEP_WORDS] {
+    let [case, kind, number, first, second] = answer_words(&step.answer);
+    [case, kind, number, first, second, step.stored.unwrap_or(NO_STORE)]
 }
 
 pub fn end_words(end: &End) -> [u16; ANSWER_WORDS] {
@@ -110,14 +119,15 @@ impl Foreign {
         device: &mut [u16; DEVICE_WORDS],
         totals: &mut Totals,
     ) -> Outcome {
-        let Functions { check, format, boot, step, post, cut, run, .. } = self.functions;
+        let Functions { check, format, boot, step, post, cut, run } = self.functions;
+        let told = if *call == Call::Step { STEP_WORDS } else { ANSWER_WORDS };
         let (code, length) = (program.as_ptr(), program.len());
         let (words, many) = (store.as_mut_ptr(), store.len());
         let mut lent_device = [GUARD; DEVICE_WORDS + 2];
         lent_device[1..=DEVICE_WORDS].copy_from_slice(device);
         let numbers = [totals.committed, totals.accepted, totals.stores];
         let mut lent_totals = [GUARD as u32, numbers[0], numbers[1], numbers[2], GUARD as u32];
-        let mut lent_answer = [GUARD; ANSWER_WORDS + 2];
+        let mut lent_answer = [GUARD; STEP_WORDS + 2];
         let mut steps = None;
         // Safety: the pointers are those of slices and arrays that live through the call, with their lengths.
         unsafe {
@@ -139,15 +149,18 @@ impl Foreign {
         }
         device.copy_from_slice(&lent_device[1..=DEVICE_WORDS]);
         *totals = Totals { committed: lent_totals[1], accepted: lent_totals[2], stores: lent_totals[3] };
-        let guards = [lent_device[0], lent_device[DEVICE_WORDS + 1], lent_answer[0], lent_answer[ANSWER_WORDS + 1]];
+        let guards = [lent_device[0], lent_device[DEVICE_WORDS + 1], lent_answer[0], lent_answer[told + 1]];
         let outside = guards != [GUARD; 4] || [lent_totals[0], lent_totals[4]] != [GUARD as u32; 2];
         let mut answer = [0; ANSWER_WORDS];
         answer.copy_from_slice(&lent_answer[1..=ANSWER_WORDS]);
+        let stored = (lent_answer[STEP_WORDS] != NO_STORE).then_some(lent_answer[STEP_WORDS]);
+        let single = |answer: Answer| match call {
+            Call::Step => Outcome::Step(StepAnswer { answer, stored }),
+            _ => Outcome::Answer(answer),
+        };
         match steps {
-            None if outside => Outcome::Answer(Answer::Refused(wrong(OUTSIDE, &answer))),
-            None => Outcome::Answer(
-                answer_from_words(&answer).unwrap_or(Answer::Refused(wrong(NO_ANSWER, &answer))),
-            ),
+            None if outside => single(Answer::Refused(wrong(OUTSIDE, &answer))),
+            None => single(answer_from_words(&answer).unwrap_or(Answer::Refused(wrong(NO_ANSWER, &answer)))),
             Some(steps) if outside => {
                 Outcome::Run(RunAnswer { steps, end: End::Refused(wrong(OUTSIDE, &answer)) })
             }
@@ -176,6 +189,7 @@ impl Foreign {
                 outcome
             }
             (None, Outcome::Answer(_)) => Outcome::Answer(Answer::Refused(bad)),
+            (None, Outcome::Step(step)) => Outcome::Step(StepAnswer { answer: Answer::Refused(bad), ..step }),
             (None, Outcome::Run(answer)) => Outcome::Run(RunAnswer { end: End::Refused(bad), ..answer }),
         }
     }
@@ -188,10 +202,7 @@ impl Foreign {
         device: &mut Device,
         totals: &mut Totals,
     ) -> Answer {
-        match self.valued(call, program, store, device, totals) {
-            Outcome::Answer(answer) => answer,
-            Outcome::Run(_) => unreachable!("only a run answers as one"),
-        }
+        self.valued(call, program, store, device, totals).answer().expect("only a run answers as one")
     }
 }
 
@@ -209,8 +220,11 @@ impl Runtime for Foreign {
         self.answer(&Call::Boot, program, store, device, &mut Totals::default())
     }
 
-    fn step(&self, program: &[u16], store: &mut [u16], device: &mut Device, totals: &mut Totals) -> Answer {
-        self.answer(&Call::Step, program, store, device, totals)
+    fn step(&self, program: &[u16], store: &mut [u16], device: &mut Device, totals: &mut Totals) -> StepAnswer {
+        match self.valued(&Call::Step, program, store, device, totals) {
+            Outcome::Step(step) => step,
+            _ => unreachable!("a step answers as one"),
+        }
     }
 
     fn post(&self, program: &[u16], store: &mut [u16], device: &mut Device, event: u16, data: u16) -> Answer {
@@ -231,14 +245,8 @@ impl Runtime for Foreign {
     ) -> RunAnswer {
         match self.valued(&Call::Run { budget }, program, store, device, totals) {
             Outcome::Run(answer) => answer,
-            Outcome::Answer(_) => unreachable!("a run answers as one"),
+            _ => unreachable!("a run answers as one"),
         }
-    }
-
-    fn next_store(&self, program: &[u16], store: &[u16], device: &[u16; DEVICE_WORDS]) -> Option<u32> {
-        let next = self.functions.next_store?;
-        // Safety: as in `flat`.
-        Some(unsafe { next(program.as_ptr(), program.len(), store.as_ptr(), store.len(), device.as_ptr()) })
     }
 
     fn stray(

@@ -51,13 +51,6 @@ extern "C" {
         budget: u32,
         answer: *mut u16,
     ) -> u32;
-    fn runtime_next_store(
-        program: *const u16,
-        length: usize,
-        store: *const u16,
-        store_length: usize,
-        device: *const u16,
-    ) -> u32;
 }
 
 pub const FUNCTIONS: Functions = Functions {
@@ -68,7 +61,6 @@ pub const FUNCTIONS: Functions = Functions {
     post: runtime_post,
     cut: runtime_cut,
     run: runtime_run,
-    next_store: Some(runtime_next_store),
 };
 
 pub const LIBRARY: Foreign = Foreign { functions: FUNCTIONS };

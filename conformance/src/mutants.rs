@@ -21,6 +21,9 @@ pub enum Mistake {
     TotalsMissCommitStore,
     TotalsWrap,
     RefusedStepClears,
+    // The word told as stored.
+    ValueToldAsAddress,
+    SameValueNotTold,
     // Instructions.
     ShiftTowardsZero,
     UnsignedLess,
@@ -37,7 +40,7 @@ pub enum Mistake {
     SevenWithoutPlace,
 }
 
-pub const MISTAKES: [Mistake; 25] = [
+pub const MISTAKES: [Mistake; 27] = [
     Mistake::HeadPlusOneOnRedo,
     Mistake::TailBeforeData,
     Mistake::PhaseBeforeTask,
@@ -51,6 +54,8 @@ pub const MISTAKES: [Mistake; 25] = [
     Mistake::TotalsMissCommitStore,
     Mistake::TotalsWrap,
     Mistake::RefusedStepClears,
+    Mistake::ValueToldAsAddress,
+    Mistake::SameValueNotTold,
     Mistake::ShiftTowardsZero,
     Mistake::UnsignedLess,
     Mistake::IndexWraps,
@@ -73,6 +78,15 @@ pub struct LastPlace;
 
 fn refused(number: u16) -> Answer {
     Answer::Refused(Refusal { number, place: (0, 0) })
+}
+
+/// A step that stored nothing, and one that stored a word.
+fn without(answer: Answer) -> StepAnswer {
+    StepAnswer { answer, stored: None }
+}
+
+fn storing(answer: Answer, index: usize) -> StepAnswer {
+    StepAnswer { answer, stored: Some(index as u16) }
 }
 
 /// Whether program and store are wholly right.
@@ -112,7 +126,7 @@ impl Mutant {
         store: &mut [u16],
         device: &mut Device,
         totals: &mut Totals,
-    ) -> Option<Answer> {
+    ) -> Option<StepAnswer> {
         let count_store = |totals: &mut Totals| totals.stores = totals.stores.saturating_add(1);
         let resting = device.on && device.handler.is_none();
         let old = *device;
@@ -125,7 +139,7 @@ impl Mutant {
                 store[HEAD] = after(store, store[HEAD]);
                 device.place = Place::NoBody { commit: commit + 1 };
                 count_store(totals);
-                Some(Answer::Stored)
+                Some(storing(Answer::Stored, HEAD))
             }
             Mistake::TailBeforeData => {
                 let handler = device.handler?;
@@ -139,14 +153,15 @@ impl Mutant {
                         device.handler = Some(Handler { next: Next::Tail, ..handler });
                         count_store(totals);
                         totals.accepted = totals.accepted.saturating_add(1);
-                        Some(Answer::Accepted)
+                        Some(storing(Answer::Accepted, TAIL))
                     }
                     Next::Tail => {
                         let slot = if store[TAIL] == 0 { store[3] } else { store[TAIL] - 1 };
-                        store[store[7] as usize + 2 * slot as usize + 1] = handler.data;
+                        let index = store[7] as usize + 2 * slot as usize + 1;
+                        store[index] = handler.data;
                         device.handler = None;
                         count_store(totals);
-                        Some(Answer::Stored)
+                        Some(storing(Answer::Stored, index))
                     }
                 }
             }
@@ -156,21 +171,22 @@ impl Mutant {
                     return None;
                 }
                 let n = store[COUNT];
-                if store[PHASE] == 1 && commit == n {
-                    store[PHASE] = 0;
+                let (index, word) = if store[PHASE] == 1 && commit == n {
+                    (PHASE, 0)
                 } else if store[PHASE] == 0 && commit == n + 1 {
-                    store[TASK] = store[PENDING];
+                    (TASK, store[PENDING])
                 } else if store[PHASE] == 0 && commit == n + 2 {
-                    store[OPEN] = store[PENDING_OPEN];
+                    (OPEN, store[PENDING_OPEN])
                 } else {
                     return None;
-                }
+                };
+                store[index] = word;
                 count_store(totals);
                 device.place = Place::NoBody { commit: commit + 1 };
                 if commit == n + 2 {
                     *device = Device::ON;
                 }
-                Some(Answer::Stored)
+                Some(storing(Answer::Stored, index))
             }
             Mistake::CountFromLostState => {
                 if resting && sound(program, store) && store[PHASE] != 0 {
@@ -180,11 +196,11 @@ impl Mutant {
                         }
                     }
                 }
-                let answer = Reference.step(program, store, device, totals);
-                if let Answer::Committed(_) = answer {
+                let step = Reference.step(program, store, device, totals);
+                if let Answer::Committed(_) = step.answer {
                     device.log_count = old.log_count;
                 }
-                Some(answer)
+                Some(step)
             }
             Mistake::EventInOpenTransaction => {
                 if !sound(program, store) || !device.on {
@@ -192,11 +208,11 @@ impl Mutant {
                 }
                 let open = store[OPEN];
                 store[OPEN] = 0;
-                let answer = Reference.step(program, store, device, totals);
+                let step = Reference.step(program, store, device, totals);
                 if store[PHASE] == 0 && store[OPEN] == 0 {
                     store[OPEN] = open;
                 }
-                Some(answer)
+                Some(step)
             }
             Mistake::TaskBeforeEvent => {
                 if !resting || !sound(program, store) || device.place != (Place::NoBody { commit: 0 }) {
@@ -207,9 +223,9 @@ impl Mutant {
                 }
                 let tail = store[TAIL];
                 store[TAIL] = store[HEAD];
-                let answer = Reference.step(program, store, device, totals);
+                let step = Reference.step(program, store, device, totals);
                 store[TAIL] = tail;
-                Some(answer)
+                Some(step)
             }
             Mistake::LogFullEarly => {
                 if !resting || !sound(program, store) || device.log_count + 1 != store[2] {
@@ -219,13 +235,13 @@ impl Mutant {
                 let (mut next, mut sums) = (*device, *totals);
                 Reference.step(program, &mut copy, &mut next, &mut sums);
                 let halved = matches!(next.place, Place::HalfSave { .. }) && next != *device;
-                halved.then(|| refused(24))
+                halved.then(|| without(refused(24)))
             }
             Mistake::ChoosingReadsRow => {
                 let idle = device.place == Place::NoBody { commit: 0 };
                 let words = broken_words(program, store);
                 (resting && idle && words.contains(&(OPEN as u16)) && Reference.check(program) == Answer::Done)
-                    .then(|| Answer::Refused(Refusal { number: 7, place: (OPEN as u16, 0) }))
+                    .then(|| without(Answer::Refused(Refusal { number: 7, place: (OPEN as u16, 0) })))
             }
             Mistake::SecondHalfLooksAgain => {
                 let Place::HalfSave { .. } = device.place else { return None };
@@ -235,14 +251,15 @@ impl Mutant {
                 let (opcode, _, b, k) = instruction(program, device)?;
                 let address = k as usize + device.registers[b] as usize;
                 let mut copy = store.to_vec();
-                let fine = Reference.step(program, &mut copy, &mut old.clone(), &mut totals.clone());
-                (opcode == SAVEX && fine == Answer::Stored && address >= program[3] as usize).then(|| refused(23))
+                let fine = Reference.step(program, &mut copy, &mut old.clone(), &mut totals.clone()).answer;
+                (opcode == SAVEX && fine == Answer::Stored && address >= program[3] as usize)
+                    .then(|| without(refused(23)))
             }
             Mistake::OpenNumberByStoredTask => {
                 let Place::Running { ending: 2, .. } = device.place else { return None };
-                let answer = Reference.step(program, store, device, totals);
+                let step = Reference.step(program, store, device, totals);
                 if let (Answer::Stored, Some((GO, ..)), Place::Running { body: Body::Task(task), .. }) =
-                    (answer, instruction(program, &old), old.place)
+                    (step.answer, instruction(program, &old), old.place)
                 {
                     if resting && store[PENDING] < program[1] {
                         let own = program[8 + 3 * task as usize];
@@ -250,12 +267,12 @@ impl Mutant {
                         store[PENDING_OPEN] = if own == next { own } else { 0 };
                     }
                 }
-                Some(answer)
+                Some(step)
             }
             Mistake::GoRowOnce => {
                 let Place::Running { body, instruction: index, ending: 1 } = device.place else { return None };
                 let (opcode, _, _, k) = instruction(program, device)?;
-                let answer = Reference.step(program, &mut store.to_vec(), &mut old.clone(), &mut totals.clone());
+                let answer = Reference.step(program, &mut store.to_vec(), &mut old.clone(), &mut totals.clone()).answer;
                 let other = Answer::Refused(Refusal { number: 4, place: (k, 0) });
                 if opcode != GO || answer != other || body == Body::Task(k) || k == 0 || !resting {
                     return None;
@@ -263,50 +280,61 @@ impl Mutant {
                 store[PENDING] = k;
                 device.place = Place::Running { body, instruction: index, ending: 2 };
                 count_store(totals);
-                Some(Answer::Stored)
+                Some(storing(Answer::Stored, PENDING))
             }
             Mistake::OffBeforeUnlike => {
-                let answer = Reference.step(program, store, device, totals);
-                Some(if !device.on && answer == refused(25) { refused(22) } else { answer })
+                let step = Reference.step(program, store, device, totals);
+                Some(if !device.on && step.answer == refused(25) { without(refused(22)) } else { step })
             }
             Mistake::TotalsMissCommitStore => {
                 let stores = totals.stores;
-                let answer = Reference.step(program, store, device, totals);
-                if let Answer::Committed(_) = answer {
+                let step = Reference.step(program, store, device, totals);
+                if let Answer::Committed(_) = step.answer {
                     totals.stores = stores;
                 }
-                Some(answer)
+                Some(step)
             }
             Mistake::TotalsWrap => {
                 let before = *totals;
-                let answer = Reference.step(program, store, device, totals);
-                if before.stores == u32::MAX && !matches!(answer, Answer::Refused(_) | Answer::Worked | Answer::Chosen(_)) {
+                let step = Reference.step(program, store, device, totals);
+                if before.stores == u32::MAX && step.stored.is_some() {
                     totals.stores = 0;
                 }
-                Some(answer)
+                Some(step)
             }
             Mistake::RefusedStepClears => {
-                let answer = Reference.step(program, store, device, totals);
-                if let Answer::Refused(_) = answer {
+                let step = Reference.step(program, store, device, totals);
+                if let Answer::Refused(_) = step.answer {
                     device.registers = [0; 8];
                 }
-                Some(answer)
+                Some(step)
             }
             Mistake::SevenWithoutPlace => {
-                let answer = Reference.step(program, store, device, totals);
-                Some(match answer {
-                    Answer::Refused(Refusal { number: 7, .. }) => refused(7),
-                    _ => answer,
+                let step = Reference.step(program, store, device, totals);
+                Some(match step.answer {
+                    Answer::Refused(Refusal { number: 7, .. }) => without(refused(7)),
+                    _ => step,
                 })
+            }
+            Mistake::ValueToldAsAddress => {
+                let step = Reference.step(program, store, device, totals);
+                let half = matches!(old.place, Place::HalfSave { .. }) && old.handler.is_none();
+                Some(StepAnswer { stored: step.stored.map(|index| index - half as u16), ..step })
+            }
+            Mistake::SameValueNotTold => {
+                let before = store.to_vec();
+                let step = Reference.step(program, store, device, totals);
+                Some(StepAnswer { stored: step.stored.filter(|_| before != store), ..step })
             }
             Mistake::ShiftTowardsZero
             | Mistake::UnsignedLess
             | Mistake::IndexWraps
             | Mistake::LoadPassesLog
             | Mistake::LastPairFound => {
-                let answer = Reference.step(program, store, device, totals);
-                let Some((opcode, a, b, k)) = instruction(program, &old) else { return Some(answer) };
-                let Place::Running { body, instruction: index, .. } = old.place else { return Some(answer) };
+                let step = Reference.step(program, store, device, totals);
+                let answer = step.answer;
+                let Some((opcode, a, b, k)) = instruction(program, &old) else { return Some(step) };
+                let Place::Running { body, instruction: index, .. } = old.place else { return Some(step) };
                 let (ra, rb) = (old.registers[a], old.registers[b]);
                 let next = Place::Running { body, instruction: index.wrapping_add(1), ending: 0 };
                 if answer == Answer::Worked && self.0 == Mistake::ShiftTowardsZero && opcode == SHR {
@@ -321,7 +349,7 @@ impl Mutant {
                     if opcode == LOADX {
                         device.registers[a] = store[16 + wrapped as usize];
                         device.place = next;
-                        return Some(Answer::Worked);
+                        return Some(without(Answer::Worked));
                     }
                 }
                 if answer == Answer::Worked && (opcode == LOAD || opcode == LOADX) {
@@ -338,7 +366,7 @@ impl Mutant {
                         }
                     }
                 }
-                Some(answer)
+                Some(step)
             }
             _ => None,
         }
@@ -364,9 +392,9 @@ impl Runtime for Mutant {
         answer
     }
 
-    fn step(&self, program: &[u16], store: &mut [u16], device: &mut Device, totals: &mut Totals) -> Answer {
+    fn step(&self, program: &[u16], store: &mut [u16], device: &mut Device, totals: &mut Totals) -> StepAnswer {
         match self.mistaken_step(program, store, device, totals) {
-            Some(answer) => answer,
+            Some(step) => step,
             None => Reference.step(program, store, device, totals),
         }
     }
@@ -401,7 +429,7 @@ impl Runtime for Mutant {
             if self.0 == Mistake::RunSpentEarly && steps == 100 {
                 break;
             }
-            if let Answer::Refused(refusal) = self.step(program, store, device, totals) {
+            if let Answer::Refused(refusal) = self.step(program, store, device, totals).answer {
                 if self.0 == Mistake::RunCountsRefusedStep {
                     steps += 1;
                 }
@@ -443,9 +471,9 @@ impl Runtime for LastPlace {
         LastPlace::answer(program, store, answer)
     }
 
-    fn step(&self, program: &[u16], store: &mut [u16], device: &mut Device, totals: &mut Totals) -> Answer {
-        let answer = Reference.step(program, store, device, totals);
-        LastPlace::answer(program, store, answer)
+    fn step(&self, program: &[u16], store: &mut [u16], device: &mut Device, totals: &mut Totals) -> StepAnswer {
+        let step = Reference.step(program, store, device, totals);
+        StepAnswer { answer: LastPlace::answer(program, store, step.answer), ..step }
     }
 
     fn post(&self, program: &[u16], store: &mut [u16], device: &mut Device, event: u16, data: u16) -> Answer {

@@ -955,11 +955,10 @@ impl Runtime for Reference {
         done_or(boot(program, store, device))
     }
 
-    fn step(&self, program: &[u16], store: &mut [u16], device: &mut Device, totals: &mut Totals) -> Answer {
-        match step(program, store, device, totals, &mut None) {
-            Ok(answer) => answer,
-            Err(refusal) => Answer::Refused(refusal),
-        }
+    fn step(&self, program: &[u16], store: &mut [u16], device: &mut Device, totals: &mut Totals) -> StepAnswer {
+        let mut made = None;
+        let answer = step(program, store, device, totals, &mut made).unwrap_or_else(Answer::Refused);
+        StepAnswer { answer, stored: made.map(|index| index as u16) }
     }
 
     fn post(&self, program: &[u16], store: &mut [u16], device: &mut Device, event: u16, data: u16) -> Answer {
@@ -987,13 +986,5 @@ impl Runtime for Reference {
             steps += 1;
         }
         RunAnswer { steps, end: End::Spent }
-    }
-
-    fn next_store(&self, program: &[u16], store: &[u16], device: &[u16; DEVICE_WORDS]) -> Option<u32> {
-        let mut made = None;
-        if let Some(mut device) = Device::from_words(device) {
-            let _ = step(program, &mut store.to_vec(), &mut device, &mut Totals::default(), &mut made);
-        }
-        Some(made.map_or(NO_STORE, |index| index as u32))
     }
 }

@@ -34,6 +34,13 @@ pub enum Answer {
     NoDevice,
 }
 
+/// What a step answers, and the index of the word that it stored, if it stored one; where the value stays the same, too.
+#[derive(Clone, Copy, PartialEq, Eq, Debug)]
+pub struct StepAnswer {
+    pub answer: Answer,
+    pub stored: Option<u16>,
+}
+
 /// How a run ended.
 #[derive(Clone, Copy, PartialEq, Eq, Debug)]
 pub enum End {
@@ -89,9 +96,6 @@ pub struct Device {
 
 /// The number of words in the flat form of a device state.
 pub const DEVICE_WORDS: usize = 18;
-
-/// In the place of a word's index: no word is stored.
-pub const NO_STORE: u32 = 65536;
 
 impl Device {
     /// Off: one fixed value.
@@ -199,7 +203,7 @@ pub trait Runtime {
 
     fn boot(&self, program: &[u16], store: &mut [u16], device: &mut Device) -> Answer;
 
-    fn step(&self, program: &[u16], store: &mut [u16], device: &mut Device, totals: &mut Totals) -> Answer;
+    fn step(&self, program: &[u16], store: &mut [u16], device: &mut Device, totals: &mut Totals) -> StepAnswer;
 
     fn post(&self, program: &[u16], store: &mut [u16], device: &mut Device, event: u16, data: u16) -> Answer;
 
@@ -214,12 +218,6 @@ pub trait Runtime {
         budget: u32,
     ) -> RunAnswer;
 
-    /// The word that the next step stores, or `NO_STORE`; any words may stand in the device's place. None where the
-    /// implementation doesn't tell.
-    fn next_store(&self, _program: &[u16], _store: &[u16], _device: &[u16; DEVICE_WORDS]) -> Option<u32> {
-        None
-    }
-
     /// A call with words in the device's place that are no device's flat form. Where the device is a value there
     /// are no such words, and this is what the comparison expects of the others: no device, and nothing changes.
     fn stray(
@@ -232,6 +230,7 @@ pub trait Runtime {
     ) -> Outcome {
         match call {
             Call::Run { .. } => Outcome::Run(RunAnswer { steps: 0, end: End::NoDevice }),
+            Call::Step => Outcome::Step(StepAnswer { answer: Answer::NoDevice, stored: None }),
             Call::Cut => {
                 *words = Device::OFF.to_words();
                 Outcome::Answer(Answer::Done)

@@ -65,24 +65,30 @@ impl Call {
 #[derive(Clone, Copy, PartialEq, Eq, Debug)]
 pub enum Outcome {
     Answer(Answer),
+    Step(StepAnswer),
     Run(RunAnswer),
 }
 
 impl Outcome {
-    pub fn refusal(&self) -> Option<Refusal> {
+    /// The answer of a call that isn't a run.
+    pub fn answer(&self) -> Option<Answer> {
         match self {
-            Outcome::Answer(Answer::Refused(refusal)) => Some(*refusal),
-            Outcome::Run(RunAnswer { end: End::Refused(refusal), .. }) => Some(*refusal),
+            Outcome::Answer(answer) | Outcome::Step(StepAnswer { answer, .. }) => Some(*answer),
+            Outcome::Run(_) => None,
+        }
+    }
+
+    pub fn refusal(&self) -> Option<Refusal> {
+        match (self, self.answer()) {
+            (_, Some(Answer::Refused(refusal))) => Some(refusal),
+            (Outcome::Run(RunAnswer { end: End::Refused(refusal), .. }), _) => Some(*refusal),
             _ => None,
         }
     }
 
     /// Whether the words in the device's place stood for no device state.
     pub fn no_device(&self) -> bool {
-        matches!(
-            self,
-            Outcome::Answer(Answer::NoDevice) | Outcome::Run(RunAnswer { end: End::NoDevice, .. })
-        )
+        self.answer() == Some(Answer::NoDevice) || matches!(self, Outcome::Run(RunAnswer { end: End::NoDevice, .. }))
     }
 }
 
@@ -158,7 +164,7 @@ impl Machine {
                 runtime.format(program, log_pairs, queue_records, store)
             }
             Call::Boot => runtime.boot(program, store, device),
-            Call::Step => runtime.step(program, store, device, totals),
+            Call::Step => return Some(Outcome::Step(runtime.step(program, store, device, totals))),
             Call::Post { event, data } => runtime.post(program, store, device, event, data),
             Call::Cut => runtime.cut(device),
             Call::Run { budget } => {

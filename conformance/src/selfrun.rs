@@ -36,10 +36,13 @@ impl Watch<'_> {
         let device = self.machine.device;
         let totals = self.machine.totals;
         let phase = self.machine.store[PHASE];
-        let Some(Outcome::Answer(answer)) = self.machine.call(self.runtime, call) else {
+        let Some(outcome) = self.machine.call(self.runtime, call) else {
+            return Err("not a call".into());
+        };
+        let Some(answer) = outcome.answer() else {
             return Err("not a single call".into());
         };
-        counts.add(call, &device, phase, self.recovering, &Outcome::Answer(answer));
+        counts.add(call, &device, phase, self.recovering, &outcome);
 
         let changed = self.before.iter().zip(&self.machine.store).filter(|(x, y)| x != y).count();
         let stores = match answer {
@@ -48,6 +51,9 @@ impl Watch<'_> {
         };
         if changed > stores {
             return Err(format!("{answer:?}: {}", word_difference(&self.before, &self.machine.store)));
+        }
+        if let Outcome::Step(step) = outcome {
+            self.told(&step, stores)?;
         }
         let mut expected = totals;
         expected.stores = expected.stores.saturating_add(stores as u32);
@@ -92,6 +98,17 @@ impl Watch<'_> {
         demand_3(self.runtime, program, store, device, &self.serial, &mut self.copy)
             .map_err(|text| format!("{answer:?}: {text}"))?;
         Ok(answer)
+    }
+
+    /// A step tells a word where it made a store, and no other word has changed.
+    fn told(&self, step: &StepAnswer, stores: usize) -> Result<(), String> {
+        let others = self.before.iter().zip(&self.machine.store).enumerate().filter(|(index, (x, y))| {
+            x != y && step.stored != Some(*index as u16)
+        });
+        if step.stored.is_some() as usize != stores || others.count() > 0 {
+            return Err(format!("{step:?}: {}", word_difference(&self.before, &self.machine.store)));
+        }
+        Ok(())
     }
 
     /// A run: on a copy whole, then by single steps, which must come to the same.

@@ -200,7 +200,7 @@ pub fn demand_3(
         if steps > expected {
             return Err(format!("recovery: {steps} steps and no end, {expected} expected"));
         }
-        let answer = runtime.step(program, copy, &mut device, &mut totals);
+        let answer = runtime.step(program, copy, &mut device, &mut totals).answer;
         if answer != Answer::Stored {
             return Err(format!("recovery: step {steps} answers {answer:?}"));
         }

@@ -2,7 +2,7 @@
 //! include/runtime.h. With the reference behind them it tests what stands on the library before there is one;
 //! with a mistake behind them it tests that a failure of the library would be seen.
 
-use crate::foreign::{answer_words, end_words, Functions, ANSWER_WORDS};
+use crate::foreign::{answer_words, end_words, step_words, Functions};
 use crate::mutants::{Mutant, MISTAKES};
 use crate::reference::Reference;
 use crate::runtime::*;
@@ -30,8 +30,8 @@ unsafe fn words_mut<'a>(start: *mut u16, length: usize) -> &'a mut [u16] {
     std::slice::from_raw_parts_mut(start, length)
 }
 
-unsafe fn put(answer: [u16; ANSWER_WORDS], out: *mut u16) {
-    words_mut(out, ANSWER_WORDS).copy_from_slice(&answer);
+unsafe fn put<const N: usize>(answer: [u16; N], out: *mut u16) {
+    words_mut(out, N).copy_from_slice(&answer);
 }
 
 /// Work on the device of these words, or none if they are no device's.
@@ -103,7 +103,7 @@ pub unsafe extern "C" fn step(
     let answer = with_device(device, |device| {
         with_totals(totals, |totals| behind().step(program, store, device, totals))
     });
-    put(answer_words(&answer.unwrap_or(Answer::NoDevice)), out);
+    put(step_words(&answer.unwrap_or(StepAnswer { answer: Answer::NoDevice, stored: None })), out);
 }
 
 /// # Safety
@@ -154,18 +154,4 @@ pub unsafe extern "C" fn run(
     answer.steps
 }
 
-/// # Safety
-/// See `check`.
-pub unsafe extern "C" fn next_store(
-    program: *const u16,
-    length: usize,
-    store: *const u16,
-    store_length: usize,
-    device: *const u16,
-) -> u32 {
-    let mut flat = [0; DEVICE_WORDS];
-    flat.copy_from_slice(words(device, DEVICE_WORDS));
-    Reference.next_store(words(program, length), words(store, store_length), &flat).unwrap_or(NO_STORE)
-}
-
-pub const FUNCTIONS: Functions = Functions { check, format, boot, step, post, cut, run, next_store: Some(next_store) };
+pub const FUNCTIONS: Functions = Functions { check, format, boot, step, post, cut, run };

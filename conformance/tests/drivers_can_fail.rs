@@ -2,7 +2,7 @@
 //! still catches it, and what isn't a mistake passes. Also the boundary to C functions and the text form.
 
 use conformance::compare::{self, Counts};
-use conformance::foreign::{Foreign, Functions};
+use conformance::foreign::{Foreign, Functions, NO_STORE};
 use conformance::generate::scenario;
 use conformance::mutants::{LastPlace, Mistake, Mutant, MISTAKES};
 use conformance::reference::Reference;
@@ -160,6 +160,37 @@ unsafe extern "C" fn step_reads_loosely(
     standin::step(program, length, store, store_length, device, totals, answer)
 }
 
+/// A step with an answer of five words: nothing is told of the word stored.
+unsafe extern "C" fn step_with_five_words(
+    program: *const u16,
+    length: usize,
+    store: *mut u16,
+    store_length: usize,
+    device: *mut u16,
+    totals: *mut u32,
+    answer: *mut u16,
+) {
+    let mut six = [0; 6];
+    standin::step(program, length, store, store_length, device, totals, six.as_mut_ptr());
+    std::slice::from_raw_parts_mut(answer, 5).copy_from_slice(&six[..5]);
+}
+
+/// Where nothing is stored, word 0 is told.
+unsafe extern "C" fn step_tells_word_0(
+    program: *const u16,
+    length: usize,
+    store: *mut u16,
+    store_length: usize,
+    device: *mut u16,
+    totals: *mut u32,
+    answer: *mut u16,
+) {
+    standin::step(program, length, store, store_length, device, totals, answer);
+    if *answer.add(5) == NO_STORE {
+        *answer.add(5) = 0;
+    }
+}
+
 /// A run without a device counts a step.
 unsafe extern "C" fn run_counts_without_a_device(
     program: *const u16,
@@ -185,6 +216,8 @@ fn mistakes_at_the_boundary_are_caught() {
         Functions { check: check_with_six_words, ..right },
         Functions { check: check_by_another_case, ..right },
         Functions { step: step_reads_loosely, ..right },
+        Functions { step: step_with_five_words, ..right },
+        Functions { step: step_tells_word_0, ..right },
         Functions { run: run_counts_without_a_device, ..right },
     ];
     for (index, functions) in wrong.into_iter().enumerate() {

@@ -113,6 +113,9 @@ CHANGES = [
     ("        return Ok(second_half(look, node, stand, &instruction));", "        if node.device.registers[instruction.b] as usize + instruction.k as usize >= head.memory && opcode == SAVEX { return Err(refusal(23)); }\n        return Ok(second_half(look, node, stand, &instruction));"),
     ("    let pair = look.parts.pair(node.device.log_count as usize);\n    node.make", "    let pair = look.parts.pair(node.device.log_count as usize);\n    let pair = if node.device.log_count == 63 { pair - 2 } else { pair };\n    node.make"),
     ("    if device.on {\n        return Err(refusal(26));\n    }\n", "    if device.on {\n        return Err(refusal(26));\n    }\n    if *device != Device::OFF {\n        return Err(refusal(25));\n    }\n"),
+    # the word told as stored
+    ("        self.store[index] = word;\n        *self.made = Some(index);", "        if self.store[index] != word {\n            *self.made = Some(index);\n        }\n        self.store[index] = word;"),
+    ("        *self.made = Some(index);", "        *self.made = Some(index - (index == PENDING_OPEN) as usize);"),
     # meaning
     ("        if row.transaction == next_row.transaction {", "        if true {"),
     ("let closing: &[Store] = if store[PHASE] == 1 {\n            &[(TASK, store[PENDING]), (OPEN, store[PENDING_OPEN]), (PHASE, 0)]", "let closing: &[Store] = if store[PHASE] == 1 {\n            &[(OPEN, store[PENDING_OPEN]), (TASK, store[PENDING]), (PHASE, 0)]"),

@@ -94,16 +94,3 @@ pub unsafe extern "C" fn runtime_run(
 ) -> u32 {
     standin::run(program, length, store, store_length, device, totals, budget, answer)
 }
-
-/// # Safety
-/// See `runtime_check`.
-#[no_mangle]
-pub unsafe extern "C" fn runtime_next_store(
-    program: *const u16,
-    length: usize,
-    store: *const u16,
-    store_length: usize,
-    device: *const u16,
-) -> u32 {
-    standin::next_store(program, length, store, store_length, device)
-}

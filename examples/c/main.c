@@ -22,7 +22,7 @@ enum { DONE, CHOSEN, WORKED, STORED, COMMITTED, ACCEPTED, REFUSED, SPENT, NO_DEV
 static uint16_t store[STORE]; /* nonvolatile: a cut leaves it as it is */
 static uint16_t device[18];   /* lost at a cut; 18 zeros are the device that is off */
 static uint32_t totals[3];
-static uint16_t answer[5];
+static uint16_t answer[6];    /* a step's answer has six words, the others have five */
 
 static void print(const char *call)
 {
@@ -33,6 +33,8 @@ static void print(const char *call)
         printf(" %s %u", answer[1] ? "event" : "task", answer[2]);
     if (answer[0] == REFUSED)
         printf(" %u, place %u %u", answer[2], answer[3], answer[4]);
+    if (answer[0] == STORED || answer[0] == COMMITTED || answer[0] == ACCEPTED)
+        printf(", word %u", answer[5]);
     printf("\n");
 }
 

@@ -58,9 +58,12 @@ mod library {
     }
 }
 
-/// An answer's five words.
+/// A step's sixth word where it stored none.
+const NO_STORE: u16 = 65535;
+
+/// An answer's five words, and the index of the word that a step stored.
 #[derive(Clone, Copy, PartialEq, Eq)]
-struct Answer([u16; 5]);
+struct Answer([u16; 5], Option<u16>);
 
 impl fmt::Display for Answer {
     fn fmt(&self, out: &mut fmt::Formatter) -> fmt::Result {
@@ -77,6 +80,10 @@ impl fmt::Display for Answer {
             7 => write!(out, "spent"),
             8 => write!(out, "no device"),
             _ => write!(out, "?"),
+        }?;
+        match self.1 {
+            Some(index) => write!(out, ", word {index}"),
+            None => Ok(()),
         }
     }
 }
@@ -86,7 +93,7 @@ fn check(program: &[u16]) -> Answer {
     let mut answer = [0; 5];
     // Safety, here and below: each pointer is that of a slice or an array that is lent for the call, with its length.
     unsafe { library::runtime_check(program.as_ptr(), program.len(), answer.as_mut_ptr()) };
-    Answer(answer)
+    Answer(answer, None)
 }
 
 /// A node: a program, its store, and what a cut loses.
@@ -119,7 +126,7 @@ impl<'a> Node<'a> {
         };
         match answer[0] {
             0 => Ok(Node { program, store, device: [0; 18], totals: [0; 3] }),
-            _ => Err(Answer(answer)),
+            _ => Err(Answer(answer, None)),
         }
     }
 
@@ -135,11 +142,11 @@ impl<'a> Node<'a> {
                 answer.as_mut_ptr(),
             )
         };
-        Answer(answer)
+        Answer(answer, None)
     }
 
     fn step(&mut self) -> Answer {
-        let mut answer = [0; 5];
+        let mut answer = [0; 6];
         unsafe {
             library::runtime_step(
                 self.program.as_ptr(),
@@ -151,7 +158,8 @@ impl<'a> Node<'a> {
                 answer.as_mut_ptr(),
             )
         };
-        Answer(answer)
+        let [case, kind, number, first, second, index] = answer;
+        Answer([case, kind, number, first, second], (index != NO_STORE).then_some(index))
     }
 
     fn post(&mut self, event: u16, data: u16) -> Answer {
@@ -168,13 +176,13 @@ impl<'a> Node<'a> {
                 answer.as_mut_ptr(),
             )
         };
-        Answer(answer)
+        Answer(answer, None)
     }
 
     fn cut(&mut self) -> Answer {
         let mut answer = [0; 5];
         unsafe { library::runtime_cut(self.device.as_mut_ptr(), answer.as_mut_ptr()) };
-        Answer(answer)
+        Answer(answer, None)
     }
 
     /// The steps made, with spent or the refusal.
@@ -192,7 +200,7 @@ impl<'a> Node<'a> {
                 answer.as_mut_ptr(),
             )
         };
-        (steps, Answer(answer))
+        (steps, Answer(answer, None))
     }
 
     fn phase(&self) -> u16 {
@@ -250,7 +258,7 @@ fn main() {
             std::process::exit(1);
         }
     };
-    print("format", Answer([0; 5]));
+    print("format", Answer([0; 5], None));
 
     print("boot", node.boot());
     steps(&mut node, 9);

@@ -8,7 +8,7 @@
 //! leave is compared. The library is called as a host calls it, on flat words; the reference on its own values, inlined.
 
 use conformance::cases::COUNTING;
-use conformance::foreign::Functions;
+use conformance::foreign::{Functions, STEP_WORDS};
 use conformance::library::FUNCTIONS;
 use conformance::standin;
 use conformance::reference::*;
@@ -40,7 +40,7 @@ struct Words<'a, const REFERENCE: bool> {
     store: Vec<u16>,
     device: [u16; DEVICE_WORDS],
     totals: [u32; 3],
-    answer: [u16; 5],
+    answer: [u16; STEP_WORDS],
 }
 
 struct Rust<'a> {
@@ -83,7 +83,7 @@ impl<'a, const REFERENCE: bool> Side<'a> for Words<'a, REFERENCE> {
             store: load.store(),
             device: [0; DEVICE_WORDS],
             totals: [0; 3],
-            answer: [0; 5],
+            answer: [0; STEP_WORDS],
         };
         let (program, store) = (side.program, &mut side.store);
         // Safety, here and below: pointers and lengths are those of slices and arrays that live through the call.
@@ -97,7 +97,7 @@ impl<'a, const REFERENCE: bool> Side<'a> for Words<'a, REFERENCE> {
                 side.answer.as_mut_ptr(),
             )
         };
-        assert_eq!(side.answer, [0; 5]);
+        assert_eq!(side.answer, [0; STEP_WORDS]);
         side
     }
 
@@ -170,8 +170,8 @@ impl<'a> Side<'a> for Rust<'a> {
 
     fn step(&mut self) {
         let program = black_box(self.program);
-        let answer = Reference.step(program, &mut self.store, &mut self.device, &mut self.totals);
-        assert!(!matches!(black_box(answer), Answer::Refused(_)));
+        let step = Reference.step(program, &mut self.store, &mut self.device, &mut self.totals);
+        assert!(!matches!(black_box(step).answer, Answer::Refused(_)));
     }
 
     fn run(&mut self, budget: u32) {

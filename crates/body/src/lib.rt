@@ -26,6 +26,7 @@ use model::Found;
 use model::Handler;
 use model::Place;
 use model::Refusal;
+use model::Stored;
 use program::code;
 use program::rows;
 use store::log;
@@ -33,13 +34,13 @@ use store::memory;
 use store::queue;
 
 // What fetching a body's instruction gives: a refusal, or what the instruction does.
-pub enum Fetched {
+enum Fetched {
     Refused(Refusal),
     Does(Effect),
 }
 
 // A body's number among all: tasks first.
-pub fn number(p: &[u16], b: Body) -> u16
+fn number(p: &[u16], b: Body) -> u16
     requires { ⌜ Contents (now p) ⌝ }
     requires { ⌜ number (now p) b < bodies (now p) ⌝ }
     ensures { λ i. ⌜ i ≡ number (now (p .entry)) b ⌝ }
@@ -51,7 +52,7 @@ pub fn number(p: &[u16], b: Body) -> u16
 }
 
 // "a chosen record (7)", the record at head.
-pub fn record_sound(p: &[u16], s: &[u16]) -> Checked
+fn record_sound(p: &[u16], s: &[u16]) -> Checked
     requires { ⌜ Contents (now p) ⌝ }
     requires { ⌜ ShapedFor (now p) (now s) ⌝ }
     requires { ⌜ word (now s) 14 ≤ word (now s) 3 ⌝ }
@@ -137,7 +138,7 @@ fn ends(f: Effect) -> bool
 }
 
 // "a commit begun in phase 0 without a body at GO or DONE": n stores of its end are made.
-pub fn fits(n: u16, f: Effect) -> bool
+fn fits(n: u16, f: Effect) -> bool
     ensures { λ a. ⌜ ((b : Body) (j : ℕ) → a ≡ placeFits (Place.Run b j n) f) ⌝ }
 {
     if n == 0 {
@@ -198,7 +199,7 @@ fn last_sound(p: &[u16], s: &[u16], b: Body) -> Checked
 }
 
 // The checks of a body at instruction j that hold for every place, and what the instruction does.
-pub fn fetch(p: &[u16], s: &[u16], r: &[u16; 8], b: Body, j: u16) -> Fetched
+fn fetch(p: &[u16], s: &[u16], r: &[u16; 8], b: Body, j: u16) -> Fetched
     requires { ⌜ Running (now p) (now s) b ⌝ }
     ensures { λ a. ⌜ a ≡ fetched (now (p .entry)) (view (now (s .entry))) (now (r .entry)) b j ⌝ }
     ensures given { λ a. ⌜ ((f : Effect) → a ≡ Fetched.Does f → Fetches (now (p .entry)) b j f) ⌝ }
@@ -263,8 +264,8 @@ fn append(s: &mut [u16], c: Core, b: Body, j: u16, a: u16) -> Turn
     if l >= s[2] {
         return turns::refused(c, Refusal::LogFull);
     }
-    log::write_address(s, l, a);
-    turns::stored(c, Place::Half(b, j), l)
+    let word = log::write_address(s, l, a);
+    turns::stored(c, Place::Half(b, j), l, word)
 }
 
 // A SAVE of y to address x.
@@ -283,8 +284,8 @@ fn save(p: &[u16], s: &mut [u16], c: Core, b: Body, j: u16, x: u32, y: u16) -> T
     let Found::Pair(i) = found else {
         return append(s, c, b, j, a);
     };
-    log::write_value(s, i, y);
-    turns::stored(c, Place::Run(b, j + 1, 0), l)
+    let word = log::write_value(s, i, y);
+    turns::stored(c, Place::Run(b, j + 1, 0), l, word)
 }
 
 // The value of half a SAVE, "without looking again at address or log".
@@ -300,8 +301,8 @@ fn save_rest(s: &mut [u16], c: Core, b: Body, j: u16, f: Effect) -> Turn
         Effect::Read(_, _) => turns::refused(c, Refusal::State),
         Effect::Write(_, y) => {
             let l = c.count;
-            log::write_value(s, l, y);
-            turns::stored(c, Place::Run(b, j + 1, 0), l + 1)
+            let word = log::write_value(s, l, y);
+            turns::stored(c, Place::Run(b, j + 1, 0), l + 1, word)
         }
         Effect::EndTask(_) => turns::refused(c, Refusal::State),
         Effect::EndEvent => turns::refused(c, Refusal::State),
@@ -335,16 +336,16 @@ fn end_task(
     let l = c.count;
     if n == 0 {
         s[11] = l;
-        return turns::stored(c, Place::Run(b, j, 1), l);
+        return turns::stored(c, Place::Run(b, j, 1), l, Stored::Word(11));
     }
     if n == 1 {
         s[12] = k;
-        return turns::stored(c, Place::Run(b, j, 2), l);
+        return turns::stored(c, Place::Run(b, j, 2), l, Stored::Word(12));
     }
     if n == 2 {
         let i = number(p, b);
         s[13] = new_open(rows::transaction(p, i), rows::transaction(p, k));
-        return turns::stored(c, Place::Run(b, j, 3), l);
+        return turns::stored(c, Place::Run(b, j, 3), l, Stored::Word(13));
     }
     s[8] = 1;
     turns::turned_on(r, Answer::Committed(b))
@@ -360,13 +361,13 @@ fn end_event(s: &mut [u16], r: &mut [u16; 8], c: Core, b: Body, j: u16, n: u16) 
     let l = c.count;
     if n == 0 {
         s[11] = l;
-        return turns::stored(c, Place::Run(b, j, 1), l);
+        return turns::stored(c, Place::Run(b, j, 1), l, Stored::Word(11));
     }
     if n == 1 {
         let head = s[14];
         let next = queue::after(s[3], head);
         s[12] = next;
-        return turns::stored(c, Place::Run(b, j, 2), l);
+        return turns::stored(c, Place::Run(b, j, 2), l, Stored::Word(12));
     }
     s[8] = 2;
     turns::turned_on(r, Answer::Committed(b))

@@ -6,7 +6,7 @@ use mathlib.Core.List.{List}
 use mathlib.Core.Path.{_≡_}
 use Rattle.model.specs.Control.{Rule, rules, blames}
 use Rattle.model.specs.Device.{Out}
-use Rattle.model.specs.Store.{view, settled}
+use Rattle.model.specs.Store.{view, settled, storedWord}
 use Rattle.model.specs.declared.Answer.{Answer}
 use Rattle.model.specs.declared.Refusal.{Refusal}
 use Rattle.device.specs.Turn.{Result}
@@ -16,8 +16,9 @@ pub record Agrees {A : Type 0} (rs : List Rule) (refused : Refusal → A) (defin
   pub same : ((w : ℕ) → defined ≡ refused (Refusal.Control w) → ⊥) → actual ≡ defined
   pub placed : (w : ℕ) → defined ≡ refused (Refusal.Control w) → (x : ℕ) × (actual ≡ refused (Refusal.Control x)) × (blames rs x ≡ true)
 
--- A call on the words s left r, where the outcome o is defined.
+-- A call on the words s left r, where the outcome o is defined. Which word it stored is told even where its value stayed the same.
 pub record Performs (p s : List ℕ) (o : Out) (r : Result) : Type 0 where
   pub answer : Agrees (rules p (view s)) Answer.Refused (o .answer) (r .answer)
+  pub stored : r .stored ≡ storedWord s (o .write)
   pub device : r .device ≡ o .device
   pub store : r .store ≡ settled s (o .write)

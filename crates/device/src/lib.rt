@@ -6,6 +6,7 @@ use model::Answer;
 use model::Device;
 use model::Handler;
 use model::Place;
+use model::Stored;
 
 pub mod look;
 pub mod turns;
@@ -18,14 +19,16 @@ pub struct Core {
     pub on: bool,
 }
 
-// What one call answers, with the device after it, apart from its registers.
+// What one call answers, which word it stored, and the device after it, apart from its registers.
 pub struct Turn {
     pub answer: Answer,
+    pub stored: Stored,
     pub core: Core,
 }
 
-// What one call answers, with the device after it.
+// What one call answers, which word it stored, and the device after it.
 pub struct Stepped {
     pub answer: Answer,
+    pub stored: Stored,
     pub device: Device,
 }

@@ -10,6 +10,7 @@ use model::Handler;
 use model::Next;
 use model::Place;
 use model::Refusal;
+use model::Stored;
 use store::contents;
 use store::queue;
 ghost use Prim.Native.Nat.{ℕ};
@@ -210,7 +211,7 @@ pub fn core_of(d: Device) -> Core
 }
 
 // The same of a whole device.
-pub fn look_at(p: &[u16], s: &[u16], d: Device) -> Checked
+fn look_at(p: &[u16], s: &[u16], d: Device) -> Checked
     ensures { λ x. ⌜ x ≡ look (now (p .entry)) (now (s .entry)) d ⌝ }
     ensures given { λ x. ⌜ (x ≡ Checked.Accepted → Looked (now (p .entry)) (now (s .entry)) d) ⌝ }
 {
@@ -234,10 +235,12 @@ fn judge(found: Checked, d: Device, next: Device) -> Stepped
     match found {
         Checked::Accepted => Stepped {
             answer: Answer::Done,
+            stored: Stored::Nothing,
             device: next,
         },
         Checked::Refused(why) => Stepped {
             answer: Answer::Refused(why),
+            stored: Stored::Nothing,
             device: d,
         },
     }
@@ -322,6 +325,7 @@ pub fn cut() -> Stepped
 {
     Stepped {
         answer: Answer::Done,
+        stored: Stored::Nothing,
         device: Device::OFF,
     }
 }

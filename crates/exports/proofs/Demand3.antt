@@ -13,7 +13,7 @@ use Rattle.device.specs.Agree.{Agrees, Performs}
 use Rattle.device.specs.Turn.{Result, afterCall}
 use Rattle.device.specs.declared.Stepped.{Stepped}
 use Rattle.exports.specs.Demand3.{Held, Exchange, single, run-of, Makes, MakesAll, callsOf, allCalls, Answered, AllAnswered, RecoversTo, ExportsObserved, atFirst, Demand3OfExports}
-use Rattle.exports.specs.Exported.{OnDevice, Told, RunTold, totalsOf, totalsWords}
+use Rattle.exports.specs.Exported.{OnDevice, wordsOf, Told, RunTold, totalsOf, totalsWords}
 use Rattle.model.proofs.CallLaws.{after-append, totals-append, boot-counts-nothing, cut-counts-nothing, post-counts-nothing, run-is-steps, totals-are-counts}
 use Rattle.model.proofs.Demand3.{demand3}
 use Rattle.model.proofs.Observed.{observed}
@@ -24,13 +24,14 @@ use Rattle.model.specs.Claims.{Words, DeviceWords, CallWords, EndedSo, IsSteps,
 use Rattle.model.specs.Demand3.{isIn, mayMeet, Expected, Left, recoverySteps, recovering}
 use Rattle.model.specs.Device.{Out, fresh, off, boot, cut, post, step}
 use Rattle.model.specs.Program.{word}
-use Rattle.model.specs.Store.{view, Write, none, settled, format, formatCheck}
+use Rattle.model.specs.Store.{view, Write, none, settled, storedWord, format, formatCheck}
 use Rattle.model.specs.Test.{pick, _or_}
 use Rattle.model.specs.declared.Answer.{Answer}
 use Rattle.model.specs.declared.Checked.{Checked}
 use Rattle.model.specs.declared.Device.{Device}
 use Rattle.model.specs.declared.Ended.{Ended}
 use Rattle.model.specs.declared.Refusal.{Refusal}
+use Rattle.model.specs.declared.Stored.{Stored}
 use Rattle.model.specs.declared.Totals.{Totals}
 use Rattle.words.proofs.Words.{back}
 use Rattle.words.specs.Words.{flag, placeWords, handlerWords, deviceOf, known, deviceWords, answerWords, endedWords, refusedWords, checkedWords}
@@ -58,7 +59,7 @@ record At (p s : List ℕ) (cs : List Call) (h : Held) : Type 0 where
 
 -- and after one more
 record Did (p s : List ℕ) (cs : List Call) (c : Call) (a : List ℕ) (g : Held) : Type 0 where
-  answered : a ≡ answerWords (call p (afterCalls p s off cs .store) (afterCalls p s off cs .device) c .answer)
+  answered : Answered p s cs (single c a)
   store : g .store ≡ settled (afterCalls p s off cs .store) (call p (afterCalls p s off cs .store) (afterCalls p s off cs .device) c .write)
   device : g .device ≡ deviceWords (call p (afterCalls p s off cs .store) (afterCalls p s off cs .device) c .device)
   totals : g .totals ≡ totalsWords (counted (totalsAfter p s off cs noTotals) (call p (afterCalls p s off cs .store) (afterCalls p s off cs .device) c))
@@ -94,13 +95,16 @@ module _ (p : List ℕ) (ps : Words p) (l q : ℕ) (before : List ℕ) (e : form
 
     -- ---- a call of its own
 
-    did : (c : Call) (a : List ℕ) (g : Held) (z : List ℕ) → Told p (h .store) (call p (h .store) D c) a (g .device) z → g .store ≡ z
+    did : (c : Call) (a : List ℕ) (g : Held) (z : List ℕ) → Told c p (h .store) (call p (h .store) D c) a (g .device) z → g .store ≡ z
         → g .totals ≡ totalsWords (counted T (call p S D c)) → Did p s cs c a g
     did c a g z told stays totals =
         let (r, performs, said, device) =
-        subst (λ (u : List ℕ). Told p u (call p u D c) a (g .device) z) (at .store) told in
+        subst (λ (u : List ℕ). Told c p u (call p u D c) a (g .device) z) (at .store) told in
         record {
-          answered = said ∙ ap answerWords (performs .answer .same (λ w f. no-control c w _ (demand3 p l q before e cs .refusals c) f));
+          answered =
+              said
+              ∙ ap (λ (x : Answer). wordsOf c x (r .stored)) (performs .answer .same (λ w f. no-control c w _ (demand3 p l q before e cs .refusals c) f))
+              ∙ ap (wordsOf c (call p S D c .answer)) (performs .stored);
           store = stays ∙ performs .store;
           device = device ∙ ap deviceWords (performs .device);
           totals = totals;

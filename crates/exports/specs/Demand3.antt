@@ -7,15 +7,15 @@ use lib.ListN.{replicate}
 use mathlib.Core.List.{List, [], _∷_, _++_}
 use mathlib.Core.Logic.{_≢_}
 use mathlib.Core.Path.{_≡_}
-use Rattle.exports.specs.Exported.{Formats, Boots, Posts, Cuts, Steps, Runs, totalsOf, totalsWords}
+use Rattle.exports.specs.Exported.{Formats, Boots, Posts, Cuts, Steps, Runs, wordsOf, totalsOf, totalsWords}
 use Rattle.model.specs.Calls.{Call, Boot, Step, Cut, Post, call, afterCalls, steps, noTotals, totalsAfter, run}
 use Rattle.model.specs.Claims.{Words, CallWords, AreCounts}
 use Rattle.model.specs.Demand3.{Left, recoverySteps, Observed}
 use Rattle.model.specs.Device.{off}
 use Rattle.model.specs.Serial.{Serial}
-use Rattle.model.specs.Store.{view}
+use Rattle.model.specs.Store.{view, storedWord}
 use Rattle.model.specs.declared.Checked.{Checked}
-use Rattle.words.specs.Words.{deviceWords, answerWords, endedWords, checkedWords}
+use Rattle.words.specs.Words.{deviceWords, endedWords, checkedWords}
 
 -- what a host holds: the store's words, the device's 18 words and the totals' three numbers
 pub record Held : Type 0 where
@@ -51,9 +51,11 @@ unfoldable pub allCalls : List Exchange → List Call
 allCalls [] = []
 allCalls (x ∷ xs) = callsOf x ++ allCalls xs
 
--- The answer is the one defined after the calls cs on store s.
+-- The answer is the one defined after the calls cs on store s; a step's tells the word that was stored then.
 abbrev pub Answered : List ℕ → List ℕ → List Call → Exchange → Type 0
-Answered p s cs (single c a) = a ≡ answerWords (call p (afterCalls p s off cs .store) (afterCalls p s off cs .device) c .answer)
+Answered p s cs (single c a) =
+    let o = call p (afterCalls p s off cs .store) (afterCalls p s off cs .device) c in
+    a ≡ wordsOf c (o .answer) (storedWord (afterCalls p s off cs .store) (o .write))
 Answered p s cs (run-of b n a) =
     (n ≡ run p b (afterCalls p s off cs .store) (afterCalls p s off cs .device) (totalsAfter p s off cs noTotals) .steps)
     × (a ≡ endedWords (run p b (afterCalls p s off cs .store) (afterCalls p s off cs .device) (totalsAfter p s off cs noTotals) .ended))

@@ -1,5 +1,5 @@
 // The functions that a bench links, from C or Rust: include/runtime.h declares them and docs/USING.md explains them.
-// No enum crosses: a device state is 18 words, an answer 5, the totals are 3 numbers (crates/words, specs/Exported.antt).
+// No enum crosses: a device state is 18 words, an answer 5, a step's answer 6, the totals are 3 numbers (crates/words, specs/Exported.antt).
 ghost use mathlib.Core.Path.{_≡_};
 ghost use Rattle.exports.specs.Exported.{Checks, Formats, Boots, Posts, Cuts, Steps, Runs, totalsOf, totalsWords};
 ghost use Rattle.words.specs.Words.{deviceWords, answerWords};
@@ -107,28 +107,29 @@ fn write_totals(w: &mut [u32; 3], t: Totals)
     *w = [t.committed, t.accepted, t.stores];
 }
 
-// step: 1, 2, 3, 6, 7, 25, 22, then what it uses; with the totals.
+// step: 1, 2, 3, 6, 7, 25, 22, then what it uses; with the totals. The answer's sixth word is the index of the word stored, or 65535.
 #[no_mangle]
 pub extern "C" fn runtime_step(
     program: &[u16],
     store: &mut [u16],
     device: &mut [u16; 18],
     totals: &mut [u32; 3],
-    answer: &mut [u16; 5],
+    answer: &mut [u16; 6],
 )
     ensures { λ _. ⌜ Steps (now (program .entry)) (now (store .entry)) (now (device .entry)) (now (totals .entry)) (now (answer .exit)) (now (store .exit)) (now (device .exit)) (now (totals .exit)) ⌝ }
 {
     if !words::is_state(device) {
-        words::write_unknown(answer);
+        words::write_unknown_step(answer);
         return;
     }
     let d = words::state_of(device);
     let r = runtime::step(program, store, d);
     let a = r.answer;
+    let stored = r.stored;
     let e = r.device;
-    let t = totals::counted(totals_of(totals), a);
+    let t = totals::counted(totals_of(totals), a, stored);
     write_totals(totals, t);
-    words::write_answer(answer, a);
+    words::write_step(answer, a, stored);
     words::write_device(device, e);
 }
 

@@ -14,7 +14,7 @@ pub fn step(p: &[u16], s: &mut [u16], d: Device, t: &mut Totals) -> Stepped
     ensures { λ r. ⌜ Counts (now (p .entry)) (now (s .entry)) (now (t .entry)) (step (now (p .entry)) (now (s .entry)) d) (afterCall r (now (s .exit))) (now (t .exit)) ⌝ }
 {
     let r = runtime::step(p, s, d);
-    totals::count(t, r.answer);
+    totals::count(t, r.answer, r.stored);
     r
 }
 

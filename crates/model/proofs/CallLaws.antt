@@ -10,7 +10,7 @@ use native.Mathlib.Omega.{arith}
 use borrow.Author.Tests.{eqb-true, eqb-false, ltb-true, ltb-false}
 use lib.Dec.{eqb}
 use Rattle.model.proofs.TestLaws.{pick-case, pick-true, pick-false}
-use Rattle.model.specs.Calls.{Call, Boot, Step, Line, Now, call, history, afterCalls, steps, countBy, unlessRefused, isRefusal, more, moreIf, isCommit, isAccept, isStore, noTotals, counted, totalsAfter, storesMade, Ran, runFrom, run, Recovery, recovered, refused, unfinished, finish, recovery}
+use Rattle.model.specs.Calls.{Call, Boot, Step, Line, Now, call, history, afterCalls, steps, countBy, unlessRefused, isRefusal, moreBy, oneIf, isCommit, isAccept, acceptedEvents, isStore, noTotals, counted, totalsAfter, storesMade, Ran, runFrom, run, Recovery, recovered, refused, unfinished, finish, recovery}
 use Rattle.model.specs.Claims.{EndedSo, IsSteps, RunIsSteps, AreCounts, TotalsAreCounts, ByCalls, RecoveryByCalls}
 use Rattle.model.specs.Device.{Out, out, judged, turnedOn, off, bootCheck, boot, cut, postCheck, post, step}
 use Rattle.model.specs.Store.{view, none, settled}
@@ -46,19 +46,28 @@ totals-append p s d (c ∷ cs) ds t =
     let o = call p s d c in
     totals-append p (settled s (o .write)) (o .device) cs ds (counted t o)
 
--- boot, cut and post add nothing to the totals
+-- an outcome that commits and accepts nothing and makes no store adds nothing to the totals
+none-more : (x : ℕ) → moreBy x 0 ≡ x
+unfolding moreBy
+none-more x = omega arith
+
+pub adds-nothing : (t : Totals) (o : Out) → isCommit (o .answer) ≡ false → acceptedEvents (o .answer) ≡ 0 → isStore (o .write) ≡ false → counted t o ≡ t
+unfolding counted oneIf pick
+adds-nothing t o c a w = simp (c, a, w, none-more)
+
+-- boot, cut and post
 counts-nothing : (t : Totals) (d e : Device) (x : Checked) → counted t (judged x d (out none e Answer.Done)) ≡ t
-unfolding judged counted moreIf isCommit isAccept isStore pick
-counts-nothing t d e Checked.Accepted = refl
-counts-nothing t d e (Checked.Refused r) = refl
+unfolding judged isCommit acceptedEvents isStore
+counts-nothing t d e Checked.Accepted = adds-nothing t _ refl refl refl
+counts-nothing t d e (Checked.Refused r) = adds-nothing t _ refl refl refl
 
 pub boot-counts-nothing : (p s : List ℕ) (d : Device) (t : Totals) → counted t (boot p s d) ≡ t
 unfolding boot
 boot-counts-nothing p s d t = counts-nothing t d turnedOn (bootCheck p s d)
 
 pub cut-counts-nothing : (t : Totals) → counted t cut ≡ t
-unfolding cut counted moreIf isCommit isAccept isStore pick
-cut-counts-nothing t = refl
+unfolding cut isCommit acceptedEvents isStore
+cut-counts-nothing t = adds-nothing t cut refl refl refl
 
 pub post-counts-nothing : (p s : List ℕ) (d : Device) (e x : ℕ) (t : Totals) → counted t (post p s d e x) ≡ t
 unfolding post
@@ -135,10 +144,9 @@ run-is-steps p budget s d t =
 abbrev largest : ℕ
 largest = 2 ^ 32 - 1
 
-more-min : (a : ℕ) → more (min a largest) ≡ min (a + 1) largest
-unfolding more
-more-min a = pick-case (λ x. x ≡ min (a + 1) largest) (λ e. let h : min a largest < largest = ltb-true _ _ e in omega arith)
-    (λ e. let h : largest ≤ min a largest = ltb-false _ _ e in omega arith)
+more-min : (a n : ℕ) {x y : ℕ} → y ≡ moreBy x n → x ≡ min a largest → y ≡ min (a + n) largest
+unfolding moreBy
+more-min a n q e = omega arith
 
 -- how many calls came out so
 tally : (Out → Bool) → List ℕ → List ℕ → Device → List Call → ℕ
@@ -162,31 +170,36 @@ stores-tally p s d (c ∷ cs) =
     let o = call p s d c in
     ap (λ (n : ℕ). pick (isStore (o .write)) (suc n) n) (stores-tally p (settled s (o .write)) (o .device) cs)
 
-one-if : (b : Bool) (a : ℕ) {x y : ℕ} → y ≡ moreIf b x → x ≡ min a largest → y ≡ min (a + pick b 1 0) largest
-unfolding moreIf pick
-one-if true a q e = q ∙ ap more e ∙ more-min a
-one-if false a q e = q ∙ e ∙ ap (λ (n : ℕ). min n largest) (sym (add-zero a))
-
-sum-if : (b : Bool) (a n : ℕ) → a + pick b 1 0 + n ≡ a + pick b (suc n) n
-unfolding pick
+sum-if : (b : Bool) (a n : ℕ) → a + oneIf b + n ≡ a + pick b (suc n) n
+unfolding oneIf pick
 sum-if true a n = omega arith
 sum-if false a n = omega arith
 
 -- the field g of the totals counts the calls that came out so as f says
-module _ (g : Totals → ℕ) (f : Out → Bool) (is : (t : Totals) (o : Out) → g (counted t o) ≡ moreIf (f o) (g t)) where
+module _ (g : Totals → ℕ) (f : Out → Bool) (is : (t : Totals) (o : Out) → g (counted t o) ≡ moreBy (g t) (oneIf (f o))) where
   total-from : (p s : List ℕ) (d : Device) (cs : List Call) (t : Totals) (a : ℕ) → g t ≡ min a largest
       → g (totalsAfter p s d cs t) ≡ min (a + tally f p s d cs) largest
   unfolding totalsAfter tally
   total-from p s d [] t a e = e ∙ ap (λ (n : ℕ). min n largest) (sym (add-zero a))
   total-from p s d (c ∷ cs) t a e =
       let o = call p s d c in
-      total-from p (settled s (o .write)) (o .device) cs (counted t o) (a + pick (f o) 1 0) (one-if (f o) a (is t o) e)
+      total-from p (settled s (o .write)) (o .device) cs (counted t o) (a + oneIf (f o)) (more-min a (oneIf (f o)) (is t o) e)
       ∙ ap (λ (n : ℕ). min n largest) (sum-if (f o) a (tally f p (settled s (o .write)) (o .device) cs))
 
   total-is : (p s : List ℕ) (d : Device) (cs : List Call) → g noTotals ≡ 0 → g (totalsAfter p s d cs noTotals) ≡ min (tally f p s d cs) largest
   total-is p s d cs e =
       let none : 0 + tally f p s d cs ≡ tally f p s d cs = omega arith in
       total-from p s d cs noTotals 0 e ∙ ap (λ (n : ℕ). min n largest) none
+
+accepted-one : (a : Answer) → acceptedEvents a ≡ oneIf (isAccept a)
+unfolding acceptedEvents oneIf isAccept pick
+accepted-one Answer.Done = refl
+accepted-one (Answer.Chosen b) = refl
+accepted-one Answer.Worked = refl
+accepted-one Answer.Stored = refl
+accepted-one (Answer.Committed b) = refl
+accepted-one Answer.Accepted = refl
+accepted-one (Answer.Refused r) = refl
 
 pub totals-are-counts : TotalsAreCounts
 unfolding counted
@@ -195,7 +208,7 @@ totals-are-counts p s d cs =
       committed =
           total-is (λ t. t .committed) (λ o. isCommit (o .answer)) (λ t o. refl) p s d cs refl ∙ ap (λ (n : ℕ). min n largest) (count-tally isCommit p s d cs);
       accepted =
-          total-is (λ t. t .accepted) (λ o. isAccept (o .answer)) (λ t o. refl) p s d cs refl ∙ ap (λ (n : ℕ). min n largest) (count-tally isAccept p s d cs);
+          total-is (λ t. t .accepted) (λ o. isAccept (o .answer)) (λ t o. ap (moreBy (t .accepted)) (accepted-one (o .answer))) p s d cs refl ∙ ap (λ (n : ℕ). min n largest) (count-tally isAccept p s d cs);
       stores = total-is (λ t. t .stores) (λ o. isStore (o .write)) (λ t o. refl) p s d cs refl ∙ ap (λ (n : ℕ). min n largest) (stores-tally p s d cs);
     }
 

@@ -1,11 +1,12 @@
 -- A refusal changes no word, state or total: whatever the words and the device state, a refused call's outcome is the bare
 -- refusal. Assumes nothing.
 use Prim.Native.Nat.{ℕ}
-use mathlib.Core.Path.{_≡_, ap, subst}
+use mathlib.Core.Path.{_≡_, refl, ap, _∙_, subst}
 use mathlib.Core.Bool.{Bool}
 use mathlib.Core.List.{List}
+use Rattle.model.proofs.CallLaws.{adds-nothing}
 use Rattle.model.proofs.TestLaws.{pick-case}
-use Rattle.model.specs.Calls.{Call, Boot, Step, Cut, Post, call, moreIf, isCommit, isAccept, isStore, counted}
+use Rattle.model.specs.Calls.{Call, Boot, Step, Cut, Post, call, isCommit, acceptedEvents, isStore, counted}
 use Rattle.model.specs.Claims.{RefusedChangesNothing}
 use Rattle.model.specs.Device.{Out, out, refuse, judged, storing, boot, cut, post, handlerStep, copyStep, chooseStep, saveStep, act, saveRest, placeStep, nextStep, step}
 use Rattle.model.specs.Store.{Store, view, Write, none, settled}
@@ -106,7 +107,7 @@ refused-is p s d Cut = plain d _ tt
 refused-is p s d (Post e x) = bare-judged d _ _ (plain d _ tt)
 
 pub refused-changes-nothing : RefusedChangesNothing
-unfolding settled counted moreIf isCommit isAccept isStore pick
+unfolding settled isCommit acceptedEvents isStore
 refused-changes-nothing p s d c t r e =
     let q = refused-is p s d c r e in
-    record { store = ap (λ (o : Out). settled s (o .write)) q; device = ap (λ (o : Out). o .device) q; totals = ap (counted t) q }
+    record { store = ap (λ (o : Out). settled s (o .write)) q; device = ap (λ (o : Out). o .device) q; totals = ap (counted t) q ∙ adds-nothing t (refuse d r) refl refl refl }

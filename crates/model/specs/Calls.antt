@@ -1,8 +1,8 @@
 -- Document 01: a list of calls, run, the host's totals, and uncut recovery.
-use Prim.Native.Nat.{ℕ, zero, suc, _+_, _-_, _^_}
+use Prim.Native.Nat.{ℕ, zero, suc, _+_, _-_, _^_, min}
 use mathlib.Core.Bool.{Bool, true, false}
 use mathlib.Core.List.{List, [], _∷_}
-use lib.Dec.{ltb, eqb}
+use lib.Dec.{eqb}
 use Rattle.model.specs.Device.{Out, boot, cut, post, step, off}
 use Rattle.model.specs.Store.{Store, view, Write, none, to, settled}
 use Rattle.model.specs.Test.{pick}
@@ -66,11 +66,12 @@ isRefusal a = unlessRefused a (λ f. true) false
 
 -- ---- "The host's totals (bodies committed, events accepted, stores made; 32 bits, staying at the largest value)"
 
-unfoldable pub more : ℕ → ℕ
-more x = pick (ltb x (2 ^ 32 - 1)) (x + 1) x
+-- x and n more, as far as the largest value
+unfoldable pub moreBy : ℕ → ℕ → ℕ
+moreBy x n = x + min n (2 ^ 32 - 1 - x)
 
-unfoldable pub moreIf : Bool → ℕ → ℕ
-moreIf b x = pick b (more x) x
+unfoldable pub oneIf : Bool → ℕ
+oneIf b = pick b 1 0
 
 unfoldable pub isCommit : Answer → Bool
 isCommit Answer.Done = false
@@ -90,6 +91,16 @@ isAccept (Answer.Committed b) = false
 isAccept Answer.Accepted = true
 isAccept (Answer.Refused r) = false
 
+-- how many events an answer accepts
+unfoldable pub acceptedEvents : Answer → ℕ
+acceptedEvents Answer.Done = 0
+acceptedEvents (Answer.Chosen b) = 0
+acceptedEvents Answer.Worked = 0
+acceptedEvents Answer.Stored = 0
+acceptedEvents (Answer.Committed b) = 0
+acceptedEvents Answer.Accepted = 1
+acceptedEvents (Answer.Refused r) = 0
+
 -- a store counts because one was made
 unfoldable pub isStore : Write → Bool
 isStore none = false
@@ -102,9 +113,9 @@ noTotals = record { committed = 0; accepted = 0; stores = 0 }
 unfoldable pub counted : Totals → Out → Totals
 counted t o =
     record {
-      committed = moreIf (isCommit (o .answer)) (t .committed);
-      accepted = moreIf (isAccept (o .answer)) (t .accepted);
-      stores = moreIf (isStore (o .write)) (t .stores);
+      committed = moreBy (t .committed) (oneIf (isCommit (o .answer)));
+      accepted = moreBy (t .accepted) (acceptedEvents (o .answer));
+      stores = moreBy (t .stores) (oneIf (isStore (o .write)));
     }
 
 -- the totals after calls, and how many of these made a store

@@ -7,7 +7,7 @@ use lib.ListN.{length, take, drop, set, replicate}
 use Rattle.model.specs.Check.{check}
 use Rattle.model.specs.Program.{word, memoryWords, entry}
 use Rattle.model.specs.Test.{pick, _and_, must, _then_}
-use Rattle.model.specs.Types.{Checked, Refusal, Found}
+use Rattle.model.specs.Types.{Checked, Refusal, Found, Stored}
 
 -- ---- "Contents first. Words 0 to 7: mark (hex C0A1), M, log pairs L (1 to 64), queue records Q (1 to 32), then the starts of
 -- control (8), memory (16), log (16 + M), queue (16 + M + 2L). The length is 18 + M + 2L + 2Q, for the ring has Q + 1 slots of
@@ -110,6 +110,11 @@ pub data Write : Type 0 where
 unfoldable pub settled : List ℕ → Write → List ℕ
 settled s none = s
 settled s (to w x) = set s (index s w) x
+
+-- which word that is
+unfoldable pub storedWord : List ℕ → Write → Stored
+storedWord s none = Stored.Nothing
+storedWord s (to w x) = Stored.Word (index s w)
 
 -- ---- The log: "the search of the log ends with the pair found, or with none". Of k pairs from pair j on, the first with this
 -- address.

@@ -13,5 +13,6 @@ pub use Rattle.model.specs.declared.Answer.{Answer}
 pub use Rattle.model.specs.declared.Instruction.{Instruction}
 pub use Rattle.model.specs.declared.Effect.{Effect}
 pub use Rattle.model.specs.declared.Found.{Found}
+pub use Rattle.model.specs.declared.Stored.{Stored}
 pub use Rattle.model.specs.declared.Totals.{Totals}
 pub use Rattle.model.specs.declared.Ended.{Ended}

@@ -132,6 +132,12 @@ pub enum Found {
     Nothing,
 }
 
+// Which word of the store a step stored: none, or the word with this index. Where a word's value stays the same it is told, too.
+pub enum Stored {
+    Nothing,
+    Word(u16),
+}
+
 // The host's totals: bodies committed, events accepted, stores made.
 pub struct Totals {
     pub committed: u32,

@@ -1,12 +1,12 @@
 // Question four: the counting program, cut at each point. For each step of its task, and for each step that brings an event in and serves it:
 // what the step answers, which word it stores, what memory holds if power is cut then, and what uncut recovery leaves.
-// Everything printed is asked of the runtime, the word stored of `watch`. What is printed is held to the file `stdout`; it isn't proved.
+// Everything printed is what the runtime tells, the word stored too. What is printed is held to the file `stdout`; it isn't proved.
 use device::look;
 use model::Answer;
 use model::Body;
 use model::Device;
+use model::Stored;
 use store::format;
-use watch::Target;
 
 fn put(text: &[u8]) {
     let _ = io::write_all(1, text);
@@ -132,10 +132,10 @@ fn pending(serving: bool) {
 }
 
 // The word that a step stored, with its value, in a column of 22.
-fn stored(t: Target, s: &[u16; 24], serving: bool) {
-    match t {
-        Target::Nothing => put(b"nothing               "),
-        Target::Word(i) => {
+fn stored(word: Stored, s: &[u16; 24], serving: bool) {
+    match word {
+        Stored::Nothing => put(b"nothing               "),
+        Stored::Word(i) => {
             decimal(i as u32, 2);
             put(b" ");
             name(i, serving);
@@ -221,9 +221,9 @@ fn rows(p: &[u16; 26], s: &mut [u16; 24], first: Device, last: u32, serving: boo
     let mut k: u32 = 0;
     while k < last {
         k += 1;
-        let word = watch::next_store(p, s, d);
         let r = runtime::step(p, s, d);
         let a = r.answer;
+        let word = r.stored;
         d = r.device;
         decimal(k, 4);
         put(b"  ");

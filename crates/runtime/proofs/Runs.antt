@@ -11,7 +11,7 @@ use Rattle.model.proofs.Refused.{refused-is}
 use Rattle.model.specs.Calls.{Ran, Step, call, unlessRefused, counted, runFrom, run}
 use Rattle.model.specs.Control.{rules, blames}
 use Rattle.model.specs.Device.{Out, out, refuse, step}
-use Rattle.model.specs.Store.{view, none, settled}
+use Rattle.model.specs.Store.{view, none, settled, storedWord}
 use Rattle.model.specs.declared.Answer.{Answer}
 use Rattle.model.specs.declared.Checked.{Checked}
 use Rattle.model.specs.declared.Device.{Device}
@@ -66,12 +66,12 @@ module _ (p : List ℕ) (k j n : ℕ) (s : List ℕ) (d : Device) (t : Totals) (
       let q : o ≡ refuse d f = refused-is p s d Step f (h .0) in
       rw left (h .1 ∙ ap (λ (x : Out). ended n (Ended.Refused f) (settled s (x .write)) (x .device) t) (sym q))
 
-  pub run-goes : refusalOf (o .answer) ≡ Checked.Accepted → runFrom p k n s d t ≡ runFrom p j (n + 1) (settled s (o .write)) (o .device) (told t (o .answer))
+  pub run-goes : refusalOf (o .answer) ≡ Checked.Accepted → runFrom p k n s d t ≡ runFrom p j (n + 1) (settled s (o .write)) (o .device) (told t (o .answer) (storedWord s (o .write)))
   unfolding runFrom
   run-goes e =
       rw left
       (goes (o .answer) (λ f. ended n (Ended.Refused f) s d t) _ e
-      ∙ ap (λ (x : Totals). runFrom p j (n + 1) (settled s (o .write)) (o .device) x) (counted-is-told p s t d))
+      ∙ ap (λ (x : Totals). runFrom p j (n + 1) (settled s (o .write)) (o .device) x) (counted-is-told s t o))
 
 -- ---- the place in 7
 

@@ -17,9 +17,9 @@ use Rattle.runtime.specs.declared.Turns.{Turns}
 abbrev pub afterTurns : Turns → List ℕ → List ℕ → Defined
 afterTurns x r s = record { steps = x .steps; ended = x .ended; store = s; device = device (x .core) r; totals = x .totals }
 
--- the answer of its last step, refused or not, with the same
+-- the answer of its last step, refused or not, and the word that this step stored, with the same
 abbrev pub afterLast : Turns → List ℕ → List ℕ → Result
-afterLast x r s = record { answer = x .last; device = device (x .core) r; store = s }
+afterLast x r s = record { answer = x .last; stored = x .stored; device = device (x .core) r; store = s }
 
 -- A run of program p left x and the words s, where o is defined.
 pub record RunPerforms (p : List ℕ) (o : Defined) (x : Ran) (s : List ℕ) : Type 0 where

@@ -16,6 +16,7 @@ use device::turns;
 use model::Answer;
 use model::Place;
 use model::Refusal;
+use model::Stored;
 use store::log;
 use store::memory;
 
@@ -31,8 +32,8 @@ fn copy(p: &[u16], s: &mut [u16], c: Core, n: u16) -> Turn
         return turns::refused(c, Refusal::Control(s[6] + 2 * n));
     }
     let x = log::value(s, n);
-    memory::write(s, a, x);
-    turns::stored(c, Place::Free(n + 1), c.count)
+    let word = memory::write(s, a, x);
+    turns::stored(c, Place::Free(n + 1), c.count, word)
 }
 
 // "9 from 12, 10 from 13, 8 becomes 0", of which k are made, and n since the commit store.
@@ -43,11 +44,11 @@ fn task_last(s: &mut [u16], r: &mut [u16; 8], c: Core, n: u16, k: u16) -> Turn
 {
     if k == 0 {
         s[9] = s[12];
-        return turns::stored(c, Place::Free(n + 1), c.count);
+        return turns::stored(c, Place::Free(n + 1), c.count, Stored::Word(9));
     }
     if k == 1 {
         s[10] = s[13];
-        return turns::stored(c, Place::Free(n + 1), c.count);
+        return turns::stored(c, Place::Free(n + 1), c.count, Stored::Word(10));
     }
     s[8] = 0;
     turns::turned_on(r, Answer::Stored)
@@ -61,7 +62,7 @@ fn event_last(s: &mut [u16], r: &mut [u16; 8], c: Core, n: u16, k: u16) -> Turn
 {
     if k == 0 {
         s[14] = s[12];
-        return turns::stored(c, Place::Free(n + 1), c.count);
+        return turns::stored(c, Place::Free(n + 1), c.count, Stored::Word(14));
     }
     s[8] = 0;
     turns::turned_on(r, Answer::Stored)

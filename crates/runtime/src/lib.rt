@@ -21,15 +21,17 @@ use model::Answer;
 use model::Checked;
 use model::Device;
 use model::Ended;
+use model::Stored;
 use model::Totals;
 
 mod copying;
 mod steps;
 
-// What steps leave: the answer of the last one, refused or not; how many were made and how they ended; the device, apart from its
-// registers, and the totals.
+// What steps leave: the answer of the last one, refused or not, and which word it stored; how many were made and how they ended; the
+// device, apart from its registers, and the totals.
 struct Turns {
     pub last: Answer,
+    pub stored: Stored,
     pub steps: u32,
     pub ended: Ended,
     pub core: Core,
@@ -104,6 +106,7 @@ fn run_in(p: &[u16], s: &mut [u16], r: &mut [u16; 8], c: Core, t: Totals, budget
     ensures { λ x. ⌜ (budget ≡ 1 → afterLast x (now (r .exit)) (now (s .exit)) ≡ result (now (s .entry)) (step (now (p .entry)) (now (s .entry)) (device c (now (r .entry))))) ⌝ }
 {
     let mut last = Answer::Done;
+    let mut stored = Stored::Nothing;
     let mut core = c;
     let mut totals = t;
     let mut steps: u32 = 0;
@@ -111,23 +114,26 @@ fn run_in(p: &[u16], s: &mut [u16], r: &mut [u16; 8], c: Core, t: Totals, budget
     while steps < budget {
         let turn = step_known(p, s, r, core, known);
         last = turn.answer;
+        stored = turn.stored;
         core = turn.core;
         let found = refusal(last);
         if let Checked::Refused(why) = found {
             return Turns {
                 last,
+                stored,
                 steps,
                 ended: Ended::Refused(why),
                 core,
                 totals,
             };
         }
-        totals = totals::counted(totals, last);
+        totals = totals::counted(totals, last, stored);
         known = sound_after(last);
         steps += 1;
     }
     Turns {
         last,
+        stored,
         steps,
         ended: Ended::Spent,
         core,
@@ -150,17 +156,22 @@ fn whole(c: Core, regs: [u16; 8]) -> Device
     }
 }
 
-// The last answer with the whole device.
+// The last answer and the word stored, with the whole device.
 fn packed(t: Turns, regs: [u16; 8]) -> Stepped
     ensures { λ x. ⌜ ((s : List ℕ) → afterCall x s ≡ afterLast t regs s) ⌝ }
 {
     let answer = t.last;
+    let stored = t.stored;
     let core = t.core;
     let device = whole(core, regs);
-    Stepped { answer, device }
+    Stepped {
+        answer,
+        stored,
+        device,
+    }
 }
 
-// Step: at most one store, on the lent words.
+// Step: at most one store, on the lent words. Which word that was is told.
 pub fn step(p: &[u16], s: &mut [u16], d: Device) -> Stepped
     ensures { λ x. ⌜ Performs (now (p .entry)) (now (s .entry)) (step (now (p .entry)) (now (s .entry)) d) (afterCall x (now (s .exit))) ⌝ }
 {

@@ -8,7 +8,7 @@ ghost use Rattle.model.specs.Program.{word};
 ghost use Rattle.model.specs.Store.{view};
 ghost use Rattle.store.specs.Shaped.{Shaped};
 ghost use Rattle.device.specs.Looked.{Looked};
-ghost use Rattle.device.specs.Turn.{device, after, result};
+ghost use Rattle.device.specs.Turn.{device, after, result, turn};
 use super::copying;
 use body;
 use device::Core;
@@ -20,6 +20,7 @@ use model::Handler;
 use model::Next;
 use model::Place;
 use model::Refusal;
+use model::Stored;
 use store::queue;
 
 // "A handler at work makes its next store: event, data, then tail. The tail store accepts the event."
@@ -31,27 +32,28 @@ pub fn handler_step(s: &mut [u16], c: Core, n: Next, e: u16, x: u16) -> Turn
     let tail = s[15];
     match n {
         Next::Event => {
-            queue::write_event(s, tail, e);
-            working(c, Handler::Storing(Next::Data, e, x), Answer::Stored)
+            let word = queue::write_event(s, tail, e);
+            working(c, Handler::Storing(Next::Data, e, x), Answer::Stored, word)
         }
         Next::Data => {
-            queue::write_datum(s, tail, x);
-            working(c, Handler::Storing(Next::Tail, e, x), Answer::Stored)
+            let word = queue::write_datum(s, tail, x);
+            working(c, Handler::Storing(Next::Tail, e, x), Answer::Stored, word)
         }
         Next::Tail => {
             s[15] = queue::after(s[3], tail);
-            working(c, Handler::Resting, Answer::Accepted)
+            working(c, Handler::Resting, Answer::Accepted, Stored::Word(15))
         }
     }
 }
 
-// The device with another handler, and an answer.
-fn working(c: Core, h: Handler, a: Answer) -> Turn
-    ensures { λ t. ⌜ t ≡ record { answer = a; core = record { on = c .on; place = c .place; count = c .count; handler = h } } ⌝ }
+// The device with another handler, an answer and the word stored.
+fn working(c: Core, h: Handler, a: Answer, word: Stored) -> Turn
+    ensures { λ t. ⌜ t ≡ turn a word (record { on = c .on; place = c .place; count = c .count; handler = h }) ⌝ }
 {
     let place = c.place;
     Turn {
         answer: a,
+        stored: word,
         core: Core {
             on: c.on,
             place,
@@ -63,12 +65,13 @@ fn working(c: Core, h: Handler, a: Answer) -> Turn
 
 // "Registers become 0, except that register 0 gets an event's data. The log count becomes 0."
 fn begin(r: &mut [u16; 8], c: Core, b: Body, x: u16) -> Turn
-    ensures { λ t. ⌜ ((s : List ℕ) → after t (now (r .exit)) s ≡ record { answer = Answer.Chosen b; device = begun (device c (now (r .entry))) b x; store = s }) ⌝ }
+    ensures { λ t. ⌜ ((s : List ℕ) → after t (now (r .exit)) s ≡ record { answer = Answer.Chosen b; stored = Stored.Nothing; device = begun (device c (now (r .entry))) b x; store = s }) ⌝ }
 {
     *r = [x, 0, 0, 0, 0, 0, 0, 0];
     let m = turns::moved(c, Place::Run(b, 0, 0), 0);
     Turn {
         answer: Answer::Chosen(b),
+        stored: Stored::Nothing,
         core: m,
     }
 }

@@ -1,1 +1,2 @@
 pub mod Shaped
+pub mod Written

@@ -2,12 +2,14 @@
 // Its part of the store starts in the middle, at word 6's number, and ends where the queue starts. The search and the routines
 // that save are lent that part.
 use model::Found;
+use model::Stored;
 ghost use mathlib.Core.Path.{_≡_};
 ghost use Prim.Native.Nat.{ℕ, _+_, _*_, _<_, _≤_};
 ghost use lib.ListN.{length, set};
 ghost use Rattle.model.specs.Program.{word};
-ghost use Rattle.model.specs.Store.{view, address, value, settled, to, Address, Value, find};
+ghost use Rattle.model.specs.Store.{view, address, value, to, Address, Value, find};
 ghost use Rattle.store.specs.Shaped.{Shaped};
+ghost use Rattle.store.specs.Written.{Written};
 
 // The first of the log's first n pairs with address a.
 pub fn search(log: &[u16], n: u16, a: u16) -> Found
@@ -73,23 +75,25 @@ fn save_value(log: &mut [u16], j: u16, x: u16)
     log[2 * (j as usize) + 1] = x;
 }
 
-// The same in a store, whose log part is lent on.
-pub fn write_address(store: &mut [u16], j: u16, a: u16)
+// The same in a store, whose log part is lent on. Each tells the word that it stored.
+pub fn write_address(store: &mut [u16], j: u16, a: u16) -> Stored
     requires { ⌜ Shaped (now store) ⌝ }
     requires { ⌜ j < word (now store) 2 ⌝ }
-    ensures { λ _. ⌜ now (store .exit) ≡ settled (now (store .entry)) (to (Address j) a) ⌝ }
+    ensures { λ told. ⌜ Written (now (store .entry)) (to (Address j) a) told (now (store .exit)) ⌝ }
 {
-    let log = store[6] as usize;
-    let queue = store[7] as usize;
-    save_address(&mut store[log..queue], j, a);
+    let log = store[6];
+    let queue = store[7];
+    save_address(&mut store[log as usize..queue as usize], j, a);
+    Stored::Word(log + 2 * j)
 }
 
-pub fn write_value(store: &mut [u16], j: u16, x: u16)
+pub fn write_value(store: &mut [u16], j: u16, x: u16) -> Stored
     requires { ⌜ Shaped (now store) ⌝ }
     requires { ⌜ j < word (now store) 2 ⌝ }
-    ensures { λ _. ⌜ now (store .exit) ≡ settled (now (store .entry)) (to (Value j) x) ⌝ }
+    ensures { λ told. ⌜ Written (now (store .entry)) (to (Value j) x) told (now (store .exit)) ⌝ }
 {
-    let log = store[6] as usize;
-    let queue = store[7] as usize;
-    save_value(&mut store[log..queue], j, x);
+    let log = store[6];
+    let queue = store[7];
+    save_value(&mut store[log as usize..queue as usize], j, x);
+    Stored::Word(log + (2 * j + 1))
 }

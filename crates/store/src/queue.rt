@@ -1,11 +1,13 @@
 // The queue: a ring of Q + 1 slots, each an event and its data.
 // Its part of the store starts at word 7's number; word 14 is head and word 15 is tail.
+use model::Stored;
 ghost use mathlib.Core.Path.{_≡_};
 ghost use Prim.Native.Nat.{_≤_};
 ghost use Rattle.model.specs.Control.{between};
 ghost use Rattle.model.specs.Program.{word};
-ghost use Rattle.model.specs.Store.{view, event, datum, settled, to, Event, Datum, after, empty, full, firstWaiting};
+ghost use Rattle.model.specs.Store.{view, event, datum, to, Event, Datum, after, empty, full, firstWaiting};
 ghost use Rattle.store.specs.Shaped.{Shaped};
+ghost use Rattle.store.specs.Written.{Written};
 
 pub fn event(store: &[u16], x: u16) -> u16
     requires { ⌜ Shaped (now store) ⌝ }
@@ -25,22 +27,25 @@ pub fn datum(store: &[u16], x: u16) -> u16
     store[queue + (2 * (x as usize) + 1)]
 }
 
-pub fn write_event(store: &mut [u16], x: u16, e: u16)
+// The writing routines tell the word that they stored.
+pub fn write_event(store: &mut [u16], x: u16, e: u16) -> Stored
     requires { ⌜ Shaped (now store) ⌝ }
     requires { ⌜ x ≤ word (now store) 3 ⌝ }
-    ensures { λ _. ⌜ now (store .exit) ≡ settled (now (store .entry)) (to (Event x) e) ⌝ }
+    ensures { λ told. ⌜ Written (now (store .entry)) (to (Event x) e) told (now (store .exit)) ⌝ }
 {
-    let queue = store[7] as usize;
-    store[queue + 2 * (x as usize)] = e;
+    let word = store[7] + 2 * x;
+    store[word as usize] = e;
+    Stored::Word(word)
 }
 
-pub fn write_datum(store: &mut [u16], x: u16, d: u16)
+pub fn write_datum(store: &mut [u16], x: u16, d: u16) -> Stored
     requires { ⌜ Shaped (now store) ⌝ }
     requires { ⌜ x ≤ word (now store) 3 ⌝ }
-    ensures { λ _. ⌜ now (store .exit) ≡ settled (now (store .entry)) (to (Datum x) d) ⌝ }
+    ensures { λ told. ⌜ Written (now (store .entry)) (to (Datum x) d) told (now (store .exit)) ⌝ }
 {
-    let queue = store[7] as usize;
-    store[queue + (2 * (x as usize) + 1)] = d;
+    let word = store[7] + (2 * x + 1);
+    store[word as usize] = d;
+    Stored::Word(word)
 }
 
 // The slot after x, of the slots 0 to q.

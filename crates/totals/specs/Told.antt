@@ -1,27 +1,22 @@
 -- Document 01: "The host's totals (bodies committed, events accepted, stores made; 32 bits, staying at the largest value) are one
--- record that the host lends and a step updates." The totals by a step's answer alone, which tells whether a store was made: a
--- step answers "stored, committed (the commit store), accepted" where it made one. proofs/Told.antt shows that these are the
--- totals that the definition counts by the store itself. Assumes nothing.
-use mathlib.Core.Bool.{Bool, true, false}
-use Rattle.model.specs.Calls.{moreIf, isCommit, isAccept}
+-- record that the host lends and a step updates." The totals by what a step tells: its answer, and the word that it stored.
+-- proofs/Told.antt shows that these are the totals that the definition counts. Assumes nothing.
+use Prim.Native.Nat.{ℕ}
+use Rattle.model.specs.Calls.{moreBy, oneIf, isCommit, acceptedEvents}
 use Rattle.model.specs.declared.Answer.{Answer}
+use Rattle.model.specs.declared.Stored.{Stored}
 use Rattle.model.specs.declared.Totals.{Totals}
 
--- the answers of a step that made a store
-unfoldable pub stores : Answer → Bool
-stores Answer.Done = false
-stores (Answer.Chosen b) = false
-stores Answer.Worked = false
-stores Answer.Stored = true
-stores (Answer.Committed b) = true
-stores Answer.Accepted = true
-stores (Answer.Refused r) = false
+-- how many stores that is
+unfoldable pub stores : Stored → ℕ
+stores Stored.Nothing = 0
+stores (Stored.Word i) = 1
 
--- the totals after a step with this answer
-unfoldable pub told : Totals → Answer → Totals
-told t a =
+-- the totals after a step with this answer, which stored this word
+unfoldable pub told : Totals → Answer → Stored → Totals
+told t a w =
     record {
-      committed = moreIf (isCommit a) (t .committed);
-      accepted = moreIf (isAccept a) (t .accepted);
-      stores = moreIf (stores a) (t .stores);
+      committed = moreBy (t .committed) (oneIf (isCommit a));
+      accepted = moreBy (t .accepted) (acceptedEvents a);
+      stores = moreBy (t .stores) (stores w);
     }

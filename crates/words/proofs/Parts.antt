@@ -12,6 +12,7 @@ use borrow.Author.Tests.{le-leb, lt-leb, eq-eqb, ne-eqb, eqb-true, leb-true}
 use Rattle.model.proofs.TestLaws.{same-or, and-left, and-right}
 use Rattle.model.specs.Program.{word}
 use Rattle.model.specs.Test.{pick, _and_}
+use Rattle.model.specs.declared.Answer.{Answer}
 use Rattle.model.specs.declared.Body.{Body}
 use Rattle.model.specs.declared.Handler.{Handler}
 use Rattle.model.specs.declared.Handler.the-variants.{Resting, Storing}
@@ -20,6 +21,7 @@ use Rattle.model.specs.declared.Place.{Place}
 use Rattle.model.specs.declared.Place.the-variants.{Free, Run, Half}
 use Rattle.words.specs.Words.{flag, kind, number, placeWords, nextWord, handlerWords}
 use Rattle.words.specs.Words.{bodyOf, placeOf, isPlace, nextOf, handlerOf, isHandler}
+use Rattle.words.specs.Words.{refusedWords, answerWords}
 
 -- from the facts that a function's tests leave to the tests of its definition
 pub ruleset tests = (le-leb, lt-leb, eq-eqb, ne-eqb)
@@ -61,6 +63,16 @@ pub handler-spelt : (h : Handler) → three (λ n e x. n ∷ e ∷ x ∷ []) (ha
 unfolding handlerWords
 handler-spelt Resting = refl
 handler-spelt (Storing n e x) = refl
+
+pub answer-spelt : (a : Answer) (y : List ℕ) → five (λ p k n i j. p ∷ k ∷ n ∷ i ∷ j ∷ y) (answerWords a) ≡ answerWords a ++ y
+unfolding answerWords refusedWords
+answer-spelt Answer.Done y = refl
+answer-spelt (Answer.Chosen b) y = refl
+answer-spelt Answer.Worked y = refl
+answer-spelt Answer.Stored y = refl
+answer-spelt (Answer.Committed b) y = refl
+answer-spelt Answer.Accepted y = refl
+answer-spelt (Answer.Refused e) y = refl
 
 -- ---- on
 

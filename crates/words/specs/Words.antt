@@ -22,6 +22,7 @@ use Rattle.model.specs.declared.Next.{Next}
 use Rattle.model.specs.declared.Place.{Place}
 use Rattle.model.specs.declared.Place.the-variants.{Free, Run, Half}
 use Rattle.model.specs.declared.Refusal.{Refusal}
+use Rattle.model.specs.declared.Stored.{Stored}
 use Rattle.words.specs.declared.Read.{Read}
 
 -- ---- A device state as 18 words
@@ -165,3 +166,17 @@ checkedWords (Checked.Refused e) = refusedWords e
 -- where the device words stand for no device state
 unfoldable pub unknownWords : List ℕ
 unknownWords = plainAnswer 8
+
+-- ---- A step's answer as 6 words: those of an answer, and the word that it stored, by its index
+
+-- none is 65535, which is no index: a store has at most 1234 words
+unfoldable pub storedNumber : Stored → ℕ
+storedNumber Stored.Nothing = 65535
+storedNumber (Stored.Word i) = i
+
+unfoldable pub stepWords : Answer → Stored → List ℕ
+stepWords a w = answerWords a ++ (storedNumber w ∷ [])
+
+-- where the device words stand for no device state
+unfoldable pub unknownStepWords : List ℕ
+unknownStepWords = unknownWords ++ (storedNumber Stored.Nothing ∷ [])

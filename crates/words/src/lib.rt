@@ -4,6 +4,7 @@ ghost use mathlib.Core.Path.{_≡_};
 ghost use Rattle.words.specs.Words.{flag, kind, number, placeWords, nextWord, handlerWords, deviceWords};
 ghost use Rattle.words.specs.Words.{bodyOf, placeOf, isPlace, nextOf, handlerOf, isHandler, isState, stateOf, deviceOf};
 ghost use Rattle.words.specs.Words.{refusedWords, answerWords, endedWords, checkedWords, unknownWords};
+ghost use Rattle.words.specs.Words.{storedNumber, stepWords, unknownStepWords};
 use model::Answer;
 use model::Body;
 use model::Checked;
@@ -13,6 +14,7 @@ use model::Handler;
 use model::Next;
 use model::Place;
 use model::Refusal;
+use model::Stored;
 
 // What reading finds: a device state, or none, with the off value in its place.
 pub struct Read {
@@ -323,4 +325,31 @@ pub fn write_unknown(w: &mut [u16; 5])
     ensures { λ _. ⌜ now (w .exit) ≡ unknownWords ⌝ }
 {
     *w = [8, 0, 0, 0, 0];
+}
+
+// ---- A step's answer as 6 words: those of an answer, and the word that it stored
+
+// A word of the store by its index; 65535 for none.
+fn stored_number(stored: Stored) -> u16
+    ensures { λ n. ⌜ n ≡ storedNumber stored ⌝ }
+{
+    match stored {
+        Stored::Nothing => 65535,
+        Stored::Word(i) => i,
+    }
+}
+
+// What a step answers, and which word it stored.
+pub fn write_step(words: &mut [u16; 6], answer: Answer, stored: Stored)
+    ensures { λ _. ⌜ now (words .exit) ≡ stepWords answer stored ⌝ }
+{
+    let a = answer_words(answer);
+    *words = [a[0], a[1], a[2], a[3], a[4], stored_number(stored)];
+}
+
+// The device words stand for no device state: nothing is stored.
+pub fn write_unknown_step(words: &mut [u16; 6])
+    ensures { λ _. ⌜ now (words .exit) ≡ unknownStepWords ⌝ }
+{
+    *words = [8, 0, 0, 0, 0, 65535];
 }

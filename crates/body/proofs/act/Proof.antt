@@ -1,7 +1,7 @@
 -- `act` meets its contract, by what the instruction does. Assumes nothing.
 use native.Mathlib.Omega.{arith}
 use Rattle.model.specs.Device.{act, moved}
-use Rattle.model.specs.Store.{settled}
+use Rattle.model.specs.Store.{settled, storedWord}
 use borrow.Author.Needs.{needs}
 use Rattle.body.proofs.act.Statement.{statement}
 use Rattle.body.proofs.act.Tie as tie
@@ -61,11 +61,11 @@ refused-requires : tie.Need-refused-requires
 refused-requires c κs = search needs
 
 returns : tie.Need-returns
-unfolding act moved settled
+unfolding act moved settled storedWord
 returns c = simp (c .before .before .f .given .1, c .worked .ensures)
 
 returns-2 : tie.Need-returns-2
-unfolding act moved settled
+unfolding act moved settled storedWord
 returns-2 c = simp (c .before .before .f2 .given .1, c .worked2 .ensures)
 
 same-length : tie.Need-same-length
@@ -95,7 +95,7 @@ returns-6 : tie.Need-returns-6
 returns-6 c = rw (c .before .before .before .before .before .enum-told .given .1) (c .before .before .end-event .ensures (c .before .before .before .before .before .before .before .before .before .args .p .now))
 
 returns-7 : tie.Need-returns-7
-unfolding act settled
+unfolding act settled storedWord
 returns-7 c = simp (c .before .enum-told2 .given .1, c .refused .ensures)
 
 pub act-spec : {M : Type 1} → statement M

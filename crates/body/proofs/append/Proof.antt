@@ -1,7 +1,7 @@
 -- `append` meets its contract, by whether a pair is left. Assumes nothing.
 use borrow.Author.Tests.{lt-ltb, le-ltb}
 use Rattle.model.specs.Device.{saveStep, moved}
-use Rattle.model.specs.Store.{settled}
+use Rattle.model.specs.Store.{settled, storedWord}
 use Rattle.model.specs.Test.{pick}
 use borrow.Author.Needs.{needs}
 use Rattle.body.proofs.append.Statement.{statement}
@@ -14,7 +14,7 @@ refused-requires : tie.Need-refused-requires
 refused-requires c κs = search needs
 
 returns : tie.Need-returns
-unfolding saveStep pick settled
+unfolding saveStep pick settled storedWord
 returns c = λ r. simp (c .refused .ensures, le-ltb _ _ (c .before .if1 .taken))
 
 write-address-requires : tie.Need-write-address-requires
@@ -28,7 +28,7 @@ same-length c = search needs
 
 returns-2 : tie.Need-returns-2
 unfolding saveStep pick moved
-returns-2 c = λ r. simp (c .stored .ensures, c .before .before .before .write-address .ensures, lt-ltb _ _ (c .before .before .before .before .before .if1 .left))
+returns-2 c = λ r. simp (c .stored .ensures, c .before .before .before .write-address .ensures .store, c .before .before .before .write-address .ensures .stored, lt-ltb _ _ (c .before .before .before .before .before .if1 .left))
 
 pub append-spec : {M : Type 1} → statement M
 append-spec =

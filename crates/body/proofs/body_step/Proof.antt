@@ -1,6 +1,6 @@
 -- `body_step` meets its contract: a refusal of the fetch, or what is done. Assumes nothing.
 use mathlib.Core.Path.{refl, sym, _∙_}
-use Rattle.model.specs.Store.{view, settled}
+use Rattle.model.specs.Store.{view, settled, storedWord}
 use Rattle.device.specs.Turn.{device}
 use Rattle.body.proofs.Running.{running-at, there-refused}
 use borrow.Author.Needs.{needs}
@@ -32,7 +32,7 @@ same-length : tie.Need-same-length
 same-length c = search needs
 
 returns : tie.Need-returns
-unfolding settled
+unfolding settled storedWord
 returns c = rw (there-refused (c .before .before .before .before .before .before .before .before .before .before .before .args .p .now) (view (c .before .before .before .before .before .before .before .before .before .before .before .args .s .now)) (device (c .before .before .before .before .before .before .before .before .before .before .before .args .c) (c .before .before .before .before .before .before .before .before .before .before .before .args .r .now)) (c .before .before .before .before .before .before .before .before .before .before .before .args .c .place) (c .before .before .before .before .before .before .before .before .before .before .before .pre .1) (sym (rw (c .before .before .before .before .before .before .before .before .body-at .ensures, c .before .before .before .before .before .before .before .instruction-at .ensures) at (c .before .before .before .before .fetch .ensures .0)) ∙ c .before .before .got .given .1), c .refused .ensures)
 
 same-length-2 : tie.Need-same-length-2

@@ -1,7 +1,7 @@
 -- `done` meets its contract, by the place. Assumes nothing.
 use mathlib.Core.Path.{sym, _∙_}
 use native.Mathlib.Omega.{arith}
-use Rattle.model.specs.Store.{view, settled}
+use Rattle.model.specs.Store.{view, settled, storedWord}
 use Rattle.device.specs.Turn.{device}
 use Rattle.body.specs.Running.{bodyAt, instructionAt}
 use Rattle.body.proofs.Running.{running, stores-left, pair-left, there-unfit, there-acts, there-saves}
@@ -26,7 +26,7 @@ refused-requires-2 : tie.Need-refused-requires-2
 refused-requires-2 c κs = search needs
 
 returns : tie.Need-returns
-unfolding settled
+unfolding settled storedWord
 returns c = rw (there-unfit (c .before .before .before .before .before .before .before .before .args .p .now) (view (c .before .before .before .before .before .before .before .before .args .s .now)) (device (c .before .before .before .before .before .before .before .before .args .c) (c .before .before .before .before .before .before .before .before .args .r .now)) (c .before .before .before .before .before .before .before .before .args .c .place) (c .before .before .before .before .before .before .before .before .pre .1 .1 .0) _ _ _ (c .before .before .before .before .place .given .1) (failed (c .before .before .fits2 .ensures _ _) (c .before .if1 .taken)), c .refused2 .ensures)
 
 act-requires : tie.Need-act-requires

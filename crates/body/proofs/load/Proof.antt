@@ -2,7 +2,7 @@
 use native.Mathlib.Omega.{arith}
 use borrow.Author.Tests.{lt-ltb, le-ltb}
 use Rattle.model.specs.Device.{act, moved}
-use Rattle.model.specs.Store.{settled}
+use Rattle.model.specs.Store.{settled, storedWord}
 use Rattle.model.specs.Test.{pick}
 use borrow.Author.Needs.{needs}
 use Rattle.body.proofs.load.Statement.{statement}
@@ -18,7 +18,7 @@ refused-requires : tie.Need-refused-requires
 refused-requires c κs = search needs
 
 returns : tie.Need-returns
-unfolding act pick settled
+unfolding act pick settled storedWord
 returns c = simp (c .refused .ensures, le-ltb _ _ (c .before .if1 .taken))
 
 cast-shown : tie.Need-cast-shown
@@ -40,7 +40,7 @@ worked-requires : tie.Need-worked-requires
 worked-requires c κs = search needs
 
 returns-2 : tie.Need-returns-2
-unfolding act pick moved settled
+unfolding act pick moved settled storedWord
 returns-2 c = simp (c .worked .ensures, c .before .shown .ensures, lt-ltb _ _ (c .before .before .if1 .left))
 
 pub load-spec : {M : Type 1} → statement M

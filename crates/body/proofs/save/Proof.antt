@@ -3,7 +3,7 @@ use mathlib.Core.Path.{sym}
 use native.Mathlib.Omega.{arith}
 use borrow.Author.Tests.{lt-ltb, le-ltb}
 use Rattle.model.specs.Device.{act, saveStep, moved}
-use Rattle.model.specs.Store.{settled}
+use Rattle.model.specs.Store.{settled, storedWord}
 use Rattle.model.specs.Test.{pick}
 use borrow.Author.Needs.{needs}
 use Rattle.body.proofs.save.Statement.{statement}
@@ -19,7 +19,7 @@ refused-requires : tie.Need-refused-requires
 refused-requires c κs = search needs
 
 returns : tie.Need-returns
-unfolding act pick settled
+unfolding act pick settled storedWord
 returns c = λ r. simp (c .refused .ensures, le-ltb _ _ (c .before .if1 .taken))
 
 cast-a : tie.Need-cast-a
@@ -47,8 +47,8 @@ returns-2 c = λ r. simp (lt-ltb _ _ (c .before .before .before .before .before 
 write-value-requires : tie.Need-write-value-requires
 write-value-requires c κs = (c .before .before .before .before .before .before .before .before .before .before .pre .0 .shaped .shaped, omega (arith, c .before .before .before .before .find .ensures .1 _ (c .before .before .found .given .1)))
 
-add-t13 : tie.Need-add-t13
-add-t13 c = omega (arith, c .before .before .before .before .before .before .before .before .before .before .before .before .before .pre .1 .0 .legal)
+add-t14 : tie.Need-add-t14
+add-t14 c = omega (arith, c .before .before .before .before .before .before .before .before .before .before .before .before .before .pre .1 .0 .legal)
 
 stored-requires : tie.Need-stored-requires
 stored-requires c κs = search needs
@@ -58,7 +58,7 @@ same-length-2 c = search needs
 
 returns-3 : tie.Need-returns-3
 unfolding act pick saveStep moved
-returns-3 c = λ r. simp (lt-ltb _ _ (c .before .before .before .before .before .before .before .before .before .before .if1 .left), sym (c .before .before .before .before .before .before .before .before .find .ensures .0), c .before .before .before .before .before .before .found .given .1, c .stored .ensures, c .before .before .before .write-value .ensures)
+returns-3 c = λ r. simp (lt-ltb _ _ (c .before .before .before .before .before .before .before .before .before .before .if1 .left), sym (c .before .before .before .before .before .before .before .before .find .ensures .0), c .before .before .before .before .before .before .found .given .1, c .stored .ensures, c .before .before .before .write-value .ensures .store, c .before .before .before .write-value .ensures .stored)
 
 pub save-spec : {M : Type 1} → statement M
 save-spec =
@@ -76,7 +76,7 @@ save-spec =
     same-length
     returns-2
     write-value-requires
-    add-t13
+    add-t14
     stored-requires
     same-length-2
     returns-3)

@@ -1,6 +1,6 @@
 -- `save_rest` meets its contract, by what the instruction does. Assumes nothing.
 use Rattle.model.specs.Device.{saveRest, moved}
-use Rattle.model.specs.Store.{settled}
+use Rattle.model.specs.Store.{settled, storedWord}
 use borrow.Author.Needs.{needs}
 use Rattle.body.proofs.save_rest.Statement.{statement}
 use Rattle.body.proofs.save_rest.Tie as tie
@@ -57,15 +57,15 @@ refused-requires-6 : tie.Need-refused-requires-6
 refused-requires-6 c κs = search needs
 
 returns : tie.Need-returns
-unfolding saveRest settled
+unfolding saveRest settled storedWord
 returns c = λ r. simp (c .before .enum-told .given .1, c .refused .ensures)
 
 returns-2 : tie.Need-returns-2
-unfolding saveRest settled
+unfolding saveRest settled storedWord
 returns-2 c = λ r. simp (c .before .enum-told2 .given .1, c .refused2 .ensures)
 
 returns-3 : tie.Need-returns-3
-unfolding saveRest settled
+unfolding saveRest settled storedWord
 returns-3 c = λ r. simp (c .before .enum-told3 .given .1, c .refused3 .ensures)
 
 same-length : tie.Need-same-length
@@ -73,18 +73,18 @@ same-length c = search needs
 
 returns-4 : tie.Need-returns-4
 unfolding saveRest moved
-returns-4 c = λ r. simp (c .before .before .before .before .before .before .f .given .1, c .stored .ensures, c .before .before .before .write-value .ensures)
+returns-4 c = λ r. simp (c .before .before .before .before .before .before .f .given .1, c .stored .ensures, c .before .before .before .write-value .ensures .store, c .before .before .before .write-value .ensures .stored)
 
 returns-5 : tie.Need-returns-5
-unfolding saveRest settled
+unfolding saveRest settled storedWord
 returns-5 c = λ r. simp (c .before .enum-told4 .given .1, c .refused4 .ensures)
 
 returns-6 : tie.Need-returns-6
-unfolding saveRest settled
+unfolding saveRest settled storedWord
 returns-6 c = λ r. simp (c .before .enum-told5 .given .1, c .refused5 .ensures)
 
 returns-7 : tie.Need-returns-7
-unfolding saveRest settled
+unfolding saveRest settled storedWord
 returns-7 c = λ r. simp (c .before .enum-told6 .given .1, c .refused6 .ensures)
 
 pub save-rest-spec : {M : Type 1} → statement M

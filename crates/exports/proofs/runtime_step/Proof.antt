@@ -13,11 +13,11 @@ use Rattle.exports.proofs.runtime_step.Tie as tie
 is-state-requires : tie.Need-is-state-requires
 is-state-requires c κs = search needs
 
-write-unknown-requires : tie.Need-write-unknown-requires
-write-unknown-requires c κs = search needs
+write-unknown-step-requires : tie.Need-write-unknown-step-requires
+write-unknown-step-requires c κs = search needs
 
 returns : tie.Need-returns
-returns c = none-read (now (c .before .before .before .before .before .before .before .args .device)) _ _ (c .before .before .before .is-state .ensures) (c .before .before .if1 .taken) (c .write-unknown .ensures, refl, refl, refl)
+returns c = none-read (now (c .before .before .before .before .before .before .before .args .device)) _ _ (c .before .before .before .is-state .ensures) (c .before .before .if1 .taken) (c .write-unknown-step .ensures, refl, refl, refl)
 
 state-of-requires : tie.Need-state-of-requires
 state-of-requires c κs = search needs
@@ -34,8 +34,8 @@ counted-requires c κs = search needs
 write-totals-requires : tie.Need-write-totals-requires
 write-totals-requires c κs = search needs
 
-write-answer-requires : tie.Need-write-answer-requires
-write-answer-requires c κs = search needs
+write-step-requires : tie.Need-write-step-requires
+write-step-requires c κs = search needs
 
 write-device-requires : tie.Need-write-device-requires
 write-device-requires c κs = search needs
@@ -45,15 +45,15 @@ same-length c = search needs
 
 returns-2 : tie.Need-returns-2
 returns-2 c =
-    let p = now (c .before .before .before .before .before .before .before .before .before .before .before .before .before .before .before .before .before .before .before .before .before .args .program) in
-    let s = now (c .before .before .before .before .before .before .before .before .before .before .before .before .before .before .before .before .before .before .before .before .before .args .store) in
+    let r = c .before .before .before .before .before .before .before .before .before .before .before .before .step .result in
+    let t = totalsOf (now (c .before .before .before .before .before .before .before .before .before .before .before .before .before .before .before .before .before .before .before .before .before .args .totals)) in
     state-read (now (c .before .before .before .before .before .before .before .before .before .before .before .before .before .before .before .before .before .before .before .before .before .args .device)) _ _ (c .before .before .before .before .before .before .before .before .before .before .before .before .before .before .before .before .before .is-state .ensures) (c .before .before .before .before .before .before .before .before .before .before .before .before .before .before .before .before .if1 .left) (c .before .before .before .before .before .before .before .before .before .before .before .before .before .before .state-of .ensures) (
-      (c .before .before .before .before .before .before .before .before .before .before .before .before .step .result, c .before .before .before .before .before .before .before .before .before .before .before .before .step .ensures, c .before .before .write-answer .ensures, c .write-device .ensures),
+      (r, c .before .before .before .before .before .before .before .before .before .before .before .before .step .ensures, c .before .before .write-step .ensures, c .write-device .ensures),
       c .before .before .before .before .write-totals .ensures
           ∙ ap totalsWords
           (c .before .before .before .before .before .before .counted .ensures
-          ∙ ap (λ (t : Totals). told t (c .before .before .before .before .before .before .before .before .before .before .before .before .step .result .answer)) (c .before .before .before .before .before .before .before .totals-of .ensures)
-          ∙ told-is-counted p s _ (c .before .before .before .before .before .before .before .before .before .before .before .before .before .before .state-of .result) (c .before .before .before .before .before .before .before .before .before .before .before .before .step .result) (totalsOf (now (c .before .before .before .before .before .before .before .before .before .before .before .before .before .before .before .before .before .before .before .before .before .args .totals))) (c .before .before .before .before .before .before .before .before .before .before .before .before .step .ensures)),
+          ∙ ap (λ (x : Totals). told x (r .answer) (r .stored)) (c .before .before .before .before .before .before .before .totals-of .ensures)
+          ∙ told-is-counted _ _ _ _ t (c .before .before .before .before .before .before .before .before .before .before .before .before .step .ensures)),
     )
 
 pub runtime-step-spec : {M : Type 1} → statement M
@@ -61,14 +61,14 @@ runtime-step-spec =
     tie.close
     (tie.spec
     is-state-requires
-    write-unknown-requires
+    write-unknown-step-requires
     returns
     state-of-requires
     step-requires
     totals-of-requires
     counted-requires
     write-totals-requires
-    write-answer-requires
+    write-step-requires
     write-device-requires
     same-length
     returns-2)

@@ -1,5 +1,5 @@
 -- `step` meets its contract: a walk of its MIR, since the totals lie behind a reference. The program, the lent words and the device
--- go to the runtime's `step`, the reference to the totals with the answer to `count`, each borrow at its own lifetime and for good.
+-- go to the runtime's `step`, the reference to the totals with the answer and the word stored to `count`, each borrow at its own lifetime and for good.
 -- All that the walk knows of the two is that each meets its contract. Assumes nothing.
 use Prim.Native.Nat.{ℕ}
 use mathlib.Core.List.{List, [], _∷_}
@@ -43,10 +43,13 @@ use Rattle.model.proofs.Answer as answer
 use Rattle.model.proofs.Answer.Laws as answer-laws
 use Rattle.model.proofs.Device as device
 use Rattle.model.proofs.Device.Laws as device-laws
+use Rattle.model.proofs.Stored as stored
+use Rattle.model.proofs.Stored.Laws as stored-laws
 use Rattle.model.proofs.Totals as totals
 use Rattle.model.specs.Device.{step}
 use Rattle.model.specs.declared.Answer.{Answer}
 use Rattle.model.specs.declared.Device.{Device}
+use Rattle.model.specs.declared.Stored.{Stored}
 use Rattle.model.specs.declared.Totals.{Totals}
 use Rattle.device.proofs.Stepped as stepped
 use Rattle.device.proofs.Stepped.Laws as stepped-laws
@@ -82,6 +85,9 @@ stayed = (
 -- the machine values
 abbrev answerVal : Answer → Val
 answerVal a = enum.val answer.the-type answer-laws.the-laws a
+
+abbrev storedVal : Stored → Val
+storedVal w = enum.val stored.the-type stored-laws.the-laws w
 
 abbrev steppedVal : Stepped → Val
 steppedVal r = struct.val stepped.the-type stepped-laws.the-laws r
@@ -128,22 +134,22 @@ module _ {M : Type 1} (𝓤 : URA M) (H : Heap 𝓤) (A : Atoms 𝓤) (W : Given
         join ! $ frame ! $ done !
 
     -- what `count` is called with
-    abbrev to-count : Answer → Count .Ghost
-    to-count a = (((κt, tt), (qt, tt), tt, (t, (a, tt)), (refOf t ∷ [], (answerVal a ∷ [], tt))), tt)
+    abbrev to-count : Answer → Stored → Count .Ghost
+    to-count a w = (((κt, tt), (qt, tt), tt, (t, (a, (w, tt))), (refOf t ∷ [], (answerVal a ∷ [], (storedVal w ∷ [], tt)))), tt)
 
-    goes-count : (a : Answer) → ent 𝓤 (onEntry 𝓤 H A count.signature (κt, tt) (qt, tt) (t, (a, tt)) (refOf t ∷ [], (answerVal a ∷ [], tt))) (Count .pre (to-count a))
-    goes-count a =
-        qed W ((‵ (flft κt qt) ⊛ ‵ ftrue) ∷ ‵ (owns (MutRef (named 0) κt totals.the-row ∷ answer.the-row ∷ []) (t, (a, tt)) (refOf t ∷ [], (answerVal a ∷ [], tt))) ∷ []) ∵
+    goes-count : (a : Answer) (w : Stored) → ent 𝓤 (onEntry 𝓤 H A count.signature (κt, tt) (qt, tt) (t, (a, (w, tt))) (refOf t ∷ [], (answerVal a ∷ [], (storedVal w ∷ [], tt)))) (Count .pre (to-count a w))
+    goes-count a w =
+        qed W ((‵ (flft κt qt) ⊛ ‵ ftrue) ∷ ‵ (owns (MutRef (named 0) κt totals.the-row ∷ answer.the-row ∷ stored.the-row ∷ []) (t, (a, (w, tt))) (refOf t ∷ [], (answerVal a ∷ [], (storedVal w ∷ [], tt)))) ∷ []) ∵
         join ! $ frame ! $ done !
 
     -- at exit the words are z and the totals t′
-    exits : (r : Stepped) (z : List ℕ) (t′ : Totals) → Performed r z → t′ ≡ told (t .now) (r .answer) → length z ≡ length (s .now)
+    exits : (r : Stepped) (z : List ℕ) (t′ : Totals) → Performed r z → t′ ≡ told (t .now) (r .answer) (r .stored) → length z ≡ length (s .now)
         → ent 𝓤 (⋆ 𝓤 H A ((‵ (flft κp qp) ⊛ ‵ (flft κs qs) ⊛ ‵ ftrue) ∷ (‵ (flft κt qt) ⊛ ‵ ftrue) ∷ ‵ (finally u16 (s .name) z) ∷ ‵ (fres (t .name) (totals.the-row .coded .code t′)) ∷ ‵ (stepped.the-row .own r (steppedVal r ∷ [])) ∷ []))
         (Post (steppedVal r))
     exits r z t′ e e′ l =
         qed W ((‵ (flft κp qp) ⊛ ‵ (flft κs qs) ⊛ ‵ ftrue) ∷ (‵ (flft κt qt) ⊛ ‵ ftrue) ∷ ‵ (finally u16 (s .name) z) ∷ ‵ (fres (t .name) (totals.the-row .coded .code t′)) ∷ ‵ (stepped.the-row .own r (steppedVal r ∷ [])) ∷ []) ∵
         suffices ! _ (ends-at 𝓤 H A this.ended stayed (this.clauses 𝓤 H A at-mem run) W (((κp, (κs, (κt, tt))), (qp, (qs, (qt, tt))), tt, args, vals), tt) (steppedVal r) r (tt, (z, (tt, (t′, tt)))) (tt, (l, (tt, (tt, tt))))) $
-        says ! (record { performs = e; totals = e′ ∙ told-is-counted (p .now) (s .now) z d r (t .now) e }) $
+        says ! (record { performs = e; totals = e′ ∙ told-is-counted (p .now) (s .now) (step (p .now) (s .now) d) (afterCall r z) (t .now) e }) $
         -- the tokens
         split ! $ move ! (1 ∷ []) $ split ! $ move ! (0 ∷ 3 ∷ []) $ join ! $ move ! (2 ∷ 0 ∷ []) $ join ! $ frame ! $
         -- [..; the last words; the last totals; the result]
@@ -178,12 +184,13 @@ module _ {M : Type 1} (𝓤 : URA M) (H : Heap 𝓤) (A : Atoms 𝓤) (W : Given
           -- [what r owns; the tokens of p and s; the last words; ..; _9; ..; _8; ..; _7; ..; _6; ..; _5; ..; _4; ..; _3; ..; _2; ..; _1; ..; _0; ..; what t owns; its token; ..]
           assigns ! (addr ! (from ! (hop ! (look ! 14 refl) (stop !)))) (from ! (stop !)) (init ! 4 refl (tt, tt)) $
           -- `count`
-          nothing ! $ owned ! answer.the-row (Is answer.the-row) (enum.makes answer.the-type answer-laws.the-plain 𝓤 H A) (r .answer) _ (struct.owed stepped.the-type stepped-laws.the-laws r _ is .0) $ fjoin ! $ move ! (25 ∷ 0 ∷ []) $ fjoin ! $
-          move ! (25 ∷ 26 ∷ 0 ∷ []) $ join ! $ use2 W (raw (Count .pre (to-count (r .answer)))) (goes-count (r .answer)) $
-          calls-at ! fm Count known-count (to-count (r .answer)) (and-then ! (load ! (from ! (stop !)) (look ! 5 refl)) (and-then ! (load ! (from ! (fld ! refl (stop !))) (look-in ! 13 (sub ! 0 refl (whole !)))) (no-more !))) (λ w.
-          use1 W (later (some (λ (n : Unit {0}). ((‵ (flft κt qt) ⊛ ‵ ftrue) ⊛ ‵ (unit .own n (w ∷ []))) ⊛ raw (ensured 𝓤 H A count.ended (count.clauses 𝓤 H A at-mem run) (κt, tt) (t, (r .answer, tt)) tt n)))) (id⊢ 𝓤 _) $ await ! tt $ pick ! (λ n.
-          split ! $ move ! (1 ∷ []) $ use1 W (some (λ (ts : Totals × (Unit {0} × Unit {0})). ‵ (lasts count.ended (κt, tt) (t, (r .answer, tt)) ts) ⊛ raw (fact 𝓤 (ts .0 ≡ told (t .now) (r .answer))))) (id⊢ 𝓤 _) $ pick ! (λ ts.
-          split ! $ move ! (1 ∷ []) $ heard ! (ts .0 ≡ told (t .now) (r .answer)) (λ e′. fsplit ! $
+          nothing ! $ owned ! stored.the-row (Is stored.the-row) (enum.makes stored.the-type stored-laws.the-plain 𝓤 H A) (r .stored) _ (struct.owed stepped.the-type stepped-laws.the-laws r _ is .1 .0) $ fjoin ! $
+          owned ! answer.the-row (Is answer.the-row) (enum.makes answer.the-type answer-laws.the-plain 𝓤 H A) (r .answer) _ (struct.owed stepped.the-type stepped-laws.the-laws r _ is .0) $ fjoin ! $ move ! (25 ∷ 0 ∷ []) $ fjoin ! $
+          move ! (25 ∷ 26 ∷ 0 ∷ []) $ join ! $ use2 W (raw (Count .pre (to-count (r .answer) (r .stored)))) (goes-count (r .answer) (r .stored)) $
+          calls-at ! fm Count known-count (to-count (r .answer) (r .stored)) (and-then ! (load ! (from ! (stop !)) (look ! 5 refl)) (and-then ! (load ! (from ! (fld ! refl (stop !))) (look-in ! 13 (sub ! 0 refl (whole !)))) (and-then ! (load ! (from ! (fld ! refl (stop !))) (look-in ! 13 (sub ! 1 refl (whole !)))) (no-more !)))) (λ w.
+          use1 W (later (some (λ (n : Unit {0}). ((‵ (flft κt qt) ⊛ ‵ ftrue) ⊛ ‵ (unit .own n (w ∷ []))) ⊛ raw (ensured 𝓤 H A count.ended (count.clauses 𝓤 H A at-mem run) (κt, tt) (t, (r .answer, (r .stored, tt))) tt n)))) (id⊢ 𝓤 _) $ await ! tt $ pick ! (λ n.
+          split ! $ move ! (1 ∷ []) $ use1 W (some (λ (ts : Totals × (Unit {0} × (Unit {0} × Unit {0}))). ‵ (lasts count.ended (κt, tt) (t, (r .answer, (r .stored, tt))) ts) ⊛ raw (fact 𝓤 (ts .0 ≡ told (t .now) (r .answer) (r .stored))))) (id⊢ 𝓤 _) $ pick ! (λ ts.
+          split ! $ move ! (1 ∷ []) $ heard ! (ts .0 ≡ told (t .now) (r .answer) (r .stored)) (λ e′. fsplit ! $
           move ! (2 ∷ []) $ split ! $ move ! (1 ∷ []) $ peeks ! unit (Is unit) (shows 𝓤 H A unit) n (w ∷ []) (λ is′.
           land ! (from ! (stop !)) (init ! 10 refl (nothing-lawful 𝓤 H A W .typed n _ is′ .0)) $
           -- [..; the token of t; the last totals; ..; what r owns; the tokens of p and s; the last words; ..; _9; ..; _8; ..; _7; ..; _6; ..; _5; ..; _4; ..; _3; ..; _2; ..; _1; ..; _0; ..]

@@ -16,9 +16,6 @@ loop-holds c = search needs
 add-k : tie.Need-add-k Inv-loop μ-loop
 add-k c = search needs
 
-next-store-requires : tie.Need-next-store-requires Inv-loop μ-loop
-next-store-requires c κs = search needs
-
 step-requires : tie.Need-step-requires Inv-loop μ-loop
 step-requires c κs = search needs
 
@@ -63,7 +60,6 @@ rows-spec =
     μ-loop
     loop-holds
     add-k
-    next-store-requires
     step-requires
     decimal-requires
     slice-aggregate-put

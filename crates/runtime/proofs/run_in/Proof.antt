@@ -16,6 +16,7 @@ use Rattle.model.specs.declared.Answer.{Answer}
 use Rattle.model.specs.declared.Checked.{Checked}
 use Rattle.model.specs.declared.Device.{Device}
 use Rattle.model.specs.declared.Ended.{Ended}
+use Rattle.model.specs.declared.Stored.{Stored}
 use Rattle.model.specs.declared.Totals.{Totals}
 use Rattle.runtime.proofs.Runs.{refusalOf, ended, run-spent, run-stops, run-goes}
 use Rattle.model.proofs.LookStays.{look-stays}
@@ -25,20 +26,20 @@ use borrow.Author.Needs.{needs}
 use Rattle.runtime.proofs.run_in.Statement.{statement}
 use Rattle.runtime.proofs.run_in.Tie as tie
 
-abbrev leaves : Answer → Device → List ℕ → Result
-leaves a d s = record { answer = a; device = d; store = s }
+abbrev leaves : Answer → Stored → Device → List ℕ → Result
+leaves a w d s = record { answer = a; stored = w; device = d; store = s }
 
 abbrev Inv-loop : tie.InvT-loop
-Inv-loop p s₀ r₀ budget a₀ c₀ t₀ n₀ k₀ s r a c t n known =
+Inv-loop p s₀ r₀ budget a₀ w₀ c₀ t₀ n₀ k₀ s r a w c t n known =
     (n ≤ budget)
     × (length s ≡ length s₀)
     × (runFrom p (budget - n) n s (device c r) t ≡ run p budget s₀ (device c₀ r₀) t₀)
     × (known ≡ true → look p s (device c r) ≡ Checked.Accepted)
     × (n ≡ 0 → result s (step p s (device c r)) ≡ result s₀ (step p s₀ (device c₀ r₀)))
-    × (n ≡ 1 → leaves a (device c r) s ≡ result s₀ (step p s₀ (device c₀ r₀)))
+    × (n ≡ 1 → leaves a w (device c r) s ≡ result s₀ (step p s₀ (device c₀ r₀)))
 
 abbrev μ-loop : tie.MeasureT-loop
-μ-loop p s₀ r₀ budget a₀ c₀ t₀ n₀ k₀ s r a c t n known = budget - n
+μ-loop p s₀ r₀ budget a₀ w₀ c₀ t₀ n₀ k₀ s r a w c t n known = budget - n
 
 loop-holds : tie.Need-loop-holds Inv-loop μ-loop
 unfolding run
@@ -111,7 +112,7 @@ loop-again c =
       omega (arith, c .before .before .before .before .before .before .before .before .before .before .before .loop-test .taken),
       ap (λ (x : Result). length (x .store)) q ∙ settled-length s _ ∙ c .before .before .before .before .before .before .before .before .before .before .before .before .loop .inv .1,
       ap (λ (x : Totals). runFrom p j (n + 1) (c .before .before .before .before .before .before .before .before .step-known .last .1 .0) (device (c .before .before .before .before .before .before .before .before .step-known .result .core) (c .before .before .before .before .before .before .before .before .step-known .last .1 .1 .0)) x) (c .before .counted .ensures)
-          ∙ ap (λ (x : Result). runFrom p j (n + 1) (x .store) (x .device) (told t (x .answer))) q
+          ∙ ap (λ (x : Result). runFrom p j (n + 1) (x .store) (x .device) (told t (x .answer) (x .stored))) q
           ∙ sym (run-goes p k j n s d t left (ap (λ (x : Result). refusalOf (x .answer)) (sym q) ∙ sym (c .before .before .before .before .refusal .ensures) ∙ c .before .before .enum-told .given .1))
           ∙ c .before .before .before .before .before .before .before .before .before .before .before .before .loop .inv .2,
       λ known.

@@ -5,7 +5,7 @@ use Rattle.device.proofs.Looked.{looked}
 use Rattle.device.specs.Turn.{device, after, result}
 use Rattle.device.specs.declared.Turn.{Turn}
 use Rattle.model.specs.Device.{Out}
-use Rattle.model.specs.Store.{settled}
+use Rattle.model.specs.Store.{settled, storedWord}
 use Rattle.runtime.proofs.Cases.{step-goes, step-refused}
 use borrow.Author.Needs.{needs}
 use Rattle.runtime.proofs.step_known.Statement.{statement}
@@ -40,7 +40,7 @@ same-length-2 : tie.Need-same-length-2
 same-length-2 c = search needs
 
 returns-2 : tie.Need-returns-2
-unfolding settled
+unfolding settled storedWord
 returns-2 c =
     let s = now (c .before .before .before .before .before .before .before .before .before .args .s) in
     let p = now (c .before .before .before .before .before .before .before .before .before .args .p) in

@@ -1,13 +1,13 @@
 -- `look::cut` meets its contract. Assumes nothing.
 use mathlib.Core.Path.{refl}
 use Rattle.model.specs.Device.{fresh, cut}
-use Rattle.model.specs.Store.{settled}
+use Rattle.model.specs.Store.{settled, storedWord}
 use borrow.Author.Needs.{needs}
 use Rattle.device.proofs.look.cut.Statement.{statement}
 use Rattle.device.proofs.look.cut.Tie as tie
 
 returns : tie.Need-returns
-unfolding cut fresh settled
+unfolding cut fresh settled storedWord
 returns c = λ s. refl
 
 pub cut-spec : {M : Type 1} → statement M

@@ -1,6 +1,6 @@
 -- `look::judge` meets its contract. Assumes nothing.
 use Rattle.model.specs.Device.{judged}
-use Rattle.model.specs.Store.{settled}
+use Rattle.model.specs.Store.{settled, storedWord}
 use borrow.Author.Needs.{needs}
 use Rattle.device.proofs.look.judge.Statement.{statement}
 use Rattle.device.proofs.look.judge.Tie as tie
@@ -12,11 +12,11 @@ enum-known-found : tie.Need-enum-known-found
 enum-known-found c = search needs
 
 returns : tie.Need-returns
-unfolding judged settled
+unfolding judged settled storedWord
 returns c = λ s. simp (c .enum-told .given .1)
 
 returns-2 : tie.Need-returns-2
-unfolding judged settled
+unfolding judged settled storedWord
 returns-2 c = λ s. simp (c .before .found .given .1)
 
 pub judge-spec : {M : Type 1} → statement M

@@ -4,9 +4,10 @@ use mathlib.Core.Path.{_≡_, sym, ap, _∙_}
 use denote.Ref.{now}
 use Rattle.model.specs.Device.{Out, moved}
 use Rattle.model.specs.Program.{word, memoryWords}
-use Rattle.model.specs.Store.{settled, view, logAt}
+use Rattle.model.specs.Store.{settled, storedWord, view, logAt}
 use Rattle.model.specs.declared.Answer.{Answer}
 use Rattle.model.specs.declared.Refusal.{Refusal}
+use Rattle.model.specs.declared.Stored.{Stored}
 use Rattle.device.specs.Turn.{device, after, turn, result}
 use Rattle.device.specs.declared.Turn.{Turn}
 use Rattle.runtime.proofs.Cases.{copy-refused, copy-made}
@@ -20,14 +21,14 @@ address-requires c κs = search needs
 shared-slice-read-if1 : tie.Need-shared-slice-read-if1
 shared-slice-read-if1 c = search needs
 
-slice-read-t13 : tie.Need-slice-read-t13
-slice-read-t13 c = search needs
+slice-read-t14 : tie.Need-slice-read-t14
+slice-read-t14 c = search needs
 
-mul-t14 : tie.Need-mul-t14
-mul-t14 c = search needs
+mul-t15 : tie.Need-mul-t15
+mul-t15 c = search needs
 
-add-t15 : tie.Need-add-t15
-add-t15 c = search needs
+add-t16 : tie.Need-add-t16
+add-t16 c = search needs
 
 refused-requires : tie.Need-refused-requires
 refused-requires c κs = search needs
@@ -36,7 +37,7 @@ same-length : tie.Need-same-length
 same-length c = search needs
 
 returns : tie.Need-returns
-unfolding settled
+unfolding settled storedWord
 returns c =
     λ r.
     let s = now (c .before .before .before .before .before .before .before .before .args .s) in
@@ -44,7 +45,7 @@ returns c =
     let core = c .before .before .before .before .before .before .before .before .args .c in
     let starts : word s 6 ≡ logAt (memoryWords p) = c .before .before .before .before .before .before .before .before .pre .1 .0 .shaped .logStart ∙ ap (λ (m : ℕ). logAt m) (c .before .before .before .before .before .before .before .before .pre .1 .0 .memory) in
     ap (λ (t : Turn). after t r s) (c .refused .ensures)
-    ∙ ap (λ (w : ℕ). after (turn (Answer.Refused (Refusal.Control (w + 2 * c .before .before .before .before .before .before .before .before .args .n))) core) r s) starts
+    ∙ ap (λ (w : ℕ). after (turn (Answer.Refused (Refusal.Control (w + 2 * c .before .before .before .before .before .before .before .before .args .n))) Stored.Nothing core) r s) starts
     ∙ ap (λ (o : Out). result s o) (sym (copy-refused p (view s) (device core r) (c .before .before .before .before .before .before .before .before .args .n) (c .before .before .before .before .before .before .before .before .pre .1 .1 .0) (rw (c .before .before .before .before .address .ensures) at (c .before .before .if1 .taken))))
 
 value-requires : tie.Need-value-requires
@@ -53,8 +54,8 @@ value-requires c κs = search needs
 write-requires : tie.Need-write-requires
 write-requires c κs = search needs
 
-add-t10 : tie.Need-add-t10
-add-t10 c = search needs
+add-t11 : tie.Need-add-t11
+add-t11 c = search needs
 
 stored-requires : tie.Need-stored-requires
 stored-requires c κs = search needs
@@ -68,7 +69,7 @@ returns-2 c =
     λ r.
     let s = now (c .before .before .before .before .before .before .before .before .before .before .before .before .before .args .s) in
     let p = now (c .before .before .before .before .before .before .before .before .before .before .before .before .before .args .p) in
-    rw (c .stored .ensures, c .before .before .before .write .ensures, c .before .before .before .before .before .value .ensures, c .before .before .before .before .before .before .before .before .before .address .ensures)
+    rw (c .stored .ensures, c .before .before .before .write .ensures .store, c .before .before .before .write .ensures .stored, c .before .before .before .before .before .value .ensures, c .before .before .before .before .before .before .before .before .before .address .ensures)
     (ap (λ (o : Out). result s o) (sym (copy-made p (view s) (device (c .before .before .before .before .before .before .before .before .before .before .before .before .before .args .c) r) (c .before .before .before .before .before .before .before .before .before .before .before .before .before .args .n) (c .before .before .before .before .before .before .before .before .before .before .before .before .before .pre .1 .1 .0) (rw (c .before .before .before .before .before .before .before .before .before .address .ensures) at (c .before .before .before .before .before .before .before .if1 .left)))))
 
 pub copy-spec : {M : Type 1} → statement M
@@ -77,15 +78,15 @@ copy-spec =
     (tie.spec
     address-requires
     shared-slice-read-if1
-    slice-read-t13
-    mul-t14
-    add-t15
+    slice-read-t14
+    mul-t15
+    add-t16
     refused-requires
     same-length
     returns
     value-requires
     write-requires
-    add-t10
+    add-t11
     stored-requires
     same-length-2
     returns-2)

@@ -2,7 +2,7 @@
 use mathlib.Core.Path.{_≡_}
 use native.Mathlib.Omega.{arith}
 use Rattle.model.specs.Device.{fresh, storing, eventLastStores, moved}
-use Rattle.model.specs.Store.{settled, index}
+use Rattle.model.specs.Store.{settled, storedWord, index}
 use Rattle.model.specs.Test.{pick}
 use borrow.Author.Needs.{needs}
 use Rattle.runtime.proofs.copying.event_last.Statement.{statement}
@@ -24,7 +24,7 @@ same-length : tie.Need-same-length
 same-length c = search needs
 
 returns : tie.Need-returns
-unfolding storing eventLastStores moved pick settled index fresh
+unfolding storing eventLastStores moved pick settled storedWord index fresh
 returns c = simp (c .before .before .if1 .taken, c .stored .ensures)
 
 slice-write-s-2 : tie.Need-slice-write-s-2
@@ -37,7 +37,7 @@ same-length-2 : tie.Need-same-length-2
 same-length-2 c = search needs
 
 returns-2 : tie.Need-returns-2
-unfolding storing eventLastStores moved pick settled index fresh
+unfolding storing eventLastStores moved pick settled storedWord index fresh
 returns-2 c = let e : c .before .before .before .before .args .k ≡ 1 = omega arith in rw (e, c .turned-on .ensures .0, c .turned-on .ensures .1)
 
 pub event-last-spec : {M : Type 1} → statement M

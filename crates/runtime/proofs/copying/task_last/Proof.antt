@@ -2,7 +2,7 @@
 use mathlib.Core.Path.{_≡_}
 use native.Mathlib.Omega.{arith}
 use Rattle.model.specs.Device.{fresh, storing, taskLastStores, moved}
-use Rattle.model.specs.Store.{settled, index}
+use Rattle.model.specs.Store.{settled, storedWord, index}
 use Rattle.model.specs.Test.{pick}
 use borrow.Author.Needs.{needs}
 use Rattle.runtime.proofs.copying.task_last.Statement.{statement}
@@ -24,7 +24,7 @@ same-length : tie.Need-same-length
 same-length c = search needs
 
 returns : tie.Need-returns
-unfolding storing taskLastStores moved pick settled index fresh
+unfolding storing taskLastStores moved pick settled storedWord index fresh
 returns c = simp (c .before .before .if1 .taken, c .stored .ensures)
 
 slice-read-s-2 : tie.Need-slice-read-s-2
@@ -33,8 +33,8 @@ slice-read-s-2 c = search needs
 slice-write-s-2 : tie.Need-slice-write-s-2
 slice-write-s-2 c = search needs
 
-add-t12 : tie.Need-add-t12
-add-t12 c = search needs
+add-t13 : tie.Need-add-t13
+add-t13 c = search needs
 
 stored-requires-2 : tie.Need-stored-requires-2
 stored-requires-2 c κs = search needs
@@ -43,7 +43,7 @@ same-length-2 : tie.Need-same-length-2
 same-length-2 c = search needs
 
 returns-2 : tie.Need-returns-2
-unfolding storing taskLastStores moved pick settled index fresh
+unfolding storing taskLastStores moved pick settled storedWord index fresh
 returns-2 c = rw (c .before .before .if2 .taken, c .stored2 .ensures)
 
 slice-write-s-3 : tie.Need-slice-write-s-3
@@ -56,7 +56,7 @@ same-length-3 : tie.Need-same-length-3
 same-length-3 c = search needs
 
 returns-3 : tie.Need-returns-3
-unfolding storing taskLastStores moved pick settled index fresh
+unfolding storing taskLastStores moved pick settled storedWord index fresh
 returns-3 c = let e : c .before .before .before .before .before .args .k ≡ 2 = omega arith in rw (e, c .turned-on .ensures .0, c .turned-on .ensures .1)
 
 pub task-last-spec : {M : Type 1} → statement M
@@ -71,7 +71,7 @@ task-last-spec =
     returns
     slice-read-s-2
     slice-write-s-2
-    add-t12
+    add-t13
     stored-requires-2
     same-length-2
     returns-2

@@ -4,12 +4,13 @@ use Rattle.model.specs.Program.{word, memoryWords}
 use Rattle.model.specs.Store.{queueAt}
 use Rattle.model.specs.declared.Answer.{Answer}
 use Rattle.model.specs.declared.Refusal.{Refusal}
-use Rattle.device.specs.Turn.{after}
+use Rattle.model.specs.declared.Stored.{Stored}
+use Rattle.device.specs.Turn.{after, turn}
 use Rattle.device.specs.declared.Turn.{Turn}
 use mathlib.Core.Path.{sym, ap, _∙_}
 use denote.Ref.{now}
 use Rattle.model.specs.Device.{Out}
-use Rattle.model.specs.Store.{settled, view}
+use Rattle.model.specs.Store.{settled, storedWord, view}
 use Rattle.runtime.proofs.Cases.{choose-open, choose-empty, choose-refused, choose-event}
 use Rattle.device.specs.Turn.{device, result}
 use borrow.Author.Needs.{needs}
@@ -26,7 +27,7 @@ begin-requires : tie.Need-begin-requires
 begin-requires c κs = search needs
 
 returns : tie.Need-returns
-unfolding settled
+unfolding settled storedWord
 returns c = let s = now (c .before .before .before .before .before .before .before .args .s) in c .begin .ensures s ∙ ap (λ (o : Out). result s o) (sym (choose-open (now (c .before .before .before .before .before .before .before .args .p)) (view s) (device (c .before .before .before .before .before .before .before .args .c) (now (c .before .before .before .before .before .before .before .args .r))) (c .before .before .before .if1 .taken)))
 
 is-empty-requires : tie.Need-is-empty-requires
@@ -39,7 +40,7 @@ begin-requires-2 : tie.Need-begin-requires-2
 begin-requires-2 c κs = search needs
 
 returns-2 : tie.Need-returns-2
-unfolding settled
+unfolding settled storedWord
 returns-2 c =
     let s = now (c .before .before .before .before .before .before .before .before .before .args .s) in
     c .begin2 .ensures s
@@ -68,7 +69,7 @@ refused-requires : tie.Need-refused-requires
 refused-requires c κs = search needs
 
 returns-3 : tie.Need-returns-3
-unfolding settled
+unfolding settled storedWord
 returns-3 c =
     let s = now (c .before .before .before .before .before .before .before .before .before .before .before .before .args .s) in
     let p = now (c .before .before .before .before .before .before .before .before .before .before .before .before .args .p) in
@@ -77,7 +78,7 @@ returns-3 c =
     let q = c .before .before .before .before .before .before .before .before .before .before .before .before .pre .shaped in
     let starts : word s 7 ≡ queueAt (memoryWords p) (word s 2) = q .shaped .queueStart ∙ ap (λ (m : ℕ). queueAt m (word s 2)) (q .memory) in
     ap (λ (t : Turn). after t r s) (c .refused .ensures)
-    ∙ ap (λ (w : ℕ). after (record { answer = Answer.Refused (Refusal.Control (w + 2 * word s 14)); core = core }) r s) starts
+    ∙ ap (λ (w : ℕ). after (turn (Answer.Refused (Refusal.Control (w + 2 * word s 14))) Stored.Nothing core) r s) starts
     ∙ ap (λ (o : Out). result s o)
     (sym
     (choose-refused p (view s) (device core r) (c .before .before .before .before .before .before .before .before .if1 .left)
@@ -91,7 +92,7 @@ begin-requires-3 : tie.Need-begin-requires-3
 begin-requires-3 c κs = search needs
 
 returns-4 : tie.Need-returns-4
-unfolding settled
+unfolding settled storedWord
 returns-4 c =
     let s = now (c .before .before .before .before .before .before .before .before .before .before .before .before .before .args .s) in
     let p = now (c .before .before .before .before .before .before .before .before .before .before .before .before .before .args .p) in

@@ -1,5 +1,5 @@
 use Rattle.model.specs.Device.{handlerStep, handled}
-use Rattle.model.specs.Store.{settled, index}
+use Rattle.model.specs.Store.{settled, storedWord, index}
 use borrow.Author.Needs.{needs}
 use Rattle.runtime.proofs.steps.handler_step.Statement.{statement}
 use Rattle.runtime.proofs.steps.handler_step.Tie as tie
@@ -51,20 +51,20 @@ same-length c = search needs
 
 returns : tie.Need-returns
 unfolding handlerStep handled
-returns c = λ r. simp (c .before .before .before .before .before .enum-told .given .1, c .working .ensures, c .before .before .before .write-event .ensures)
+returns c = λ r. simp (c .before .before .before .before .before .enum-told .given .1, c .working .ensures, c .before .before .before .write-event .ensures .store, c .before .before .before .write-event .ensures .stored)
 
 same-length-2 : tie.Need-same-length-2
 same-length-2 c = search needs
 
 returns-2 : tie.Need-returns-2
 unfolding handlerStep handled
-returns-2 c = λ r. simp (c .before .before .before .before .before .enum-told2 .given .1, c .working2 .ensures, c .before .before .before .write-datum .ensures)
+returns-2 c = λ r. simp (c .before .before .before .before .before .enum-told2 .given .1, c .working2 .ensures, c .before .before .before .write-datum .ensures .store, c .before .before .before .write-datum .ensures .stored)
 
 same-length-3 : tie.Need-same-length-3
 same-length-3 c = search needs
 
 returns-3 : tie.Need-returns-3
-unfolding handlerStep handled settled index
+unfolding handlerStep handled settled storedWord index
 returns-3 c = λ r. simp (c .before .before .before .enum-told3 .given .1, c .working3 .ensures, c .before .after .ensures)
 
 pub handler-step-spec : {M : Type 1} → statement M

@@ -1,24 +1,24 @@
--- `store::queue::write_event` meets its contract: the store is the one that `settled` makes, for word 7 says where the
--- queue starts. Assumes nothing.
+-- `store::queue::write_event` meets its contract: the store is the one that `settled` makes and the word is its index, for word 7 says where
+-- the queue starts. Assumes nothing.
+use Rattle.model.specs.Store.{settled, storedWord, index}
 use borrow.Author.Needs.{needs}
-use Rattle.model.specs.Store.{settled, index}
 use Rattle.store.proofs.queue.write_event.Statement.{statement}
 use Rattle.store.proofs.queue.write_event.Tie as tie
 
-slice-read-queue : tie.Need-slice-read-queue
-slice-read-queue c = search needs
+slice-read-word : tie.Need-slice-read-word
+slice-read-word c = search needs
 
-cast-queue : tie.Need-cast-queue
-cast-queue c = search needs
+mul-word : tie.Need-mul-word
+mul-word c = search needs
+
+add-word : tie.Need-add-word
+add-word c = search needs
+
+cast-store : tie.Need-cast-store
+cast-store c = search needs
 
 mul-store : tie.Need-mul-store
 mul-store c = search needs
-
-add-store : tie.Need-add-store
-add-store c = search needs
-
-mul-store-2 : tie.Need-mul-store-2
-mul-store-2 c = search needs
 
 slice-write-store : tie.Need-slice-write-store
 slice-write-store c = search needs
@@ -27,18 +27,18 @@ same-length : tie.Need-same-length
 same-length c = search needs
 
 returns : tie.Need-returns
-unfolding settled index
-returns c = rw (c .before .pre .0 .queueStart)
+unfolding settled storedWord index
+returns c = record { store = rw (c .before .pre .0 .queueStart); stored = rw (c .before .pre .0 .queueStart) }
 
 pub write-event-spec : {M : Type 1} → statement M
 write-event-spec =
     tie.close
     (tie.spec
-    slice-read-queue
-    cast-queue
+    slice-read-word
+    mul-word
+    add-word
+    cast-store
     mul-store
-    add-store
-    mul-store-2
     slice-write-store
     same-length
     returns)
