@@ -1,22 +1,23 @@
--- What passed checks give, for all words and device states: of what step and post look at, and of a body at an instruction.
--- Assumes nothing.
-use Prim.Native.Nat.{ℕ, _+_, _*_, _≤_, _<_}
+-- What passed checks give, for all words and device states: of what step and post look at, and of a body at an instruction. And
+-- the way back for the former: `Fit` says what the early checks ask of the store by its parts and of the device, and they pass where
+-- it holds (`look-passes`). Each predicate is over just the words that it speaks of. Assumes nothing.
+use Prim.Native.Nat.{ℕ, zero, suc, _+_, _*_, _≤_, _<_}
 use mathlib.Core.Path.{_≡_, refl, sym, _∙_}
 use mathlib.Core.Logic.{_⊎_, inl, inr, ⊎-elim, _≢_}
 use mathlib.Core.Bool.{Bool, true, false, not}
 use mathlib.Core.List.{List}
 use native.Mathlib.Omega.{arith}
-use borrow.Author.Tests.{ltb-true, leb-true, eqb-true, eqb-false, eq-eqb, ne-eqb, not-true}
-use lib.Dec.{ltb}
+use borrow.Author.Tests.{ltb-true, leb-true, eqb-true, eqb-false, lt-ltb, le-leb, eq-eqb, ne-eqb, not-true}
+use lib.Dec.{ltb, eqb}
 use lib.ListN.{length}
 use Rattle.model.proofs.ProgramLaws.{Contents, contents-passed}
 use Rattle.model.proofs.StoreLaws.{Sized}
-use Rattle.model.proofs.TestLaws.{pick-case, pick-true, pick-false, clash, same-or, and-true, and-left, and-right, or-true-left, or-true-right, must-passed, then-first, then-rest}
-use Rattle.model.specs.Check.{rowsInside, limits, rowUsed, instructionRule}
+use Rattle.model.proofs.TestLaws.{pick-case, pick-true, pick-false, clash, same-or, and-true, and-left, and-right, or-true-left, or-true-right, not-false, must-true, must-passed, then-passed, then-first, then-rest}
+use Rattle.model.specs.Check.{contentsRule, rowsInside, limits, rowUsed, instructionRule}
 use Rattle.model.specs.Control.{Rule, obey, obeyAll, phaseRule, taskRule, openServing, countRule, pendingTaskRule, headRule, tailRule, pendingHeadRule, earlyRules}
-use Rattle.model.specs.Device.{taskLastStores, eventLastStores, lastStores, mayRun, endStores, placeSound, handlerSound, deviceSound, look, headSound, namedRow, openSound, headIs, placeFits, bodySound}
+use Rattle.model.specs.Device.{handled, lastStores, mayRun, endStores, placeSound, handlerSound, deviceSound, look, headSound, namedRow, openSound, headIs, placeFits, bodySound}
 use Rattle.model.specs.Program.{word, tasks, events, memoryWords, total, start, instructions, transaction, firstBody, number}
-use Rattle.model.specs.Store.{Store, view, after, storeRule, sizesRule, Write}
+use Rattle.model.specs.Store.{Store, view, after, storeRule, sizesRule}
 use Rattle.model.specs.Test.{pick, _and_, _or_}
 use Rattle.model.specs.Types.{Body, Checked, Device, Effect, Free, Half, Handler, Place, Resting, Run, Storing}
 
@@ -65,21 +66,35 @@ spoken true true e f = refl
 spoken true false e f = e
 spoken false k e f = clash f refl
 
--- a rule that isn't broken is kept where it speaks
+unspoken : (a k : Bool) → (a ≡ true → k ≡ true) → not (a and not k) ≡ true
+unfolding _and_
+unspoken true k f = rw (f refl)
+unspoken false k f = refl
+
+-- a rule that isn't broken is kept where it speaks, and the other way round
 pub obeyed : (r : Rule) → obey r ≡ Checked.Accepted → r .asked ≡ true → r .kept ≡ true
 unfolding obey
 obeyed r e = spoken (r .asked) (r .kept) (must-passed _ _ e)
 
-pub record Controlled (p : List ℕ) (v : Store) : Type 0 where
-  pub phase-in : v .phase ≤ 2
-  pub task-in : v .task < tasks p
-  pub head-in : v .head ≤ v .records
-  pub tail-in : v .tail ≤ v .records
-  pub count-in : v .phase ≢ 0 → v .count ≤ v .pairs
-  pub pending-task : v .phase ≡ 1 → v .pending < tasks p
-  pub pending-head : v .phase ≡ 2 → v .pending ≤ v .records
-  pub pending-is : v .phase ≡ 2 → (v .pending ≡ v .head) ⊎ ((v .pending ≡ after (v .records) (v .head)) × (v .head ≢ v .tail))
-  pub open-none : v .phase ≡ 2 → v .openNumber ≡ 0
+pub obey-if : (r : Rule) → (r .asked ≡ true → r .kept ≡ true) → obey r ≡ Checked.Accepted
+unfolding obey
+obey-if r f = must-true _ (unspoken (r .asked) (r .kept) f)
+
+-- over the sizes and the words singly, so that a proof stands as it is after a store to another word
+pub record ControlledBy (p : List ℕ) (l q phase task open′ n pending h t : ℕ) : Type 0 where
+  pub phase-in : phase ≤ 2
+  pub task-in : task < tasks p
+  pub head-in : h ≤ q
+  pub tail-in : t ≤ q
+  pub count-in : phase ≢ 0 → n ≤ l
+  pub pending-task : phase ≡ 1 → pending < tasks p
+  pub pending-head : phase ≡ 2 → pending ≤ q
+  pub pending-is : phase ≡ 2 → (pending ≡ h) ⊎ ((pending ≡ after q h) × (h ≢ t))
+  pub open-none : phase ≡ 2 → open′ ≡ 0
+
+abbrev pub Controlled : List ℕ → Store → Type 0
+Controlled p v =
+    ControlledBy p (v .pairs) (v .records) (v .phase) (v .task) (v .openNumber) (v .count) (v .pending) (v .head) (v .tail)
 
 pub control-passed : (p : List ℕ) (v : Store) → obeyAll (earlyRules p v) ≡ Checked.Accepted → Controlled p v
 unfolding earlyRules obeyAll phaseRule taskRule openServing countRule pendingTaskRule pendingHeadRule headRule tailRule
@@ -114,21 +129,69 @@ control-passed p v e0 =
       open-none = λ q. eqb-true _ _ (obeyed _ (then-first _ _ e2) (eq-eqb _ _ q));
     }
 
+commits : (n : ℕ) → (eqb n 1 or eqb n 2) ≡ true → n ≢ 0
+unfolding _or_
+commits zero e z = clash e refl
+commits (suc n) e z = omega arith
+
+pub control-passes : (p : List ℕ) (v : Store) → Controlled p v → obeyAll (earlyRules p v) ≡ Checked.Accepted
+unfolding earlyRules obeyAll phaseRule taskRule openServing countRule pendingTaskRule pendingHeadRule headRule tailRule
+control-passes p v h =
+    then-passed (obey-if _ (λ _. le-leb _ _ (h .phase-in)))
+    (then-passed (obey-if _ (λ _. lt-ltb _ _ (h .task-in)))
+    (then-passed (obey-if _ (λ e. eq-eqb _ _ (h .open-none (eqb-true _ _ e))))
+    (then-passed (obey-if _ (λ e. le-leb _ _ (h .count-in (commits (v .phase) e))))
+    (then-passed (obey-if _ (λ e. lt-ltb _ _ (h .pending-task (eqb-true _ _ e))))
+    (then-passed (obey-if _ (λ e. moves (eqb-true _ _ (and-left _ _ e))))
+    (then-passed (obey-if _ (λ _. le-leb _ _ (h .head-in))) (then-passed (obey-if _ (λ _. le-leb _ _ (h .tail-in))) refl)))))))
+  where
+    moves : v .phase ≡ 2 → pendingHeadRule v .kept ≡ true
+    moves q =
+        and-true (le-leb _ _ (h .pending-head q))
+        (⊎-elim (λ a. or-true-left _ _ (eq-eqb _ _ a))
+        (λ a. or-true-right _ _ (and-true (eq-eqb _ _ (a .0)) (not-false (ne-eqb _ _ (a .1))))) (h .pending-is q))
+
+-- in phase 0 the words 11 to 13 are free
+pub control-still : (p : List ℕ) (l q phase task open′ n pending h t : ℕ) → phase ≡ 0 → task < tasks p → h ≤ q → t ≤ q
+    → ControlledBy p l q phase task open′ n pending h t
+control-still p l q phase task open′ n pending h t z a b c =
+    record {
+      phase-in = omega (arith, z);
+      task-in = a;
+      head-in = b;
+      tail-in = c;
+      count-in = λ ne. absurd (ne z);
+      pending-task = λ e. absurd (omega (arith, z, e));
+      pending-head = λ e. absurd (omega (arith, z, e));
+      pending-is = λ e. absurd (omega (arith, z, e));
+      open-none = λ e. absurd (omega (arith, z, e));
+    }
+
 -- ---- 25, early: the device
 
-abbrev pub MayRun : List ℕ → Store → Body → Type 0
-MayRun p v (Body.Task t) = t ≡ v .task
-MayRun p v (Body.Event e) = (e < events p) × (v .openNumber ≡ 0) × (v .head ≢ v .tail)
+abbrev pub MayRunBy : List ℕ → ℕ → ℕ → ℕ → ℕ → Body → Type 0
+MayRunBy p task open′ h t (Body.Task n) = n ≡ task
+MayRunBy p task open′ h t (Body.Event e) = (e < events p) × (open′ ≡ 0) × (h ≢ t)
 
--- with a log count of l
+abbrev pub MayRun : List ℕ → Store → Body → Type 0
+MayRun p v b = MayRunBy p (v .task) (v .openNumber) (v .head) (v .tail) b
+
+-- with n pairs to copy and k stores behind them, and with a log count of l
+abbrev pub StandsBy : List ℕ → ℕ → ℕ → ℕ → ℕ → ℕ → ℕ → ℕ → ℕ → ℕ → Place → Type 0
+StandsBy p pairs phase task open′ n h t k l (Free c) = (phase ≡ 0 → c ≡ 0) × (phase ≢ 0 → c < n + k)
+StandsBy p pairs phase task open′ n h t k l (Run b j c) = (phase ≡ 0) × MayRunBy p task open′ h t b × (c < endStores b)
+StandsBy p pairs phase task open′ n h t k l (Half b j) = (phase ≡ 0) × MayRunBy p task open′ h t b × (l < pairs)
+
 abbrev pub Stands : List ℕ → Store → ℕ → Place → Type 0
-Stands p v l (Free c) = (v .phase ≡ 0 → c ≡ 0) × (v .phase ≢ 0 → c < v .count + length (lastStores v))
-Stands p v l (Run b j c) = (v .phase ≡ 0) × MayRun p v b × (c < endStores b)
-Stands p v l (Half b j) = (v .phase ≡ 0) × MayRun p v b × (l < v .pairs)
+Stands p v l x =
+    StandsBy p (v .pairs) (v .phase) (v .task) (v .openNumber) (v .count) (v .head) (v .tail) (length (lastStores v)) l x
+
+abbrev pub AttendsBy : List ℕ → ℕ → ℕ → ℕ → Handler → Type 0
+AttendsBy p q h t Resting = Unit {0}
+AttendsBy p q h t (Storing n e x) = (e < events p) × (after q t ≢ h)
 
 abbrev pub Attends : List ℕ → Store → Handler → Type 0
-Attends p v Resting = Unit {0}
-Attends p v (Storing n e x) = (e < events p) × (after (v .records) (v .tail) ≢ v .head)
+Attends p v x = AttendsBy p (v .records) (v .head) (v .tail) x
 
 may-run : (p : List ℕ) (v : Store) (b : Body) → mayRun p v b ≡ true → MayRun p v b
 unfolding mayRun
@@ -136,6 +199,11 @@ may-run p v (Body.Task t) e = eqb-true _ _ e
 may-run p v (Body.Event n) e =
     let f = and-right _ _ e in
     (ltb-true _ _ (and-left _ _ e), eqb-true _ _ (and-left _ _ f), eqb-false _ _ (not-true _ (and-right _ _ f)))
+
+may-pass : (p : List ℕ) (v : Store) (b : Body) → MayRun p v b → mayRun p v b ≡ true
+unfolding mayRun
+may-pass p v (Body.Task t) m = eq-eqb _ _ m
+may-pass p v (Body.Event e) m = and-true (lt-ltb _ _ (m .0)) (and-true (eq-eqb _ _ (m .1)) (not-false (ne-eqb _ _ (m .2))))
 
 stands : (p : List ℕ) (v : Store) (l : ℕ) (x : Place) → placeSound p v l x ≡ true → Stands p v l x
 unfolding placeSound
@@ -150,24 +218,27 @@ stands p v l (Half b j) e =
     let f = and-right _ _ e in
     (eqb-true _ _ (and-left _ _ e), may-run p v b (and-left _ _ f), ltb-true _ _ (and-right _ _ f))
 
+place-passes : (p : List ℕ) (v : Store) (l : ℕ) (x : Place) → Stands p v l x → placeSound p v l x ≡ true
+unfolding placeSound
+place-passes p v l (Free c) m =
+    pick-case (λ (b : Bool). b ≡ true) (λ e. eq-eqb _ _ (m .0 (eqb-true _ _ e))) (λ e. lt-ltb _ _ (m .1 (eqb-false _ _ e)))
+place-passes p v l (Run b j c) m = and-true (eq-eqb _ _ (m .0)) (and-true (may-pass p v b (m .1)) (lt-ltb _ _ (m .2)))
+place-passes p v l (Half b j) m = and-true (eq-eqb _ _ (m .0)) (and-true (may-pass p v b (m .1)) (lt-ltb _ _ (m .2)))
+
 attends : (p : List ℕ) (v : Store) (h : Handler) → handlerSound p v h ≡ true → Attends p v h
 unfolding handlerSound
 attends p v Resting e = tt
 attends p v (Storing n x y) e = (ltb-true _ _ (and-left _ _ e), eqb-false _ _ (not-true _ (and-right _ _ e)))
 
--- the stores after the copies are few, and so are those of a body's end
-pub most-last : (v : Store) → length (lastStores v) ≤ 3
-unfolding lastStores taskLastStores eventLastStores
-most-last v = pick-case (λ (ws : List Write). length ws ≤ 3) (λ _. omega arith) (λ _. omega arith)
-
-pub most-end : (b : Body) → endStores b ≤ 4
-unfolding endStores
-most-end (Body.Task t) = omega arith
-most-end (Body.Event e) = omega arith
+handler-passes : (p : List ℕ) (v : Store) (h : Handler) → Attends p v h → handlerSound p v h ≡ true
+unfolding handlerSound
+handler-passes p v Resting m = refl
+handler-passes p v (Storing n e x) m = and-true (lt-ltb _ _ (m .0)) (not-false (ne-eqb _ _ (m .1)))
 
 -- ---- what step and post look at
 
 pub record Early (p s : List ℕ) (d : Device) : Type 0 where
+  pub passed : look p s d ≡ Checked.Accepted
   pub contents : Contents p
   pub shaped : Shaped p s
   pub control : Controlled p (view s)
@@ -186,6 +257,7 @@ look-passed p s d e0 =
     let sound = sym (pick-true _ _ on) ∙ must-passed _ _ (then-first _ _ e3) in
     let rest = and-right _ _ sound in
     record {
+      passed = e0;
       contents = contents-passed p (then-first _ _ e0);
       shaped = store-passed p s (then-first _ _ e1);
       control = control-passed p (view s) (then-first _ _ e2);
@@ -194,6 +266,35 @@ look-passed p s d e0 =
       place = stands p (view s) (d .count) (d .place) (and-left _ _ rest);
       handler = attends p (view s) (d .handler) (and-right _ _ rest);
     }
+
+-- what they ask of the store by its parts and of the device
+pub record Fit (p : List ℕ) (v : Store) (d : Device) : Type 0 where
+  pub control : Controlled p v
+  pub on : d .on ≡ true
+  pub count-in : d .count ≤ v .pairs
+  pub place : Stands p v (d .count) (d .place)
+  pub handler : Attends p v (d .handler)
+
+pub early-fit : {p s : List ℕ} {d : Device} → Early p s d → Fit p (view s) d
+early-fit h = record { control = h .control; on = h .on; count-in = h .count-in; place = h .place; handler = h .handler }
+
+pub look-passes : (p s : List ℕ) (d : Device) → contentsRule p ≡ Checked.Accepted → storeRule p s ≡ Checked.Accepted → Fit p (view s) d
+    → look p s d ≡ Checked.Accepted
+unfolding look deviceSound
+look-passes p s d contents rule fit =
+    let v = view s in
+    let rest = and-true (place-passes p v (d .count) (d .place) (fit .place)) (handler-passes p v (d .handler) (fit .handler)) in
+    let sound = pick-true _ _ (fit .on) ∙ and-true (le-leb _ _ (fit .count-in)) rest in
+    then-passed contents
+    (then-passed rule (then-passed (control-passes p v (fit .control)) (then-passed (must-true _ sound) (must-true _ (fit .on)))))
+
+-- they pass with the handler at rest as well
+pub look-rests : (p s : List ℕ) (d : Device) → look p s d ≡ Checked.Accepted → look p s (handled d Resting) ≡ Checked.Accepted
+unfolding look handled
+look-rests p s d e =
+    let h = look-passed p s d e in
+    look-passes p s (handled d Resting) (then-first _ _ e) (then-first _ _ (then-rest _ _ e))
+    (record { control = h .control; on = h .on; count-in = h .count-in; place = h .place; handler = tt })
 
 -- ---- a row that is used
 

@@ -14,6 +14,7 @@ pub mod Fresh
 pub mod Recovery
 pub mod Demand3
 pub mod Early
+pub mod DeviceLaws
 pub mod LookStays
 pub mod CallLaws
 pub mod Observed
@@ -25,3 +26,4 @@ pub mod Blamed
 pub mod Definitions
 pub mod Starred
 pub mod Rows
+pub mod All

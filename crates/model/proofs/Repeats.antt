@@ -1,372 +1,184 @@
--- After 23 or 24 every step repeats that refusal until a cut, save for handler steps: for all words and device states. What a handler
--- stores, tail and the tail's slot, is nothing that such a step reads. Assumes nothing.
-use Prim.Native.Nat.{ℕ, zero, suc, _+_, _-_, _*_, _≤_, _<_}
+-- After 23 or 24 every step repeats that refusal until a cut, save for handler steps: for all words and device states. `why` says that
+-- an instruction met it; what a handler stores, tail and the tail's slot, is nothing that the instruction reads, and the early checks
+-- pass again (LookStays). Assumes nothing.
+use Prim.Native.Nat.{ℕ, _+_, _*_}
 use mathlib.Core.Path.{_≡_, refl, sym, ap, _∙_, subst}
-use mathlib.Core.Logic.{_⊎_, inl, inr, _≢_}
+use mathlib.Core.Logic.{_≢_}
 use mathlib.Core.Bool.{Bool, true, false, not}
 use mathlib.Core.List.{List, [], _∷_}
 use native.Mathlib.Omega.{arith}
-use borrow.Author.Tests.{le-leb, ne-eqb, eqb-true, eqb-false, not-true}
-use lib.Dec.{ltb, leb, eqb}
-use lib.ListN.{length, set}
+use lib.Dec.{leb, eqb}
+use lib.ListN.{set}
 use lib.Seq.{getD-set-other}
-use Rattle.model.proofs.Checks.{obey-kept, obey-unasked}
-use Rattle.model.proofs.Early.{Early, Stands, MayRun, look-passed, Controlled, Shaped}
-use Rattle.model.proofs.Numbers.{Low, low-contents, low-store}
-use Rattle.model.proofs.Refused.{Bare, refused-is}
-use Rattle.model.proofs.RingLaws.{after-le}
-use Rattle.model.proofs.StoreLaws.{viewAt, apply, requeued, Sized, Inside, view-after, rule-kept}
-use Rattle.model.proofs.TestLaws.{pick-case, pick-true, pick-false, clash, and-true, and-left, and-right, not-false, must-true, then-passed, then-first, then-rest, must-passed}
+use Rattle.model.proofs.DeviceLaws.{judged-case, step-refused, step-goes, step-acts, load-refused, save-refused, save-full, RunsAt, Meets, by-record, by-pair, by-body, load-above, save-above, log-full, Why, looked, met, why}
+use Rattle.model.proofs.Early.{Early, MayRun, look-rests}
+use Rattle.model.proofs.LookStays.{look-stays}
+use Rattle.model.proofs.Numbers.{Low, low-contents, low-store, low-inside, low-used, low-body}
+use Rattle.model.proofs.StoreLaws.{apply, requeued, Inside, view-after}
+use Rattle.model.proofs.TestLaws.{clash, must-passed, then-rest, Refuses, refuses-accepted, refuses-must, refuses-then}
 use Rattle.model.specs.Answer.{refusal}
 use Rattle.model.specs.Calls.{Call, Boot, Step, Cut, Post, call, afterCalls}
-use Rattle.model.specs.Check.{contentsRule}
-use Rattle.model.specs.Claims.{Stays, address, logFull, uncut, RefusalStays}
-use Rattle.model.specs.Control.{Rule, obey, obeyAll, earlyRules, phaseRule, taskRule, openRule, openServing, countRule, pendingTaskRule, headRule, tailRule, pendingHeadRule}
-use Rattle.model.specs.Device.{Out, out, refuse, judged, handled, deviceSound, placeSound, mayRun, handlerSound, look, boot, bootCheck, post, postCheck, handlerStep, copyStep, pairSound, storing, eventStores, chooseStep, recordSound, headSound, headIs, openSound, bodySound, shown, saveStep, act, saveRest, placeStep, nextStep, step}
-use Rattle.model.specs.Program.{word, events, memoryWords, number, effectAt}
-use Rattle.model.specs.Store.{Store, view, event, find, Word, Event, Datum, Tail, Write, none, to, settled, after, empty, storeRule}
-use Rattle.model.specs.Test.{pick, _and_, must, _then_}
-use Rattle.model.specs.Types.{Answer, Body, Checked, Device, Effect, Found, Free, Half, Handler, Next, Place, Refusal, Resting, Run, Storing}
-
--- ---- what a body's step reads of the queue is the record at head, if it is an event
-
-abbrev SameHead : Store → List ℕ → Body → Type 0
-SameHead v queue (Body.Task t) = Unit {0}
-SameHead v queue (Body.Event e) = word queue (2 * v .head) ≡ event v (v .head)
-
-body-same : (p : List ℕ) (v : Store) (queue : List ℕ) (t : ℕ) (x : Place) (b : Body) (j : ℕ) (f : Effect) → SameHead v queue b
-    → bodySound p (requeued v queue t) x b j f ≡ bodySound p v x b j f
-unfolding bodySound headSound recordSound openSound headIs openRule taskRule
-body-same p v queue t x (Body.Task n) j f h = refl
-body-same p v queue t x (Body.Event n) j f h = rw h
-
--- such a step is the same where tail and the tail's slot are other ones
-save-same : (p : List ℕ) (v : Store) (queue : List ℕ) (t : ℕ) (d : Device) (b : Body) (j a x : ℕ) (f : Found)
-    → saveStep (requeued v queue t) d b j a x f ≡ saveStep v d b j a x f
-unfolding saveStep
-save-same p v queue t d b j a x (Found.Pair i) = refl
-save-same p v queue t d b j a x Found.Nothing = refl
-
-shown-same : (v : Store) (queue : List ℕ) (t : ℕ) (f : Found) (a : ℕ) → shown (requeued v queue t) f a ≡ shown v f a
-unfolding shown
-shown-same v queue t (Found.Pair i) a = refl
-shown-same v queue t Found.Nothing a = refl
-
-act-same : (p : List ℕ) (v : Store) (queue : List ℕ) (t : ℕ) (d : Device) (b : Body) (j c : ℕ) (f : Effect)
-    → act p (requeued v queue t) d b j c f ≡ act p v d b j c f
-unfolding act eventStores
-act-same p v queue t d b j c (Effect.Compute a x) = refl
-act-same p v queue t d b j c (Effect.Jump a) = refl
-act-same p v queue t d b j c (Effect.Read a x) = rw (shown-same v queue t (find (v .log) (d .count) x) x)
-act-same p v queue t d b j c (Effect.Write x y) = rw (save-same p v queue t d b j x y (find (v .log) (d .count) x))
-act-same p v queue t d b j c (Effect.EndTask a) = refl
-act-same p v queue t d b j c Effect.EndEvent = refl
-act-same p v queue t d b j c Effect.Unknown = refl
-
-abbrev Busy : Place → Type 0
-Busy (Free c) = ⊥
-Busy (Run b j c) = Unit {0}
-Busy (Half b j) = Unit {0}
-
-abbrev bodyOf : Place → Body
-bodyOf (Free c) = Body.Task 0
-bodyOf (Run b j c) = b
-bodyOf (Half b j) = b
-
-step-same : (p : List ℕ) (v : Store) (queue : List ℕ) (t : ℕ) (d : Device) (x : Place) → Busy x → SameHead v queue (bodyOf x)
-    → placeStep p (requeued v queue t) d x ≡ placeStep p v d x
-unfolding placeStep
-step-same p v queue t d (Free c) u h = absurd u
-step-same p v queue t d (Run b j c) u h =
-    let f = effectAt p (number p b) j (d .regs) in
-    rw (body-same p v queue t (Run b j c) b j f h, act-same p v queue t d b j c f)
-step-same p v queue t d (Half b j) u h =
-    rw (body-same p v queue t (Half b j) b j (effectAt p (number p b) j (d .regs)) h)
+use Rattle.model.specs.Claims.{Stays, address, logFull, uncut, RefusalStays, soundAfter}
+use Rattle.model.specs.Control.{Rule, obey, obeyAll, openRule, taskRule}
+use Rattle.model.specs.Device.{Out, out, refuse, handled, look, boot, bootCheck, post, postCheck, handlerStep, recordSound, headSound, headIs, openSound, bodySound, act, nextStep, step}
+use Rattle.model.specs.Program.{word, memoryWords, number}
+use Rattle.model.specs.Store.{Store, view, event, after, Word, Event, Datum, Tail, to, settled}
+use Rattle.model.specs.Test.{_or_, must}
+use Rattle.model.specs.Types.{Answer, Body, Checked, Device, Effect, Handler, Next, Place, Refusal, Resting, Run, Storing}
 
 -- ---- 23 and 24 come from an instruction alone
 
-loud : Refusal → Bool
-loud r = leb 23 (refusal r .number) and leb (refusal r .number) 24
+late : Refusal → Bool
+late r = eqb (refusal r .number) 23 or eqb (refusal r .number) 24
 
-abbrev Quiet : Checked → Type 0
-Quiet c = (r : Refusal) → Stays r → c ≡ Checked.Refused r → ⊥
+stays-late : (r : Refusal) → Stays r → late r ≡ true
+unfolding late refusal _or_
+stays-late r address = refl
+stays-late r logFull = refl
 
-stays-loud : (r : Refusal) → Stays r → loud r ≡ true
-unfolding loud refusal _and_
-stays-loud r address = refl
-stays-loud r logFull = refl
-
-loud-high : (r : Refusal) → Stays r → leb (refusal r .number) 6 ≡ false
+stays-high : (r : Refusal) → Stays r → leb (refusal r .number) 6 ≡ false
 unfolding refusal
-loud-high r address = refl
-loud-high r logFull = refl
+stays-high r address = refl
+stays-high r logFull = refl
 
-quiet-must : (b : Bool) (r : Refusal) → loud r ≡ false → Quiet (must b r)
-unfolding must
-quiet-must true r e q s f = let z : _≡_ {A = ℕ} 0 1 = cc in omega arith
-quiet-must false r e q s f = let g : r ≡ q = cc in clash (ap loud g ∙ stays-loud q s) e
+-- a check that refuses otherwise
+abbrev Other : Checked → Type 0
+Other c = Refuses (λ r. Stays r → ⊥) c
 
-quiet-then : (a b : Checked) → Quiet a → Quiet b → Quiet (a then b)
-unfolding _then_
-quiet-then Checked.Accepted b f g = g
-quiet-then (Checked.Refused r) b f g = f
+other-must : (b : Bool) (r : Refusal) → late r ≡ false → Other (must b r)
+other-must b r e = refuses-must b r (λ _ w. clash (stays-late r w) e)
 
-quiet-control : (b : Bool) (w : ℕ) → Quiet (must b (Refusal.Control w))
-unfolding loud refusal _and_
-quiet-control b w = quiet-must b (Refusal.Control w) refl
+other-low : (c : Checked) → Low c → Other c
+other-low c l = record { with-such = λ r e w. clash (l .with-such r e) (stays-high r w) }
 
-quiet-rules : (rs : List Rule) → Quiet (obeyAll rs)
-unfolding obeyAll obey
-quiet-rules [] = λ r s e. let z : _≡_ {A = ℕ} 0 1 = cc in omega arith
-quiet-rules (r ∷ rs) = quiet-then _ _ (quiet-control _ _) (quiet-rules rs)
+other-rules : (rs : List Rule) → Other (obeyAll rs)
+unfolding obeyAll obey late refusal _or_
+other-rules [] = refuses-accepted
+other-rules (r ∷ rs) = refuses-then _ _ (other-must _ _ refl) (other-rules rs)
 
-quiet-low : (c : Checked) → Low c → Quiet c
-unfolding loud refusal _and_
-quiet-low c l r w e = clash (l r e) (loud-high r w)
+other-look : (p s : List ℕ) (d : Device) → Other (look p s d)
+unfolding look late refusal _or_
+other-look p s d =
+    refuses-then _ _ (other-low _ (low-contents p))
+    (refuses-then _ _ (other-low _ (low-store p s)) (refuses-then _ _ (other-rules _) (refuses-then _ _ (other-must _ _ refl) (other-must _ _ refl))))
 
-quiet-look : (p s : List ℕ) (d : Device) → Quiet (look p s d)
-unfolding look loud refusal _and_
-quiet-look p s d =
-    quiet-then _ _ (quiet-low _ (low-contents p))
-    (quiet-then _ _ (quiet-low _ (low-store p s)) (quiet-then _ _ (quiet-rules _) (quiet-then _ _ (quiet-must _ _ refl) (quiet-must _ _ refl))))
+other-head : (p : List ℕ) (v : Store) (b : Body) → Other (headSound p v b)
+unfolding headSound recordSound late refusal _or_
+other-head p v (Body.Task t) = refuses-accepted
+other-head p v (Body.Event e) = other-must _ _ refl
 
--- an outcome that doesn't answer 23 or 24
-abbrev Silent : Out → Type 0
-Silent o = (r : Refusal) → Stays r → o .answer ≡ Answer.Refused r → ⊥
+other-open : (p : List ℕ) (v : Store) (b : Body) → Other (openSound p v b)
+unfolding openSound obey late refusal _or_
+other-open p v (Body.Task t) = other-must _ _ refl
+other-open p v (Body.Event e) = refuses-accepted
 
-silent-judged : (c : Checked) (d : Device) (o : Out) → Quiet c → Silent o → Silent (judged c d o)
-unfolding judged
-silent-judged Checked.Accepted d o q h = h
-silent-judged (Checked.Refused r) d o q h = λ s w e. q s w (let f : r ≡ s = cc in ap Checked.Refused f)
+other-body : (p : List ℕ) (v : Store) (x : Place) (b : Body) (j : ℕ) (f : Effect) → Other (bodySound p v x b j f)
+unfolding bodySound late refusal _or_
+other-body p v x b j f =
+    refuses-then _ _ (other-head p v b)
+    (refuses-then _ _ (other-low _ (low-inside p))
+    (refuses-then _ _ (other-low _ (low-used p (number p b)))
+    (refuses-then _ _ (other-low _ (low-body p (number p b) j _ f)) (refuses-then _ _ (other-open p v b) (other-must _ _ refl)))))
 
-pick-both : (b : Bool) → pick b Answer.Stored Answer.Stored ≡ Answer.Stored
-pick-both b = pick-case (λ (a : Answer). a ≡ Answer.Stored) (λ _. refl) (λ _. refl)
+-- ---- the same refusal where the queue and tail are other ones, but for the record at head
 
-silent-stored : (ws : List Write) (c : ℕ) (d : Device) → Silent (storing ws c d Answer.Stored)
-unfolding storing
-silent-stored ws c d r s e = by-last (eqb (c + 1) (length ws)) e
-  where
-    by-last : (b : Bool) → pick b Answer.Stored Answer.Stored ≡ Answer.Refused r → ⊥
-    by-last b f = let g : Answer.Stored ≡ Answer.Refused r = sym (pick-both b) ∙ f in let z : _≡_ {A = ℕ} 0 1 = cc in omega arith
+module _ (p : List ℕ) (v : Store) (queue : List ℕ) (t : ℕ) (same : v .head ≢ v .tail → word queue (2 * v .head) ≡ event v (v .head)) where
+  -- what a body's checks read of the queue is the record at head, if it is an event
+  body-same : (x : Place) (b : Body) (j : ℕ) (f : Effect) → MayRun p v b → bodySound p (requeued v queue t) x b j f ≡ bodySound p v x b j f
+  unfolding bodySound headSound recordSound openSound headIs openRule taskRule
+  body-same x (Body.Task n) j f m = refl
+  body-same x (Body.Event n) j f m = rw (same (m .2))
 
-silent-free : (p : List ℕ) (v : Store) (d : Device) (c : ℕ) → Silent (placeStep p v d (Free c))
-unfolding placeStep chooseStep copyStep recordSound pairSound
-silent-free p v d c =
-    pick-case Silent
-    (λ _.
-    pick-case Silent (λ _. silent-judged _ _ _ (quiet-control _ _) (λ r s e. let z : _≡_ {A = ℕ} 0 1 = cc in omega arith))
-    (λ _ r s e. let z : _≡_ {A = ℕ} 0 1 = cc in omega arith))
-    (λ _.
-    pick-case Silent (λ _. silent-judged _ _ _ (quiet-control _ _) (λ r s e. let z : _≡_ {A = ℕ} 0 1 = cc in omega arith))
-    (λ _. silent-stored _ _ _))
+  module _ (s : List ℕ) (d : Device) (rests : d .handler ≡ Resting) (looks : look p s d ≡ Checked.Accepted) (parts : view s ≡ requeued v queue t) where
+    acts-again : {b : Body} {j c : ℕ} {f : Effect} {r : Refusal} → RunsAt p v d b j c f → act p (requeued v queue t) d b j c f ≡ refuse d r
+        → step p s d .answer ≡ Answer.Refused r
+    acts-again {b} {j} {c} {f} h e =
+        ap (λ (o : Out). o .answer)
+        (step-acts p s d looks rests b j c f (h .place) (h .does) (rw parts (body-same (Run b j c) b j f (h .stands .1) ∙ h .sound))
+        ∙ ap (λ (u : Store). act p u d b j c f) parts
+        ∙ e)
+
+    again : (r : Refusal) → Stays r → Meets p v d r → step p s d .answer ≡ Answer.Refused r
+    unfolding late refusal _or_
+    again r w (by-record h o ne l) = clash (stays-late _ w) refl
+    again r w (by-pair h l m) = clash (stays-late _ w) refl
+    again r w (by-body x b j f q z m e) = absurd (other-body p v x b j f .with-such r e w)
+    again r w (load-above h l) = acts-again h (load-refused p _ d _ _ _ _ _ l)
+    again r w (save-above h l) = acts-again h (save-refused p _ d _ _ _ _ _ l)
+    again r w (log-full h l e k) = acts-again h (save-full p _ d _ _ _ _ _ l e k)
 
 -- ---- a step that 23 or 24 refuses, were its handler at rest
 
-record Stuck (p s : List ℕ) (d : Device) (r : Refusal) : Type 0 where
-  looks : look p s (handled d Resting) ≡ Checked.Accepted
-  refuses : placeStep p (view s) (handled d Resting) (d .place) .answer ≡ Answer.Refused r
+abbrev Stuck : List ℕ → List ℕ → Device → Refusal → Type 0
+Stuck p s d r = step p s (handled d Resting) .answer ≡ Answer.Refused r
 
-busy : (p : List ℕ) (v : Store) (d : Device) (r : Refusal) (x : Place) → Stays r → placeStep p v d x .answer ≡ Answer.Refused r → Busy x
-busy p v d r (Free c) h e = absurd (silent-free p v d c r h e)
-busy p v d r (Run b j c) h e = tt
-busy p v d r (Half b j) h e = tt
-
-rests : (d : Device) → d .handler ≡ Resting → handled d Resting ≡ d
+rests-is : (d : Device) → d .handler ≡ Resting → handled d Resting ≡ d
 unfolding handled
-rests d e = λ i. record { on = d .on; regs = d .regs; place = d .place; count = d .count; handler = sym e i }
+rests-is d e = λ i. record { on = d .on; regs = d .regs; place = d .place; count = d .count; handler = sym e i }
 
 -- it begins so
-handler-silent : (v : Store) (d : Device) (n : Next) (e x : ℕ) → Silent (handlerStep v d n e x)
-unfolding handlerStep
-handler-silent v d Next.Event e x = λ r s f. let z : _≡_ {A = ℕ} 0 1 = cc in omega arith
-handler-silent v d Next.Data e x = λ r s f. let z : _≡_ {A = ℕ} 0 1 = cc in omega arith
-handler-silent v d Next.Tail e x = λ r s f. let z : _≡_ {A = ℕ} 0 1 = cc in omega arith
-
-stuck-handler : (p s : List ℕ) (d : Device) (r : Refusal) → Stays r → look p s d ≡ Checked.Accepted → (x : Handler) → d .handler ≡ x
-    → nextStep p (view s) d x .answer ≡ Answer.Refused r → Stuck p s d r
-unfolding nextStep
-stuck-handler p s d r h l Resting q e =
-    record { looks = ap (look p s) (rests d q) ∙ l; refuses = ap (λ (u : Device). placeStep p (view s) u (d .place) .answer) (rests d q) ∙ e }
-stuck-handler p s d r h l (Storing n y x) q e = absurd (handler-silent (view s) d n y x r h e)
-
-stuck-look : (p s : List ℕ) (d : Device) (r : Refusal) → Stays r → (c : Checked) → look p s d ≡ c
-    → judged c d (nextStep p (view s) d (d .handler)) .answer ≡ Answer.Refused r → Stuck p s d r
-unfolding judged
-stuck-look p s d r h Checked.Accepted l e = stuck-handler p s d r h l (d .handler) refl e
-stuck-look p s d r h (Checked.Refused q) l e = absurd (quiet-look p s d r h (let f : q ≡ r = cc in l ∙ ap Checked.Refused f))
-
 stuck-first : (p s : List ℕ) (d : Device) (r : Refusal) → Stays r → step p s d .answer ≡ Answer.Refused r → Stuck p s d r
-unfolding step
-stuck-first p s d r h e = stuck-look p s d r h (look p s d) refl e
-
--- and it repeats
-stuck-repeats : (p s : List ℕ) (d : Device) (r : Refusal) → Stuck p s d r → d .handler ≡ Resting → step p s d .answer ≡ Answer.Refused r
-unfolding step nextStep judged
-stuck-repeats p s d r k q =
-    ap (λ (x : Checked). judged x d (nextStep p (view s) d (d .handler)) .answer) (ap (look p s) (sym (rests d q)) ∙ k .looks)
-    ∙ ap (λ (x : Handler). nextStep p (view s) d x .answer) q
-    ∙ ap (λ (u : Device). placeStep p (view s) u (d .place) .answer) (sym (rests d q))
-    ∙ k .refuses
-
--- ---- a store by the handler
-
-module _ (p : List ℕ) (v : Store) (queue : List ℕ) (t : ℕ) (t-in : t ≤ v .records) where
-  abbrev u : Store
-  u = requeued v queue t
-
-  pending-unasked : v .phase ≡ 0 → pendingHeadRule u .asked ≡ false
-  unfolding pendingHeadRule _and_
-  pending-unasked z = rw (ap (λ (x : ℕ). eqb x 2) z)
-
-  tail-kept : tailRule u .kept ≡ true
-  unfolding tailRule
-  tail-kept = le-leb _ _ t-in
-
-  early-requeued : v .phase ≡ 0 → obeyAll (earlyRules p v) ≡ Checked.Accepted → obeyAll (earlyRules p u) ≡ Checked.Accepted
-  unfolding earlyRules obeyAll phaseRule taskRule openServing countRule pendingTaskRule headRule
-  early-requeued z e0 =
-      let e1 = then-rest _ _ e0 in
-      let e2 = then-rest _ _ e1 in
-      let e3 = then-rest _ _ e2 in
-      let e4 = then-rest _ _ e3 in
-      let e5 = then-rest _ _ e4 in
-      let e6 = then-rest _ _ e5 in
-      then-passed (then-first _ _ e0)
-      (then-passed (then-first _ _ e1)
-      (then-passed (then-first _ _ e2)
-      (then-passed (then-first _ _ e3)
-      (then-passed (then-first _ _ e4)
-      (then-passed (obey-unasked (pendingHeadRule u) (pending-unasked z)) (then-passed (then-first _ _ e6) (then-passed (obey-kept (tailRule u) tail-kept) refl)))))))
-
-  runs-requeued : (b : Body) → (v .head ≢ v .tail → v .head ≢ t) → mayRun p v b ≡ true → mayRun p u b ≡ true
-  unfolding mayRun
-  runs-requeued (Body.Task n) h e = e
-  runs-requeued (Body.Event n) h e =
-      let f = and-right _ _ e in
-      and-true (and-left _ _ e) (and-true (and-left _ _ f) (not-false (ne-eqb _ _ (h (eqb-false _ _ (not-true _ (and-right _ _ f)))))))
-
-  place-requeued : (l : ℕ) (x : Place) → Busy x → (v .head ≢ v .tail → v .head ≢ t) → placeSound p v l x ≡ true
-      → (placeSound p u l x ≡ true) × (v .phase ≡ 0)
-  unfolding placeSound
-  place-requeued l (Free c) n h e = absurd n
-  place-requeued l (Run b j c) n h e =
-      let f = and-right _ _ e in
-      (and-true (and-left _ _ e) (and-true (runs-requeued b h (and-left _ _ f)) (and-right _ _ f)), eqb-true _ _ (and-left _ _ e))
-  place-requeued l (Half b j) n h e =
-      let f = and-right _ _ e in
-      (and-true (and-left _ _ e) (and-true (runs-requeued b h (and-left _ _ f)) (and-right _ _ f)), eqb-true _ _ (and-left _ _ e))
-
-  -- an event that runs has a record at head
-  head-there : (l : ℕ) (x : Place) → Busy x → placeSound p v l x ≡ true → (v .head ≢ v .tail → word queue (2 * v .head) ≡ event v (v .head))
-      → SameHead v queue (bodyOf x)
-  unfolding placeSound mayRun
-  head-there l (Free c) n e h = absurd n
-  head-there l (Run (Body.Task a) j c) n e h = tt
-  head-there l (Run (Body.Event a) j c) n e h = h (eqb-false _ _ (not-true _ (and-right _ _ (and-right _ _ (and-left _ _ (and-right _ _ e))))))
-  head-there l (Half (Body.Task a) j) n e h = tt
-  head-there l (Half (Body.Event a) j) n e h = h (eqb-false _ _ (not-true _ (and-right _ _ (and-right _ _ (and-left _ _ (and-right _ _ e))))))
-
--- the store s after it
-stuck-stored : (p s : List ℕ) (d : Device) (r : Refusal) → Stays r → Stuck p s d r → (h : Handler) (s′ : List ℕ) (queue : List ℕ) (t : ℕ)
-    → storeRule p s′ ≡ storeRule p s → view s′ ≡ requeued (view s) queue t → t ≤ view s .records
-    → (view s .head ≢ view s .tail → view s .head ≢ t) → (view s .head ≢ view s .tail → word queue (2 * view s .head) ≡ event (view s) (view s .head))
-    → Stuck p s′ (handled d h) r
-unfolding look deviceSound handled handlerSound
-stuck-stored p s d r w k h s′ queue t rule parts t-in apart same =
-    let v = view s in
-    let l1 = then-rest _ _ (k .looks) in
-    let l2 = then-rest _ _ l1 in
-    let l3 = then-rest _ _ l2 in
-    let on : d .on ≡ true = must-passed _ _ (then-rest _ _ l3) in
-    let sound = sym (pick-true _ _ on) ∙ must-passed _ _ (then-first _ _ l3) in
-    let placed = and-left _ _ (and-right _ _ sound) in
-    let n = busy p v (handled d Resting) r (d .place) w (k .refuses) in
-    let again = place-requeued p v queue t t-in (d .count) (d .place) n apart placed in
-    record {
-      looks =
-          ap
-          (λ (u : Store).
-          contentsRule p
-          then storeRule p s′
-          then obeyAll (earlyRules p u)
-          then must (deviceSound p u (handled d Resting)) Refusal.State
-          then must (d .on) Refusal.PowerOff) parts
-          ∙ then-passed (then-first _ _ (k .looks))
-          (then-passed (rule ∙ then-first _ _ l1)
-          (then-passed (early-requeued p v queue t t-in (again .1) (then-first _ _ l2))
-          (then-passed (must-true Refusal.State (pick-true _ _ on ∙ and-true (and-left _ _ sound) (and-true (again .0) refl))) (must-true Refusal.PowerOff on))));
-      refuses =
-          ap (λ (u : Store). placeStep p u (handled d Resting) (d .place) .answer) parts
-          ∙ ap (λ (o : Out). o .answer) (step-same p v queue t (handled d Resting) (d .place) n (head-there p v queue t t-in (d .count) (d .place) n placed same))
-          ∙ k .refuses;
-    }
+stuck-first p s d r w e = by-why (why p s d r e .0)
+  where
+    by-why : Why p s d r → Stuck p s d r
+    by-why (looked f) = absurd (other-look p s d .with-such r f w)
+    by-why (met early rests m) = ap (λ (u : Device). step p s u .answer) (rests-is d rests) ∙ e
 
 module _ (p s : List ℕ) (d : Device) (r : Refusal) (w : Stays r) (k : Stuck p s d r) where
+  abbrev v : Store
+  v = view s
+
   abbrev After : Out → Type 0
   After o = Stuck p (settled s (o .write)) (o .device) r
 
-  stuck-refused : (q : Refusal) → After (refuse d q)
-  unfolding settled
-  stuck-refused q = k
+  meets : Early p s (handled d Resting) × Meets p v (handled d Resting) r
+  meets = by-why (why p s (handled d Resting) r k .0)
+    where
+      by-why : Why p s (handled d Resting) r → Early p s (handled d Resting) × Meets p v (handled d Resting) r
+      by-why (looked f) = absurd (other-look p s (handled d Resting) .with-such r f w)
+      by-why (met early rests m) = (early, m)
 
-  is-on : d .on ≡ true
-  unfolding look handled
-  is-on = must-passed _ _ (then-rest _ _ (then-rest _ _ (then-rest _ _ (then-rest _ _ (k .looks)))))
+  -- a store by the handler
+  stored : (x : Word) (y : ℕ) (h : Handler) (a : Answer) (queue : List ℕ) (t : ℕ) → step p s d ≡ out (to x y) (handled d h) a → soundAfter a ≡ true
+      → Inside (memoryWords p) (v .pairs) (v .records) x → apply v (to x y) ≡ requeued v queue t
+      → (v .head ≢ v .tail → word queue (2 * v .head) ≡ event v (v .head)) → After (out (to x y) (handled d h) a)
+  unfolding handled
+  stored x y h a queue t is sound inside parts same =
+      let s′ = settled s (to x y) in
+      let looks = look-stays p s d (ap (λ (o : Out). soundAfter (o .answer)) is ∙ sound) in
+      again p v queue t same s′ (handled d Resting) refl
+      (look-rests p s′ (handled d h) (subst (λ (o : Out). look p (settled s (o .write)) (o .device) ≡ Checked.Accepted) is looks))
+      (view-after (memoryWords p) (v .pairs) (v .records) s (meets .0 .shaped .sized) x y inside ∙ parts) r w (meets .1)
 
-  stuck-boot : (c : Checked) → bootCheck p s d ≡ c → (o : Out) → After (judged c d o)
-  unfolding bootCheck judged
-  stuck-boot Checked.Accepted e o =
-      clash (must-passed (not (d .on)) Refusal.PowerOn (then-rest _ _ (then-rest _ _ (then-rest _ _ e)))) (ap not is-on)
-  stuck-boot (Checked.Refused q) e o = stuck-refused q
+  stuck-handler : (n : Next) (e x : ℕ) → step p s d ≡ handlerStep v d n e x → After (handlerStep v d n e x)
+  unfolding handlerStep apply soundAfter
+  stuck-handler Next.Event e x is =
+      stored (Event (v .tail)) e (Storing Next.Data e x) Answer.Stored (set (v .queue) (2 * v .tail) e) (v .tail) is refl (meets .0 .control .tail-in) refl
+      (λ ne. getD-set-other (v .queue) (2 * v .tail) (2 * v .head) e 0 (omega arith))
+  stuck-handler Next.Data e x is =
+      stored (Datum (v .tail)) x (Storing Next.Tail e x) Answer.Stored (set (v .queue) (2 * v .tail + 1) x) (v .tail) is refl (meets .0 .control .tail-in) refl
+      (λ ne. getD-set-other (v .queue) (2 * v .tail + 1) (2 * v .head) x 0 (omega arith))
+  stuck-handler Next.Tail e x is =
+      stored Tail (after (v .records) (v .tail)) Resting Answer.Accepted (v .queue) (after (v .records) (v .tail)) is refl tt refl (λ _. refl)
 
-  stuck-post : (c : Checked) (h : Handler) → After (judged c d (out none (handled d h) Answer.Done))
-  unfolding judged settled handled
-  stuck-post Checked.Accepted h = record { looks = k .looks; refuses = k .refuses }
-  stuck-post (Checked.Refused q) h = stuck-refused q
-
-  -- a store to the tail's slot
-  stuck-slot : Early p s d → (x : Word) (y z : ℕ) → Inside (memoryWords p) (view s .pairs) (view s .records) x
-      → apply (view s) (to x z) ≡ requeued (view s) (set (view s .queue) y z) (view s .tail) → 2 * view s .tail ≤ y → y ≤ 2 * view s .tail + 1 → (h : Handler)
-      → Stuck p (settled s (to x z)) (handled d h) r
-  stuck-slot early x y z inside is lo hi h =
-      stuck-stored p s d r w k h (settled s (to x z)) (set (view s .queue) y z) (view s .tail) (rule-kept p s x z)
-      (view-after (memoryWords p) (view s .pairs) (view s .records) s (early .shaped .sized) x z inside ∙ is) (early .control .tail-in) (λ ne. ne)
-      (λ ne. getD-set-other (view s .queue) y (2 * view s .head) z 0 (omega arith))
-
-  stuck-handler-step : Early p s d → (n : Next) (e x : ℕ) → after (view s .records) (view s .tail) ≢ view s .head → After (handlerStep (view s) d n e x)
-  unfolding handlerStep apply
-  stuck-handler-step early Next.Event e x room =
-      stuck-slot early (Event (view s .tail)) (2 * view s .tail) e (early .control .tail-in) refl (omega arith) (omega arith) (Storing Next.Data e x)
-  stuck-handler-step early Next.Data e x room =
-      stuck-slot early (Datum (view s .tail)) (2 * view s .tail + 1) x (early .control .tail-in) refl (omega arith) (omega arith) (Storing Next.Tail e x)
-  stuck-handler-step early Next.Tail e x room =
-      let y = after (view s .records) (view s .tail) in
-      stuck-stored p s d r w k Resting (settled s (to Tail y)) (view s .queue) y (rule-kept p s Tail y)
-      (view-after (memoryWords p) (view s .pairs) (view s .records) s (early .shaped .sized) Tail y tt)
-      (after-le (view s .records) (view s .tail) (early .control .tail-in)) (λ ne f. room (sym f)) (λ ne. refl)
-
-  -- the handler's step, past the early checks
-  stuck-next : (h : Handler) → d .handler ≡ h → Early p s d → h ≢ Resting → After (nextStep p (view s) d h)
-  unfolding nextStep
-  stuck-next Resting q early busy = absurd (busy refl)
-  stuck-next (Storing n e x) q early busy = stuck-handler-step early n e x (rw q at (early .handler) .1)
-
-  stuck-look-step : (c : Checked) → look p s d ≡ c → d .handler ≢ Resting → After (judged c d (nextStep p (view s) d (d .handler)))
-  unfolding judged
-  stuck-look-step Checked.Accepted l busy = stuck-next (d .handler) refl (look-passed p s d l) busy
-  stuck-look-step (Checked.Refused q) l busy = stuck-refused q
-
-  stuck-step : (h : Handler) → d .handler ≡ h → After (call p s d Step)
-  unfolding call step
-  stuck-step Resting q = subst After (sym (refused-is p s d Step r (stuck-repeats p s d r k q))) (stuck-refused r)
-  stuck-step (Storing n e x) q = stuck-look-step (look p s d) refl (λ f. let z : _≡_ {A = ℕ} 0 1 = cc in omega arith)
+  stuck-step : (h : Handler) → d .handler ≡ h → After (step p s d)
+  unfolding settled nextStep
+  stuck-step Resting q =
+      subst After (sym (why p s d r (ap (λ (u : Device). step p s u .answer) (sym (rests-is d q)) ∙ k) .1)) k
+  stuck-step (Storing n e x) q = by-look (look p s d) refl
+    where
+      by-look : (c : Checked) → look p s d ≡ c → After (step p s d)
+      by-look Checked.Accepted ok = let is = step-goes p s d ok ∙ ap (nextStep p v d) q in subst After (sym is) (stuck-handler n e x is)
+      by-look (Checked.Refused f) not-ok = subst After (sym (step-refused p s d not-ok)) k
 
   stuck-call : (c : Call) → uncut (c ∷ []) ≡ true → After (call p s d c)
-  unfolding call boot post uncut
-  stuck-call Boot e = stuck-boot (bootCheck p s d) refl _
+  unfolding call boot bootCheck post settled handled uncut
+  stuck-call Boot e =
+      judged-case After (bootCheck p s d) (λ f _. k)
+      (λ ok. clash (must-passed (not (d .on)) Refusal.PowerOn (then-rest _ _ (then-rest _ _ (then-rest _ _ ok)))) (ap not (meets .0 .on)))
   stuck-call Step e = stuck-step (d .handler) refl
   stuck-call Cut e = clash e refl
-  stuck-call (Post y x) e = stuck-post (postCheck p s d y) (Storing Next.Event y x)
+  stuck-call (Post y x) e = judged-case After (postCheck p s d y) (λ f _. k) (λ _. k)
 
 uncut-first : (c : Call) (cs : List Call) → uncut (c ∷ cs) ≡ true → (uncut (c ∷ []) ≡ true) × (uncut cs ≡ true)
 unfolding uncut
@@ -383,7 +195,10 @@ stuck-calls p s d r w k (c ∷ cs) e =
     let u = uncut-first c cs e in
     stuck-calls p (settled s (call p s d c .write)) (call p s d c .device) r w (stuck-call p s d r w k c (u .0)) cs (u .1)
 
+-- and it repeats
 pub refusal-stays : RefusalStays
 unfolding call
 refusal-stays p s d r w e cs u q =
-    stuck-repeats p (afterCalls p s d cs .store) (afterCalls p s d cs .device) r (stuck-calls p s d r w (stuck-first p s d r w e) cs u) q
+    let now = afterCalls p s d cs in
+    ap (λ (x : Device). step p (now .store) x .answer) (sym (rests-is (now .device) q))
+    ∙ stuck-calls p s d r w (stuck-first p s d r w e) cs u

@@ -1,6 +1,6 @@
 -- Laws of the choices and checks of specs/Test.antt, and of the Bool tests that they are made of. Assumes nothing.
 use Prim.Native.Nat.{ℕ, zero, suc, _+_, _≤_, _<_}
-use mathlib.Core.Path.{_≡_, refl, sym, ap, _∙_}
+use mathlib.Core.Path.{_≡_, refl, subst}
 use mathlib.Core.Logic.{_≢_}
 use mathlib.Core.Bool.{Bool, true, false, not}
 use lib.Dec.{eqb, ltb}
@@ -107,3 +107,28 @@ each-passed f i (suc k) zero e h = rw add-zero (then-first _ _ e)
 each-passed f i (suc k) (suc j) e h =
     let r : f (suc i + j) ≡ Checked.Accepted = each-passed f (suc i) k j (then-rest _ _ e) (le-of-suc-le-suc h) in
     rw (add-suc i j, ← suc-add i j) r
+
+-- ---- what a check refuses with
+
+-- every refusal of the check c is a P
+pub record Refuses (P : Refusal → Type 0) (c : Checked) : Type 0 where
+  pub with-such : (r : Refusal) → c ≡ Checked.Refused r → P r
+
+module _ {P : Refusal → Type 0} where
+  pub refuses-accepted : Refuses P Checked.Accepted
+  refuses-accepted = record { with-such = λ r e. let z : _≡_ {A = ℕ} 0 1 = cc in absurd (omega arith) }
+
+  pub refuses-must : (b : Bool) (r : Refusal) → (b ≡ false → P r) → Refuses P (must b r)
+  unfolding must
+  refuses-must true r f = refuses-accepted
+  refuses-must false r f = record { with-such = λ q e. let g : r ≡ q = cc in subst P g (f refl) }
+
+  pub refuses-then : (a b : Checked) → Refuses P a → Refuses P b → Refuses P (a then b)
+  unfolding _then_
+  refuses-then Checked.Accepted b f g = g
+  refuses-then (Checked.Refused r) b f g = f
+
+  pub refuses-each : (f : ℕ → Checked) (i k : ℕ) → ((j : ℕ) → Refuses P (f j)) → Refuses P (each f i k)
+  unfolding each
+  refuses-each f i zero h = refuses-accepted
+  refuses-each f i (suc k) h = refuses-then (f i) _ (h i) (refuses-each f (suc i) k h)

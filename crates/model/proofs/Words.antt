@@ -1,28 +1,30 @@
 -- Words stay words: where all words of program, store, device state and call are below 2 to the 16, so are those of the store
--- and the device after the call, and the store keeps its length; formatting's words, too. Assumes nothing.
+-- and the device after the call, and the store keeps its length; formatting's words, too. First what an instruction computes, then
+-- a line for each case of a step (`Made` of DeviceLaws). Assumes nothing.
 use Prim.Native.Nat.{ℕ, zero, suc, _+_, _-_, _*_, _^_, _≤_, _<_}
-use mathlib.Core.Path.{_≡_, refl, _∙_}
+use mathlib.Core.Path.{_≡_, refl, subst, _∙_}
 use mathlib.Core.Bool.{Bool, true, false}
 use mathlib.Core.List.{List, [], _∷_}
 use native.Mathlib.Nat.{div-le-self}
 use native.Mathlib.Omega.{arith}
-use borrow.Author.Tests.{ltb-true, leb-true, eqb-false}
+use borrow.Author.Tests.{leb-true}
 use lib.Bits.{and-lt, or-lt, xor-lt}
 use lib.IntN.{ℤ}
 use lib.ListN.{length, getD, take, drop, set, replicate, length-set}
 use lib.Seq.{getD-drop}
 use lib.Signed.{shrZ}
-use Rattle.model.proofs.Early.{Stands, Early, look-passed, body-passed, most-last, most-end}
+use Rattle.model.proofs.DeviceLaws.{judged-case, atPlace, most-last, Commits, Acts, RunsAt, Made, handler-event, handler-data, handler-tail, commit-copy, commit-task, commit-open, commit-head, commit-phase, chosen-event, chosen-task, computed, jumped, loaded, overwritten, half-saved, saved, go-count, go-pending, go-open, go-phase, done-count, done-pending, done-phase, Outcome, refused, made, outcome}
+use Rattle.model.proofs.Early.{Early, body-passed}
 use Rattle.model.proofs.Fresh.{format-passed}
 use Rattle.model.proofs.ProgramLaws.{Sound}
 use Rattle.model.proofs.RingLaws.{after-le}
 use Rattle.model.proofs.TestLaws.{pick-case, and-left, and-right}
 use Rattle.model.specs.Calls.{Call, Boot, Step, Cut, Post, call}
 use Rattle.model.specs.Claims.{Words, BodyWords, PlaceWords, HandlerWords, DeviceWords, CallWords, WordsStayWords, FormatStaysWords}
-use Rattle.model.specs.Device.{Out, refuse, judged, fresh, moved, handled, storing, taskStores, eventStores, taskLastStores, eventLastStores, lastStores, boot, cut, post, handlerStep, copyStep, begun, chooseStep, bodySound, shown, saveStep, act, saveRest, placeStep, nextStep, step}
+use Rattle.model.specs.Device.{Out, judged, fresh, moved, handled, boot, cut, post, begun, shown, step}
 use Rattle.model.specs.Program.{word, memoryWords, transaction, number, operand, instructionTable, decode, signed, unsigned, shifted, reg, effect, effectAt, newOpen}
-use Rattle.model.specs.Store.{Store, view, event, datum, after, memoryAt, logAt, queueAt, index, Write, none, to, settled, storeMark, storeContents, storeLength, sizesRule, formatted, formatCheck, formatStore, format}
-use Rattle.model.specs.Types.{Answer, Body, Checked, Device, Effect, Found, Free, Half, Handler, Instruction, Next, Place, Refusal, Resting, Run, Storing}
+use Rattle.model.specs.Store.{Store, view, after, memoryAt, logAt, queueAt, index, Write, none, to, settled, storeMark, storeContents, storeLength, sizesRule, formatted, formatCheck, formatStore, format}
+use Rattle.model.specs.Types.{Body, Checked, Device, Effect, Found, Free, Handler, Instruction, Next, Place, Resting, Run, Storing}
 
 -- ---- lists of words
 
@@ -179,24 +181,14 @@ module _ (p s : List ℕ) (d : Device) (ps : Words p) (ss : Words s) (ds : Devic
   unfolding handled
   handled-words h hs = record { regs-length = ds .regs-length; regs = ds .regs; place = ds .place; count = ds .count; handler = hs }
 
-  refused-words : (r : Refusal) → OutWords (refuse d r)
-  refused-words r = record { write = tt; device = ds }
-
-  judged-words : (x : Checked) (o : Out) → (x ≡ Checked.Accepted → OutWords o) → OutWords (judged x d o)
-  unfolding judged
-  judged-words Checked.Accepted o f = f refl
-  judged-words (Checked.Refused r) o f = refused-words r
-
-  storing-words : (ws : List Write) (c : ℕ) (e : Device) (a : Answer) → Every WriteWords ws → DeviceWords e → OutWords (storing ws c e a)
-  unfolding storing
-  storing-words ws c e a h es =
-      record { write = every-at WriteWords ws c none h tt; device = pick-case DeviceWords (λ _. fresh-device-words true) (λ _. es) }
-
   -- ---- the calls that make no store
+
+  judged-words : (x : Checked) (o : Out) → OutWords o → OutWords (judged x d o)
+  judged-words x o h = judged-case OutWords x (λ _ _. record { write = tt; device = ds }) (λ _. h)
 
   boot-words : OutWords (boot p s d)
   unfolding boot
-  boot-words = judged-words _ _ (λ _. record { write = tt; device = fresh-device-words true })
+  boot-words = judged-words _ _ (record { write = tt; device = fresh-device-words true })
 
   cut-words : OutWords cut
   unfolding cut
@@ -204,129 +196,82 @@ module _ (p s : List ℕ) (d : Device) (ps : Words p) (ss : Words s) (ds : Devic
 
   post-words : (e x : ℕ) → e < 2 ^ 16 → x < 2 ^ 16 → OutWords (post p s d e x)
   unfolding post
-  post-words e x es xs = judged-words _ _ (λ _. record { write = tt; device = handled-words (Storing Next.Event e x) (es, xs) })
+  post-words e x es xs = judged-words _ _ (record { write = tt; device = handled-words (Storing Next.Event e x) (es, xs) })
 
   -- ---- a step
+
+  begun-words : (b : Body) (x : ℕ) → BodyWords b → x < 2 ^ 16 → DeviceWords (begun d b x)
+  unfolding begun
+  begun-words b x bs xs =
+      moved-words (x ∷ replicate 7 0) (Run b 0 0) 0 refl (words-cons x (replicate 7 0) xs (words-zeros 7)) (bs, (omega arith, omega arith)) (omega arith)
+
+  loaded-words : (b : Body) (j a x : ℕ) → BodyWords b → j + 1 < 2 ^ 16 → x < 2 ^ 16 → DeviceWords (moved d (set (d .regs) a x) (Run b (j + 1) 0) (d .count))
+  loaded-words b j a x bs next xs =
+      moved-words (set (d .regs) a x) (Run b (j + 1) 0) (d .count) (length-set (d .regs) a x ∙ ds .regs-length) (words-set (d .regs) a x (ds .regs) xs) (bs, (next, omega arith)) (ds .count)
+
+  shown-words : (f : Found) (a : ℕ) → shown v f a < 2 ^ 16
+  unfolding shown
+  shown-words (Found.Pair i) a = log-words (2 * i + 1)
+  shown-words Found.Nothing a = memory-words a
+
+  open-words : (t k : ℕ) → newOpen (transaction p t) (transaction p k) < 2 ^ 16
+  unfolding newOpen
+  open-words t k = pick-case (λ (n : ℕ). n < 2 ^ 16) (λ _. ps _) (λ _. omega arith)
+
+  -- the words of a body's place, the next instruction, and what this one does
+  acts-words : {x : Place} {b : Body} {j : ℕ} {f : Effect} → Acts p v d x b j f → PlaceWords x × (j + 1 < 2 ^ 16) × EffectWords f
+  acts-words {x} {b} {j} {f} h =
+      let is = body-passed p v x b j f (h .sound) in
+      let next : j + 1 < 2 ^ 16 = omega (arith, is .there, is .row .most-instructions) in
+      (subst PlaceWords (h .place) (ds .place), next, subst EffectWords (h .does) (effectAt-words p (number p b) j (d .regs) ps (ds .regs) next))
+
+  -- with n stores of its end made
+  end-words : {b : Body} {j c : ℕ} {f : Effect} → RunsAt p v d b j c f → (n : ℕ) → n < 2 ^ 16 → DeviceWords (atPlace d (Run b j n))
+  end-words {b} {j} h n l = let xs = acts-words h .0 in went-words (Run b j n) (xs .0, (xs .1 .0, l))
 
   module _ (early : Early p s d) where
     after-words : (x : ℕ) → x ≤ v .records → after (v .records) x < 2 ^ 16
     after-words x l = omega (arith, after-le (v .records) x l, ss 3)
 
-    handler-words : (n : Next) (e x : ℕ) → HandlerWords (Storing n e x) → OutWords (handlerStep v d n e x)
-    unfolding handlerStep
-    handler-words Next.Event e x h = record { write = h .0; device = handled-words (Storing Next.Data e x) h }
-    handler-words Next.Data e x h = record { write = h .1; device = handled-words (Storing Next.Tail e x) h }
-    handler-words Next.Tail e x h = record { write = after-words (v .tail) (early .control .tail-in); device = handled-words Resting tt }
+    onward-words : {c : ℕ} → Commits v d c → DeviceWords (atPlace d (Free (c + 1)))
+    onward-words {c} h =
+        went-words (Free (c + 1)) (omega (arith, h .left, most-last v, early .control .count-in (h .phase), early .shaped .most-pairs))
 
-    last-words : Every WriteWords (lastStores v)
-    unfolding lastStores taskLastStores eventLastStores
-    last-words = pick-case (Every WriteWords) (λ _. (ss 12, (ss 13, (omega arith, tt)))) (λ _. (ss 12, (omega arith, tt)))
+    made-words : (o : Out) → Made p v d o → OutWords o
+    made-words o (handler-event q a) = let h = subst HandlerWords q (ds .handler) in record { write = h .0; device = handled-words _ h }
+    made-words o (handler-data q a) = let h = subst HandlerWords q (ds .handler) in record { write = h .1; device = handled-words _ h }
+    made-words o (handler-tail q a) = record { write = after-words (v .tail) (early .control .tail-in); device = handled-words Resting tt }
+    made-words o (commit-copy h l m) = record { write = log-words _; device = onward-words h }
+    made-words o (commit-task h one e) = record { write = ss 12; device = onward-words h }
+    made-words o (commit-open h one e) = record { write = ss 13; device = onward-words h }
+    made-words o (commit-head h two e) = record { write = ss 12; device = onward-words h }
+    made-words o (commit-phase h e) = record { write = omega arith; device = fresh-device-words true }
+    made-words o (chosen-event h none-open some l) = record { write = tt; device = begun-words _ _ (queue-words (2 * v .head)) (queue-words (2 * v .head + 1)) }
+    made-words o (chosen-task h n) = record { write = tt; device = begun-words _ 0 (ss 9) (omega arith) }
+    made-words o (computed h) = let w = acts-words h in record { write = tt; device = loaded-words _ _ _ _ (w .0 .0) (w .1) (w .2) }
+    made-words o (jumped h) = let w = acts-words h in record { write = tt; device = went-words _ (w .0 .0, (w .2, omega arith)) }
+    made-words o (loaded h l) = let w = acts-words h in record { write = tt; device = loaded-words _ _ _ _ (w .0 .0) (w .1) (shown-words _ _) }
+    made-words o (overwritten h l e) = let w = acts-words h in record { write = w .2; device = went-words _ (w .0 .0, (w .1, omega arith)) }
+    made-words o (half-saved h l e k) = let w = acts-words h in record { write = omega (arith, ps 3); device = went-words _ (w .0 .0, w .0 .1 .0) }
+    made-words o (saved h) =
+        let w = acts-words h in
+        record { write = w .2; device = moved-words _ _ _ (ds .regs-length) (ds .regs) (w .0 .0, (w .1, omega arith)) (omega (arith, h .stands .2, early .shaped .most-pairs)) }
+    made-words o (go-count h) = record { write = ds .count; device = end-words h 1 (omega arith) }
+    made-words o (go-pending h) = record { write = acts-words h .2; device = end-words h 2 (omega arith) }
+    made-words o (go-open {t = t} {k = k} h) = record { write = open-words t k; device = end-words h 3 (omega arith) }
+    made-words o (go-phase h) = record { write = omega arith; device = fresh-device-words true }
+    made-words o (done-count h) = record { write = ds .count; device = end-words h 1 (omega arith) }
+    made-words o (done-pending h) = record { write = after-words (v .head) (early .control .head-in); device = end-words h 2 (omega arith) }
+    made-words o (done-phase h) = record { write = omega arith; device = fresh-device-words true }
 
-    copy-words : (c : ℕ) → c + 1 < 2 ^ 16 → OutWords (copyStep p v d c)
-    unfolding copyStep
-    copy-words c l =
-        pick-case OutWords (λ _. judged-words _ _ (λ _. record { write = log-words (2 * c + 1); device = went-words (Free (c + 1)) l }))
-        (λ _. storing-words (lastStores v) (c - v .count) _ Answer.Stored last-words (went-words (Free (c + 1)) l))
-
-    begun-words : (b : Body) (x : ℕ) → BodyWords b → x < 2 ^ 16 → DeviceWords (begun d b x)
-    unfolding begun
-    begun-words b x bs xs =
-        moved-words (x ∷ replicate 7 0) (Run b 0 0) 0 refl (words-cons x (replicate 7 0) xs (words-zeros 7))
-        (bs, (omega arith, omega arith)) (omega arith)
-
-    choose-words : OutWords (chooseStep p v d)
-    unfolding chooseStep
-    choose-words =
-        pick-case OutWords
-        (λ _.
-        judged-words _ _
-        (λ _. record { write = tt; device = begun-words (Body.Event (event v (v .head))) (datum v (v .head)) (queue-words (2 * v .head)) (queue-words (2 * v .head + 1)) }))
-        (λ _. record { write = tt; device = begun-words (Body.Task (v .task)) 0 (ss 9) (omega arith) })
-
-    -- body b at instruction j, c stores of its end made
-    module _ (b : Body) (bs : BodyWords b) (j : ℕ) (next : j + 1 < 2 ^ 16) where
-      on-words : DeviceWords (moved d (d .regs) (Run b (j + 1) 0) (d .count))
-      on-words = went-words (Run b (j + 1) 0) (bs, (next, omega arith))
-
-      loaded-words : (a x : ℕ) → x < 2 ^ 16 → DeviceWords (moved d (set (d .regs) a x) (Run b (j + 1) 0) (d .count))
-      loaded-words a x xs =
-          moved-words (set (d .regs) a x) (Run b (j + 1) 0) (d .count) (length-set (d .regs) a x ∙ ds .regs-length) (words-set (d .regs) a x (ds .regs) xs) (bs, (next, omega arith)) (ds .count)
-
-      shown-words : (f : Found) (a : ℕ) → shown v f a < 2 ^ 16
-      unfolding shown
-      shown-words (Found.Pair i) a = log-words (2 * i + 1)
-      shown-words Found.Nothing a = memory-words a
-
-      save-words : (a x : ℕ) (f : Found) → a < 2 ^ 16 → x < 2 ^ 16 → OutWords (saveStep v d b j a x f)
-      unfolding saveStep
-      save-words a x (Found.Pair i) al xs = record { write = xs; device = on-words }
-      save-words a x Found.Nothing al xs =
-          pick-case OutWords (λ _. record { write = al; device = went-words (Half b j) (bs, omega arith) }) (λ _. refused-words _)
-
-      open-words : (k : ℕ) → newOpen (transaction p (number p b)) (transaction p k) < 2 ^ 16
-      unfolding newOpen
-      open-words k = pick-case (λ (n : ℕ). n < 2 ^ 16) (λ _. ps _) (λ _. omega arith)
-
-      act-words : (c : ℕ) → c + 1 < 2 ^ 16 → (f : Effect) → EffectWords f → OutWords (act p v d b j c f)
-      unfolding act taskStores eventStores
-      act-words c l (Effect.Compute a x) h = record { write = tt; device = loaded-words a x h }
-      act-words c l (Effect.Jump k) h = record { write = tt; device = went-words (Run b k 0) (bs, (h, omega arith)) }
-      act-words c l (Effect.Read a x) h =
-          pick-case OutWords (λ _. record { write = tt; device = loaded-words a _ (shown-words _ x) }) (λ _. refused-words _)
-      act-words c l (Effect.Write x y) h =
-          pick-case OutWords
-          (λ q. let below : x < memoryWords p = ltb-true _ _ q in save-words x y _ (omega (arith, ps 3)) h) (λ _. refused-words _)
-      act-words c l (Effect.EndTask k) h =
-          storing-words _ c _ (Answer.Committed b) (ds .count, (h, (open-words k, (omega arith, tt)))) (went-words (Run b j (c + 1)) (bs, (omega arith, l)))
-      act-words c l Effect.EndEvent h =
-          storing-words _ c _ (Answer.Committed b) (ds .count, (after-words (v .head) (early .control .head-in), (omega arith, tt))) (went-words (Run b j (c + 1)) (bs, (omega arith, l)))
-      act-words c l Effect.Unknown h = refused-words _
-
-      rest-words : d .count + 1 < 2 ^ 16 → (f : Effect) → EffectWords f → OutWords (saveRest d b j f)
-      unfolding saveRest
-      rest-words l (Effect.Compute a x) h = refused-words _
-      rest-words l (Effect.Jump k) h = refused-words _
-      rest-words l (Effect.Read a x) h = refused-words _
-      rest-words l (Effect.Write x y) h =
-          record { write = h; device = moved-words (d .regs) (Run b (j + 1) 0) (d .count + 1) (ds .regs-length) (ds .regs) (bs, (next, omega arith)) l }
-      rest-words l (Effect.EndTask k) h = refused-words _
-      rest-words l Effect.EndEvent h = refused-words _
-      rest-words l Effect.Unknown h = refused-words _
-
-    next-place : (x : Place) (b : Body) (j : ℕ) (f : Effect) → bodySound p v x b j f ≡ Checked.Accepted → j + 1 < 2 ^ 16
-    next-place x b j f e = let is = body-passed p v x b j f e in omega (arith, is .there, is .row .most-instructions)
-
-    place-words : (x : Place) → PlaceWords x → Stands p v (d .count) x → OutWords (placeStep p v d x)
-    unfolding placeStep
-    place-words (Free c) xs (still, made) =
-        pick-case OutWords (λ _. choose-words)
-        (λ q.
-        let ne = eqb-false _ _ q in
-        copy-words c (omega (arith, made ne, most-last v, early .control .count-in ne, early .shaped .most-pairs)))
-    place-words (Run b j c) (bs, (js, cs)) (phase, mine, most) =
-        judged-words _ _
-        (λ e.
-        let next = next-place (Run b j c) b j _ e in
-        act-words b bs j next c (omega (arith, most, most-end b)) _ (effectAt-words p (number p b) j (d .regs) ps (ds .regs) next))
-    place-words (Half b j) (bs, js) (phase, mine, room) =
-        judged-words _ _
-        (λ e.
-        let next = next-place (Half b j) b j _ e in
-        rest-words b bs j next (omega (arith, room, early .shaped .most-pairs)) _ (effectAt-words p (number p b) j (d .regs) ps (ds .regs) next))
-
-    next-words : (h : Handler) → HandlerWords h → OutWords (nextStep p v d h)
-    unfolding nextStep
-    next-words Resting hs = place-words (d .place) (ds .place) (early .place)
-    next-words (Storing n e x) hs = handler-words n e x hs
-
-  step-words : OutWords (step p s d)
-  unfolding step
-  step-words = judged-words _ _ (λ e. next-words (look-passed p s d e) (d .handler) (ds .handler))
+  step-words : (o : Out) → Outcome p s d o → OutWords o
+  step-words o (refused w) = record { write = tt; device = ds }
+  step-words o (made early m u) = made-words early o m
 
   pub call-words : (c : Call) → CallWords c → OutWords (call p s d c)
   unfolding call
   call-words Boot h = boot-words
-  call-words Step h = step-words
+  call-words Step h = step-words (step p s d) (outcome p s d)
   call-words Cut h = cut-words
   call-words (Post e x) h = post-words e x (h .0) (h .1)
 

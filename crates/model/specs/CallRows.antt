@@ -81,6 +81,11 @@ outcomes =
     ∷ boot sample taskCommit (device false registers (task1 2) 1 (Storing Next.Tail 1 66)) ⇒ out none onValue Answer.Done
     ∷ boot sample opened onValue ⇒ refuse onValue Refusal.PowerOn
     ∷ boot sample wrongOpen onValue ⇒ refuse onValue (Refusal.Control 10)
+    ∷ boot sample (controls 0 5 9 0 0 0 3 1) offValue ⇒ refuse offValue (Refusal.Control 9)
+    ∷ boot sample (controls 1 1 8 2 2 9 3 1) offValue ⇒ refuse offValue (Refusal.Control 13)
+    ∷ boot sample (set taskCommit 24 6) offValue ⇒ refuse offValue (Refusal.Control 24)
+    ∷ boot sample (set eventCommit 26 2) offValue ⇒ refuse offValue (Refusal.Control 26)
+    ∷ boot sample (set eventCommit 32 2) offValue ⇒ out none onValue Answer.Done
     ∷ cut ⇒ out none offValue Answer.Done
     ∷ []
 
@@ -111,7 +116,7 @@ storesAfter now (n ∷ ns) =
     next .store ∷ storesAfter next ns
 
 -- an event posted, and accepted by three steps
-abbrev posted : ℕ → ℕ → List Call
+abbrev pub posted : ℕ → ℕ → List Call
 posted e x = Post e x ∷ Step ∷ Step ∷ Step ∷ []
 
 abbrev isAccepted : List Answer
@@ -218,6 +223,7 @@ countings =
     ∷ counted (totals 5 60 700) (out (to Count 1) onValue Answer.Stored) ⇒ totals 5 60 701
     ∷ counted (totals 5 60 700) (out none onValue Answer.Worked) ⇒ totals 5 60 700
     ∷ counted (totals 5 60 700) (out none onValue (Answer.Chosen (Body.Event 1))) ⇒ totals 5 60 700
+    ∷ counted (totals 5 60 700) (out none onValue Answer.Done) ⇒ totals 5 60 700
     ∷ counted (totals 5 60 700) (refuse onValue Refusal.LogFull) ⇒ totals 5 60 700
     -- "32 bits, staying at the largest value"
     ∷ counted (totals 0xFFFFFFFE 60 0xFFFFFFFE) commitStore ⇒ totals greatest 60 greatest
@@ -384,6 +390,7 @@ serialRuns =
     ∷ fromLines (commits (Body.Task 1)) ⇒ reached afterTask1 2 8 []
     ∷ fromLines (commits (Body.Task 1) ++ commits (Body.Task 2)) ⇒ reached afterTask1 3 8 []
     ∷ fromLines (commits (Body.Task 1) ++ commits (Body.Task 2) ++ commits (Body.Task 3)) ⇒ reached afterTask1 0 0 []
+    ∷ fromLines (commits (Body.Task 1) ++ accepts 0 50) ⇒ reached afterTask1 2 8 (holds 0 50 ∷ [])
     ∷ fromLines (commits (Body.Task 2)) ⇒ stopped
     -- "for an event that of the oldest record, which goes"
     ∷ fromLines (accepts 0 50 ++ accepts 1 51 ++ commits (Body.Event 0)) ⇒ reached afterEvent0 1 0 (holds 1 51 ∷ [])
@@ -391,11 +398,11 @@ serialRuns =
     -- "at an event a record is there and the open number is 0"
     ∷ fromLines (commits (Body.Event 0)) ⇒ stopped
     ∷ fromLines (accepts 0 50 ++ commits (Body.Task 1) ++ commits (Body.Event 0)) ⇒ stopped
-    -- "each body run .. ends, each address below M": three instructions of four; LOADX and SAVEX at word 9; JUMP 2 for ever, JUMP 4;
+    -- "each body run .. ends, each address below M": three instructions of four; LOADX and SAVEX at word 6; JUMP 2 for ever, JUMP 4;
     -- DONE in a task, GO in an event
     ∷ shown (serial 3 sample (commits (Body.Task 1))) ⇒ stopped
-    ∷ shown (serial 9 (withInstruction 0x0A31 0) (commits (Body.Task 1))) ⇒ stopped
-    ∷ shown (serial 9 (withInstruction 0x0B31 0) (commits (Body.Task 1))) ⇒ stopped
+    ∷ shown (serial 9 (set (withInstruction 0x0A31 0) 30 6) (commits (Body.Task 1))) ⇒ stopped
+    ∷ shown (serial 9 (set (withInstruction 0x0B31 0) 30 6) (commits (Body.Task 1))) ⇒ stopped
     ∷ shown (serial 9 (withInstruction 0x0C00 2) (commits (Body.Task 1))) ⇒ stopped
     ∷ shown (serial 9 (withInstruction 0x0C00 4) (commits (Body.Task 1))) ⇒ stopped
     ∷ shown (serial 9 (set sample 35 0x1000) (commits (Body.Task 1))) ⇒ stopped

@@ -10,7 +10,7 @@ use Rattle.model.specs.Test.{pick}
 use Rattle.model.specs.Types.{Answer, Body, Device, Free, Half, Next, Place, Refusal, Resting, Run, Storing}
 use Rattle.model.specs.Sample.{Row, _⇒_, at, cleared, closed, controls, device, event1, eventCommit, offValue, onValue, opened, registers, sample, task1, taskCommit, twoPairs, withInstruction}
 
--- ---- What boot, a step and a post meet in the program, in the store's contents (6) and in its control words (7)
+-- ---- What boot, a step and a post meet in the program and in the store's contents (6)
 
 -- the device off for boot, on and without a body for a step and a post
 abbrev meets : List ℕ → List ℕ → List Answer
@@ -57,27 +57,38 @@ contents =
     ∷ meets sample (set (set opened 0 0) 8 3) ⇒ allRefused Refusal.StoreContents
     ∷ []
 
--- the words of the broken rules, by rising word
+-- ---- 7: the words of the rules that a store breaks, all of which boot looks at
+
 unfoldable pub brokenWords : List Rule → List ℕ
 brokenWords [] = []
 brokenWords (r ∷ rs) = pick (broken r) (r .word ∷ brokenWords rs) (brokenWords rs)
 
+-- with the answers of a step and of a post
 pub record Findings : Type 0 where
   pub broken : List ℕ
-  pub met : List Answer
+  pub stepped : Answer
+  pub posted : Answer
 
 abbrev finds : List ℕ → Findings
-finds s = record { broken = brokenWords (rules sample (view s)); met = meets sample s }
+finds s =
+    record {
+      broken = brokenWords (rules sample (view s));
+      stepped = step sample s onValue .answer;
+      posted = post sample s onValue 0 9 .answer;
+    }
 
--- no rule is broken; these are, and every call meets the first; these are, and boot alone meets the first
+-- no rule is broken; these are, and step and post meet the first; these are, and a post meets none
 abbrev sound : Answer → Findings
-sound a = record { broken = []; met = noneRefused a }
+sound a = record { broken = []; stepped = a; posted = Answer.Done }
+
+abbrev meetsFirst : List ℕ → Answer
+meetsFirst ws = Answer.Refused (Refusal.Control (getD ws 0 0))
 
 abbrev early : List ℕ → Findings
-early ws = record { broken = ws; met = allRefused (Refusal.Control (getD ws 0 0)) }
+early ws = record { broken = ws; stepped = meetsFirst ws; posted = meetsFirst ws }
 
 abbrev late : List ℕ → Answer → Findings
-late ws a = record { broken = ws; met = bootRefused (Refusal.Control (getD ws 0 0)) a }
+late ws a = record { broken = ws; stepped = a; posted = Answer.Done }
 
 unfoldable pub controlWords : List (Row Findings)
 controlWords =

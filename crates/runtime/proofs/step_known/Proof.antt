@@ -4,9 +4,9 @@ use denote.Ref.{now}
 use Rattle.device.proofs.Looked.{looked}
 use Rattle.device.specs.Turn.{device, after, result}
 use Rattle.device.specs.declared.Turn.{Turn}
+use Rattle.model.proofs.DeviceLaws.{step-goes, step-refused}
 use Rattle.model.specs.Device.{Out}
 use Rattle.model.specs.Store.{settled, storedWord}
-use Rattle.runtime.proofs.Cases.{step-goes, step-refused}
 use borrow.Author.Needs.{needs}
 use Rattle.runtime.proofs.step_known.Statement.{statement}
 use Rattle.runtime.proofs.step_known.Tie as tie

@@ -2,7 +2,7 @@
 -- most L. Assumes nothing.
 use native.Mathlib.Omega.{arith}
 use borrow.Author.Tests.{eq-eqb, ne-eqb}
-use Rattle.model.proofs.Early.{most-last}
+use Rattle.model.proofs.DeviceLaws.{most-last}
 use Rattle.model.specs.Device.{placeSound}
 use Rattle.model.specs.Store.{view}
 use Rattle.model.specs.Test.{pick, _and_}

@@ -2,6 +2,7 @@
 use Prim.Native.Nat.{ℕ, _+_, _*_}
 use mathlib.Core.Path.{_≡_, sym, ap, _∙_}
 use denote.Ref.{now}
+use Rattle.model.proofs.DeviceLaws.{copy-refused, copy-made}
 use Rattle.model.specs.Device.{Out, moved}
 use Rattle.model.specs.Program.{word, memoryWords}
 use Rattle.model.specs.Store.{settled, storedWord, view, logAt}
@@ -10,7 +11,6 @@ use Rattle.model.specs.declared.Refusal.{Refusal}
 use Rattle.model.specs.declared.Stored.{Stored}
 use Rattle.device.specs.Turn.{device, after, turn, result}
 use Rattle.device.specs.declared.Turn.{Turn}
-use Rattle.runtime.proofs.Cases.{copy-refused, copy-made}
 use borrow.Author.Needs.{needs}
 use Rattle.runtime.proofs.copying.copy.Statement.{statement}
 use Rattle.runtime.proofs.copying.copy.Tie as tie

@@ -3,9 +3,10 @@ use mathlib.Core.Path.{sym, ap, _∙_}
 use native.Mathlib.Omega.{arith}
 use denote.Ref.{now}
 use Rattle.device.specs.Turn.{device, result}
+use Rattle.model.proofs.DeviceLaws.{task-last, event-last}
 use Rattle.model.specs.Device.{Out}
 use Rattle.model.specs.Store.{view}
-use Rattle.runtime.proofs.Cases.{task-last, event-last, copies-fit, task-left, event-left}
+use Rattle.runtime.proofs.Cases.{copies-fit, task-left, event-left}
 use borrow.Author.Needs.{needs}
 use Rattle.runtime.proofs.copying.copy_step.Statement.{statement}
 use Rattle.runtime.proofs.copying.copy_step.Tie as tie

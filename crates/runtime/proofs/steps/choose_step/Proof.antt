@@ -1,5 +1,6 @@
 use Prim.Native.Nat.{ℕ, _+_, _*_}
 use mathlib.Core.Path.{_≡_}
+use Rattle.model.proofs.DeviceLaws.{choose-open, choose-empty, choose-refused, choose-event}
 use Rattle.model.specs.Program.{word, memoryWords}
 use Rattle.model.specs.Store.{queueAt}
 use Rattle.model.specs.declared.Answer.{Answer}
@@ -11,7 +12,6 @@ use mathlib.Core.Path.{sym, ap, _∙_}
 use denote.Ref.{now}
 use Rattle.model.specs.Device.{Out}
 use Rattle.model.specs.Store.{settled, storedWord, view}
-use Rattle.runtime.proofs.Cases.{choose-open, choose-empty, choose-refused, choose-event}
 use Rattle.device.specs.Turn.{device, result}
 use borrow.Author.Needs.{needs}
 use Rattle.runtime.proofs.steps.choose_step.Statement.{statement}

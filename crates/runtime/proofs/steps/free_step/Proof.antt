@@ -2,9 +2,9 @@
 use mathlib.Core.Path.{sym, ap, _∙_}
 use denote.Ref.{now}
 use Rattle.device.specs.Turn.{device, result}
+use Rattle.model.proofs.DeviceLaws.{free-chooses, free-copies}
 use Rattle.model.specs.Device.{Out}
 use Rattle.model.specs.Store.{view}
-use Rattle.runtime.proofs.Cases.{free-chooses, free-copies}
 use borrow.Author.Needs.{needs}
 use Rattle.runtime.proofs.steps.free_step.Statement.{statement}
 use Rattle.runtime.proofs.steps.free_step.Tie as tie

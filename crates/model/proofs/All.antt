@@ -1,0 +1,26 @@
+-- All that is claimed of the definitions (specs/Demand3.antt, specs/Claims.antt), with the theorems. Demand 3 stands first: the prover
+-- goes through the files in this order, so a wrong definition is refused at demand 3's own fact, and not at a law that repeats the
+-- definitions (DeviceLaws). Assumes nothing.
+use Rattle.model.proofs.Demand3.{demand3}
+use Rattle.model.proofs.Observed.{observed}
+use Rattle.model.proofs.SerialLaws.{serial-determined, tasks-follow}
+use Rattle.model.proofs.CallLaws.{run-is-steps, totals-are-counts, recovery-by-calls}
+use Rattle.model.proofs.Refused.{refused-changes-nothing}
+use Rattle.model.proofs.Blamed.{place-is-broken}
+use Rattle.model.proofs.Repeats.{refusal-stays}
+use Rattle.model.proofs.Words.{words-stay-words, format-stays-words}
+use Rattle.model.proofs.LookStays.{look-stays}
+use Rattle.model.specs.Claims.{RefusedChangesNothing, WordsStayWords, FormatStaysWords, RefusalStays, PlaceIsBroken, RunIsSteps, TotalsAreCounts, RecoveryByCalls, LookStays}
+use Rattle.model.specs.Demand3.{Demand3, SerialDetermined, TasksFollow, ObservedByCalls}
+
+-- of a list of calls on a fresh store
+pub of-lists : Demand3 × ObservedByCalls × SerialDetermined × TasksFollow
+of-lists = (demand3, observed, serial-determined, tasks-follow)
+
+-- of run, totals and recovery
+pub of-runs : RunIsSteps × TotalsAreCounts × RecoveryByCalls
+of-runs = (run-is-steps, totals-are-counts, recovery-by-calls)
+
+-- of one call, for all words and device states
+pub of-calls : RefusedChangesNothing × PlaceIsBroken × RefusalStays × WordsStayWords × FormatStaysWords × LookStays
+of-calls = (refused-changes-nothing, place-is-broken, refusal-stays, words-stay-words, format-stays-words, look-stays)
