@@ -7,7 +7,7 @@ use mathlib.Core.Path.{_≡_, refl, sym, _∙_, ap}
 use native.Mathlib.Omega.{arith}
 use borrow.Author.Tests.{lt-ltb, le-ltb}
 use lib.Dec.{ltb}
-use Rattle.model.proofs.TestLaws.{then-first, then-rest}
+use Rattle.model.proofs.TestLaws.{then-first, then-rest, impossible}
 use Rattle.model.proofs.Early.{MayRun, Stands}
 use Rattle.model.specs.Check.{rowsInside, rowUsed, instructionRule}
 use Rattle.model.specs.Device.{endStores, recordSound, headSound, namedRow, openSound, headIs, saves, placeFits, bodySound, Out, refuse, judged, act, saveRest, placeStep}
@@ -168,7 +168,7 @@ pub does-same : {f g : Effect} → Fetched.Does f ≡ Fetched.Does g → f ≡ g
 does-same e = cc
 
 pub never {ℓ} : {X : Type ℓ} {x : Refusal} {f : Effect} → Fetched.Refused x ≡ Fetched.Does f → X
-never e = let z : _≡_ {A = ℕ} 0 1 = cc in absurd (omega arith)
+never e = impossible (cc)
 
 pub does-refused : {x : Refusal} (f : Effect) (m : Checked) → does m f ≡ Fetched.Refused x → m ≡ Checked.Refused x
 unfolding does

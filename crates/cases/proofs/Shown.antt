@@ -3,7 +3,7 @@ use Prim.Native.Nat.{ℕ}
 use mathlib.Core.List.{List, [], _∷_}
 use mathlib.Core.Path.{_≡_, refl}
 use lib.ListN.{replicate}
-use native.Mathlib.Omega.{arith}
+use Rattle.model.proofs.TestLaws.{impossible}
 use Rattle.model.specs.Test.{pick, _and_, _or_, must, _then_, each}
 use Rattle.model.specs.Program.{programMark, decode, bounds, mayBeLast, signed, unsigned, shifted, less, effect, effectAt, newOpen, number}
 use Rattle.model.specs.Check.{contentsRule, rowsInside, limits, due, rowRule, rows, rowUsed, fieldsFit, lastFits, instructionRule, bodyRule, check}
@@ -49,4 +49,4 @@ unfolding storeAfter cutAfter furtherPost firstWaiting pick _and_ _or_ must _the
 cases = record { nine = refl; ten = refl; ten-but-one = refl; further = refl }
 
 pub queue-full-is-not-7 : {w : ℕ} → Answer.Refused Refusal.QueueFull ≡ Answer.Refused (Refusal.Control w) → ⊥
-queue-full-is-not-7 e = let z : _≡_ {A = ℕ} 0 1 = cc in omega arith
+queue-full-is-not-7 e = impossible (cc)

@@ -1,6 +1,5 @@
 // Starred cases of document 01 as programs over the calls. What these programs return is proved from the calls' contracts alone: no proof
 // here looks into a call.
-ghost use Prim.Native.Nat.{ℕ};
 ghost use mathlib.Core.List.{[], _∷_};
 ghost use mathlib.Core.Path.{_≡_};
 ghost use Rattle.model.specs.Starred.{counting};

@@ -1,7 +1,7 @@
 -- The rules of the control words: when one is obeyed, what a row of them answers, and that the word of a refusal is blamed.
 -- Assumes nothing.
 use Prim.Native.Nat.{ℕ, zero, suc, _+_, _<_}
-use mathlib.Core.Bool.{Bool, true, false, not}
+use mathlib.Core.Bool.{Bool, true, false}
 use mathlib.Core.List.{List, [], _∷_, _++_}
 use mathlib.Core.Logic.{⊎-elim}
 use mathlib.Core.Path.{_≡_, refl, sym, _∙_, ap}
@@ -9,7 +9,6 @@ use native.Mathlib.Nat.{eq-or-lt-of-le, le-of-suc-le-suc}
 use native.Mathlib.Numerals.{add-one}
 use native.Mathlib.Omega.{arith}
 use borrow.Author.Tests.{eq-eqb}
-use lib.Dec.{eqb}
 use Rattle.model.specs.Control.{Rule, broken, obey, obeyAll, upTo, blames}
 use Rattle.model.specs.Test.{_and_, _or_, must, _then_}
 use Rattle.model.specs.declared.Checked.{Checked}

@@ -1,19 +1,14 @@
 -- Demand 3 of the exported functions: each exported call does what the definition's call does, for 7 with its free place doesn't come up on such
 -- a store; the rest is model's `observed`. It cites: words-stay-words, back, run-is-steps, totals-are-counts, observed. Assumes nothing.
-use Prim.Native.Nat.{ℕ, zero, suc, _+_, _^_, _≤_, _<_}
-use denote.Ref.{now}
-use lib.Dec.{eqb}
-use lib.ListN.{length, replicate}
-use mathlib.Core.Bool.{Bool, true, false}
+use Prim.Native.Nat.{ℕ, zero, suc, _<_}
+use mathlib.Core.Bool.{false}
 use mathlib.Core.List.{List, [], _∷_, _++_, append-assoc, append-nil}
 use mathlib.Core.Logic.{_≢_}
 use mathlib.Core.Path.{_≡_, refl, sym, ap, _∙_, subst}
 use native.Mathlib.Omega.{arith}
-use Rattle.device.specs.Agree.{Agrees, Performs}
-use Rattle.device.specs.Turn.{Result, afterCall}
-use Rattle.device.specs.declared.Stepped.{Stepped}
+use Rattle.model.proofs.TestLaws.{impossible}
 use Rattle.exports.specs.Demand3.{Held, Exchange, single, run-of, Makes, MakesAll, callsOf, allCalls, Answered, AllAnswered, RecoversTo, ExportsObserved, atFirst, Demand3OfExports}
-use Rattle.exports.specs.Exported.{OnDevice, wordsOf, Told, RunTold, totalsOf, totalsWords}
+use Rattle.exports.specs.Exported.{wordsOf, Told, RunTold, totalsOf, totalsWords}
 use Rattle.model.proofs.CallLaws.{after-append, totals-append, boot-counts-nothing, cut-counts-nothing, post-counts-nothing, run-is-steps, totals-are-counts}
 use Rattle.model.proofs.Demand3.{demand3}
 use Rattle.model.proofs.Observed.{observed}
@@ -23,18 +18,16 @@ use Rattle.model.specs.Calls.{Call, Boot, Step, Cut, Post, Now, call, afterCall
 use Rattle.model.specs.Claims.{Words, DeviceWords, CallWords, EndedSo, IsSteps, AreCounts}
 use Rattle.model.specs.Demand3.{isIn, mayMeet, Expected, Left, recoverySteps, recovering}
 use Rattle.model.specs.Device.{Out, fresh, off, boot, cut, post, step}
-use Rattle.model.specs.Program.{word}
-use Rattle.model.specs.Store.{view, Write, none, settled, storedWord, format, formatCheck}
-use Rattle.model.specs.Test.{pick, _or_}
+use Rattle.model.specs.Store.{view, settled, format, formatCheck}
+use Rattle.model.specs.Test.{_or_}
 use Rattle.model.specs.declared.Answer.{Answer}
 use Rattle.model.specs.declared.Checked.{Checked}
 use Rattle.model.specs.declared.Device.{Device}
 use Rattle.model.specs.declared.Ended.{Ended}
 use Rattle.model.specs.declared.Refusal.{Refusal}
-use Rattle.model.specs.declared.Stored.{Stored}
 use Rattle.model.specs.declared.Totals.{Totals}
 use Rattle.words.proofs.Words.{back}
-use Rattle.words.specs.Words.{flag, placeWords, handlerWords, deviceOf, known, deviceWords, answerWords, endedWords, refusedWords, checkedWords}
+use Rattle.words.specs.Words.{flag, placeWords, handlerWords, deviceOf, known, deviceWords, endedWords, refusedWords, checkedWords}
 
 -- ---- 7 doesn't come up
 
@@ -43,10 +36,10 @@ unfolding isIn mayMeet refusal _or_
 no-control c w a h e = by-call c (subst (Expected c) e h)
   where
     by-call : (c : Call) → Expected c (Answer.Refused (Refusal.Control w)) → ⊥
-    by-call Boot h = let z : _≡_ {A = ℕ} 0 1 = cc in omega arith
-    by-call Step h = let z : _≡_ {A = ℕ} 0 1 = cc in omega arith
-    by-call Cut h = let z : _≡_ {A = ℕ} 0 1 = cc in omega arith
-    by-call (Post e x) h = let z : _≡_ {A = ℕ} 0 1 = cc in omega arith
+    by-call Boot h = impossible (cc)
+    by-call Step h = impossible (cc)
+    by-call Cut h = impossible (cc)
+    by-call (Post e x) h = impossible (cc)
 
 -- ---- what a host holds after the calls cs on the fresh store s is what the definitions have
 

@@ -7,7 +7,7 @@ use lib.ListN.{replicate}
 use mathlib.Core.List.{List, [], _∷_, _++_}
 use mathlib.Core.Logic.{_≢_}
 use mathlib.Core.Path.{_≡_}
-use Rattle.exports.specs.Exported.{Formats, Boots, Posts, Cuts, Steps, Runs, wordsOf, totalsOf, totalsWords}
+use Rattle.exports.specs.Exported.{Formats, Boots, Posts, Cuts, Steps, Runs, wordsOf, totalsOf}
 use Rattle.model.specs.Calls.{Call, Boot, Step, Cut, Post, call, afterCalls, steps, noTotals, totalsAfter, run}
 use Rattle.model.specs.Claims.{Words, CallWords, AreCounts}
 use Rattle.model.specs.Demand3.{Left, recoverySteps, Observed}

@@ -1,6 +1,7 @@
 -- What an exported call promises of the words that it is lent. Device states and answers are words as crates/words has them; totals are
--- three numbers. A step's answer tells which word it stored, too. A call reads its device words first: where they stand for a device state, some result that performs the call is
--- told in words; where they stand for none, the answer says so and nothing is changed. Assumes nothing.
+-- three numbers; a step's answer tells which word it stored, too. A call reads its device words first: where they stand for a device
+-- state, some result that performs the call is told in words; where they stand for none, the answer says so and nothing is changed.
+-- Assumes nothing.
 use Prim.Native.Nat.{ℕ}
 use mathlib.Core.List.{List, [], _∷_}
 use mathlib.Core.Path.{_≡_}

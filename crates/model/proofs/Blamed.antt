@@ -15,7 +15,7 @@ use Rattle.model.proofs.Early.{Early, MayRun}
 use Rattle.model.proofs.Kept.{first-head}
 use Rattle.model.proofs.Numbers.{Low, low-contents, low-store, low-inside, low-used, low-check, low-body}
 use Rattle.model.proofs.RingLaws.{between-self}
-use Rattle.model.proofs.TestLaws.{clash, same-or, and-true, or-true-left, or-true-right, Refuses, refuses-accepted, refuses-must, refuses-then}
+use Rattle.model.proofs.TestLaws.{clash, same-or, and-true, or-true-left, or-true-right, Refuses, refuses-accepted, refuses-must, refuses-then, impossible}
 use Rattle.model.specs.Answer.{refusal}
 use Rattle.model.specs.Calls.{Boot, Step, Cut, Post, call}
 use Rattle.model.specs.Claims.{PlaceIsBroken}
@@ -207,5 +207,5 @@ pub place-is-broken : PlaceIsBroken
 unfolding call cut
 place-is-broken p s d Boot w e = blamed-boot p s d .with-such _ (boot-why p s d _ e) w refl
 place-is-broken p s d Step w e = blamed-step p s d w (why p s d _ e .0)
-place-is-broken p s d Cut w e = let z : _≡_ {A = ℕ} 0 1 = cc in absurd (omega arith)
+place-is-broken p s d Cut w e = impossible (cc)
 place-is-broken p s d (Post y x) w e = blamed-post p s d y .with-such _ (post-why p s d y x _ e) w refl

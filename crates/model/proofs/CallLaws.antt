@@ -1,17 +1,16 @@
 -- Laws of specs/Calls.antt: lists of calls behind each other; a run is its steps, the totals are counts, recovery is a boot and steps.
 -- Assumes nothing.
-use Prim.Native.Nat.{ℕ, zero, suc, _+_, _-_, _^_, _≤_, _<_, min}
+use Prim.Native.Nat.{ℕ, zero, suc, _+_, _-_, _^_, _<_, min}
 use mathlib.Core.Path.{_≡_, refl, sym, ap, _∙_, subst}
 use mathlib.Core.Logic.{_≢_}
 use mathlib.Core.Bool.{Bool, true, false}
 use mathlib.Core.List.{List, [], _∷_, _++_}
 use native.Mathlib.Nat.{not-suc-le-zero, le-of-suc-le-suc, add-zero}
 use native.Mathlib.Omega.{arith}
-use borrow.Author.Tests.{eqb-true, eqb-false, ltb-true, ltb-false}
-use lib.Dec.{eqb}
-use Rattle.model.proofs.TestLaws.{pick-case, pick-true, pick-false}
-use Rattle.model.specs.Calls.{Call, Boot, Step, Line, Now, call, history, afterCalls, steps, countBy, unlessRefused, isRefusal, moreBy, oneIf, isCommit, isAccept, acceptedEvents, isStore, noTotals, counted, totalsAfter, storesMade, Ran, runFrom, run, Recovery, recovered, refused, unfinished, finish, recovery}
-use Rattle.model.specs.Claims.{EndedSo, IsSteps, RunIsSteps, AreCounts, TotalsAreCounts, ByCalls, RecoveryByCalls}
+use borrow.Author.Tests.{eqb-true, eqb-false}
+use Rattle.model.proofs.TestLaws.{pick-case, pick-false, impossible}
+use Rattle.model.specs.Calls.{Call, Boot, Now, call, history, afterCalls, steps, countBy, unlessRefused, isRefusal, moreBy, oneIf, isCommit, isAccept, acceptedEvents, isStore, noTotals, counted, totalsAfter, storesMade, Ran, runFrom, run, recovered, refused, unfinished, finish, recovery}
+use Rattle.model.specs.Claims.{EndedSo, RunIsSteps, TotalsAreCounts, ByCalls, RecoveryByCalls}
 use Rattle.model.specs.Device.{Out, out, judged, turnedOn, off, bootCheck, boot, cut, postCheck, post, step}
 use Rattle.model.specs.Store.{view, none, settled}
 use Rattle.model.specs.Test.{pick}
@@ -246,10 +245,10 @@ module _ (p : List ℕ) (i n : ℕ) (s : List ℕ) (d : Device) (store : List �
       on (suc m) l = h .goes-on m (le-of-suc-le-suc l)
 
 never-refused {ℓ} : {X : Type ℓ} {f : Refusal} {n : ℕ} {store : List ℕ} → refused f ≡ recovered n store → X
-never-refused e = let z : _≡_ {A = ℕ} 0 1 = cc in absurd (omega arith)
+never-refused e = impossible (cc)
 
 never-unfinished {ℓ} : {X : Type ℓ} {n : ℕ} {store : List ℕ} → unfinished ≡ recovered n store → X
-never-unfinished e = let z : _≡_ {A = ℕ} 0 1 = cc in absurd (omega arith)
+never-unfinished e = impossible (cc)
 
 finished : (p : List ℕ) (k i n : ℕ) (s : List ℕ) (d : Device) (store : List ℕ) → finish p k i s d ≡ recovered n store → Finished p i n s d store
 unfolding finish

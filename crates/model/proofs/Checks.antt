@@ -1,8 +1,8 @@
 -- The checks that a call makes pass where the invariant holds: rule 7, early and whole, 25, and what a step checks of a body.
 -- Assumes nothing.
-use Prim.Native.Nat.{ℕ, zero, suc, _+_, _-_, _*_, _≤_, _<_}
-use mathlib.Core.Path.{_≡_, refl, sym, ap, _∙_}
-use mathlib.Core.Logic.{_⊎_, inl, inr, ⊎-elim, _≢_}
+use Prim.Native.Nat.{ℕ, zero, suc, _+_, _≤_, _<_}
+use mathlib.Core.Path.{_≡_, refl, ap, _∙_}
+use mathlib.Core.Logic.{_⊎_, inl, inr, _≢_}
 use mathlib.Core.Bool.{Bool, true, false, not}
 use mathlib.Core.List.{List, [], _∷_, _++_}
 use native.Mathlib.Omega.{arith}
@@ -12,17 +12,16 @@ use lib.ListN.{length}
 use Rattle.model.proofs.Invariant.{Handles, HeldAt, StillAt, CopyingAt, MineAt, EndingAt, HalfSaved, BodyAt, Placed, Resumes, On}
 use Rattle.model.proofs.Kept.{first-head, first-pending, lasting-in, task-last-is, event-last-is}
 use Rattle.model.proofs.LogLaws.{addr}
-use Rattle.model.proofs.ProgramLaws.{Contents, Leads, Sound}
-use Rattle.model.proofs.RingLaws.{Between, between-is, between-first, after-le}
-use Rattle.model.proofs.TestLaws.{pick-case, pick-true, pick-false, clash, below-or, and-true, and-left, and-right, or-true-left, or-true-right, not-false, must-true, then-passed, then-first, then-rest}
-use Rattle.model.specs.Check.{rowsInside, rowUsed, instructionRule, check}
-use Rattle.model.specs.Control.{Rule, broken, obey, obeyAll, upTo, phaseRule, taskRule, openRule, openServing, countRule, pendingTaskRule, headRule, tailRule, pendingHeadRule, pendingOpenRule, addressRule, between, recordRule, controlRules, rules, earlyRules}
-use Rattle.model.specs.Device.{taskStores, eventStores, lastStores, mayRun, endStores, placeSound, handlerSound, deviceSound, recordSound, headSound, namedRow, openSound, headIs, ends, saves, placeFits, bodySound}
-use Rattle.model.specs.Program.{word, tasks, events, memoryWords, instructions, transaction, number, effectAt}
+use Rattle.model.proofs.ProgramLaws.{Leads, Sound}
+use Rattle.model.proofs.RingLaws.{Between, between-is, between-first}
+use Rattle.model.proofs.TestLaws.{pick-case, pick-true, pick-false, below-or, and-true, or-true-left, or-true-right, not-false, must-true, then-passed, then-first, then-rest}
+use Rattle.model.specs.Control.{Rule, obey, obeyAll, upTo, phaseRule, taskRule, openRule, openServing, countRule, pendingTaskRule, headRule, tailRule, pendingHeadRule, pendingOpenRule, addressRule, between, recordRule, controlRules, rules, earlyRules}
+use Rattle.model.specs.Device.{taskStores, eventStores, mayRun, endStores, placeSound, handlerSound, deviceSound, recordSound, headSound, namedRow, openSound, headIs, ends, saves, placeFits, bodySound}
+use Rattle.model.specs.Program.{tasks, events, memoryWords, instructions, transaction, number, effectAt}
 use Rattle.model.specs.Serial.{Serial}
-use Rattle.model.specs.Store.{Store, event, after, empty, full, firstWaiting, Task, Open, Phase, Head, to, Write}
-use Rattle.model.specs.Test.{pick, _and_, _or_, must, _then_}
-use Rattle.model.specs.Types.{Answer, Body, Checked, Device, Effect, Free, Half, Handler, Place, Refusal, Resting, Run, Storing}
+use Rattle.model.specs.Store.{Store, event, after, firstWaiting, Task, Write}
+use Rattle.model.specs.Test.{_and_, _or_}
+use Rattle.model.specs.Types.{Body, Checked, Device, Effect, Free, Half, Handler, Place, Resting, Run, Storing}
 
 -- ---- a rule that is kept, or doesn't speak
 

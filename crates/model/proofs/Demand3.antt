@@ -1,25 +1,25 @@
 -- Demand 3, whole: for any list of boots, steps, posts and cuts, refused ones among them, on a store freshly formatted with a checked
 -- program, the device off at first. It cites: Fresh (the start), KeptWords (each call), Recovery, SerialLaws. Assumes nothing.
-use Prim.Native.Nat.{ℕ, zero, suc, _+_, _≤_, _<_}
-use mathlib.Core.Path.{_≡_, refl, sym, ap, _∙_, subst}
+use Prim.Native.Nat.{ℕ, suc, _+_, _≤_}
+use mathlib.Core.Path.{_≡_, refl, sym, ap, _∙_}
 use mathlib.Core.List.{List, [], _∷_}
 use mathlib.Core.Option.{Option, some}
-use native.Mathlib.Nat.{add-zero, zero-add}
+use native.Mathlib.Nat.{add-zero}
 use native.Mathlib.Omega.{arith}
 use lib.ListN.{length}
-use Rattle.model.proofs.Fresh.{Formatted, format-passed, fresh-words}
-use Rattle.model.proofs.KeptWords.{InvWords, KeptWords, call-kept, view-at}
+use Rattle.model.proofs.Fresh.{format-passed, fresh-words}
+use Rattle.model.proofs.KeptWords.{InvWords, call-kept, view-at}
 use Rattle.model.proofs.ProgramLaws.{Sound}
 use Rattle.model.proofs.Recovery.{recovers, waiting-is}
 use Rattle.model.proofs.SerialLaws.{runs-body, serial-balance}
 use Rattle.model.proofs.StoreLaws.{viewAt}
-use Rattle.model.specs.Calls.{Call, Step, Line, call, history, afterCalls, isAccept}
-use Rattle.model.specs.Demand3.{isCompletion, Runs, AsSerialRun, Demand3}
+use Rattle.model.specs.Calls.{Call, Step, call, history, afterCalls}
+use Rattle.model.specs.Demand3.{AsSerialRun, Demand3}
 use Rattle.model.specs.Device.{off}
 use Rattle.model.specs.Program.{memoryWords}
 use Rattle.model.specs.Serial.{Serial, tell, andThen, serialFrom, serial, serialStart, runBody}
-use Rattle.model.specs.Store.{Store, view, waiting, settled, formatCheck, format, formatted}
-use Rattle.model.specs.Types.{Answer, Body, Checked, Device}
+use Rattle.model.specs.Store.{waiting, settled, formatted}
+use Rattle.model.specs.Types.{Device}
 
 -- after a list of calls that begins with the invariant, and k calls before it
 record After (p : List ℕ) (l q : ℕ) (s : List ℕ) (d : Device) (z : Serial) (k : ℕ) (cs : List Call) : Type 0 where

@@ -1,27 +1,26 @@
 -- A freshly formatted store keeps the invariant, with the device off and the serial run at its start. Assumes nothing.
-use Prim.Native.Nat.{ℕ, zero, suc, _+_, _-_, _*_, _≤_, _<_, min}
+use Prim.Native.Nat.{ℕ, zero, suc, _-_, _≤_}
 use mathlib.Core.Path.{_≡_, refl, sym, ap, _∙_}
-use mathlib.Core.Logic.{_⊎_, inl, inr, _≢_}
-use mathlib.Core.Bool.{Bool, true, false}
-use mathlib.Core.List.{List, [], _∷_, _++_}
+use mathlib.Core.Logic.{inl, inr}
+use mathlib.Core.Bool.{true}
+use mathlib.Core.List.{List, [], _∷_}
 use native.Mathlib.Nat.{not-suc-le-zero, suc-sub-suc, sub-zero, zero-sub}
 use native.Mathlib.Omega.{arith}
-use borrow.Author.Tests.{leb-true, eqb-true, eq-eqb, le-leb}
-use lib.Dec.{leb, eqb}
-use lib.ListN.{length, take, drop, getD, replicate, length-append, length-replicate}
+use borrow.Author.Tests.{eq-eqb, le-leb}
+use lib.Dec.{eqb}
+use lib.ListN.{length, take, drop, replicate, length-replicate}
 use Rattle.model.proofs.Invariant.{Inv, Waiting}
 use Rattle.model.proofs.Kept.{first-head}
 use Rattle.model.proofs.KeptWords.{InvWords}
-use Rattle.model.proofs.ProgramLaws.{Contents, Sound, check-passed}
-use Rattle.model.proofs.RingLaws.{Between, between-free}
+use Rattle.model.proofs.ProgramLaws.{Sound, check-passed}
+use Rattle.model.proofs.RingLaws.{Between}
 use Rattle.model.proofs.StoreLaws.{viewAt, Sized}
-use Rattle.model.proofs.TestLaws.{and-left, and-right, must-passed, must-true, then-passed, then-first, then-rest, pick-true}
-use Rattle.model.specs.Check.{check}
+use Rattle.model.proofs.TestLaws.{must-passed, must-true, then-passed, then-first, then-rest}
 use Rattle.model.specs.Device.{off, fresh}
-use Rattle.model.specs.Program.{word, tasks, events, memoryWords, entry}
-use Rattle.model.specs.Serial.{Serial, serialStart}
-use Rattle.model.specs.Store.{Store, storeMark, storeContents, storeLength, controlAt, memoryAt, logAt, queueAt, formatted, sizesRule, formatCheck, formatStore, format, storeRule, firstWaiting, recordsFrom, distance}
-use Rattle.model.specs.Test.{pick, must, _then_}
+use Rattle.model.specs.Program.{word, memoryWords}
+use Rattle.model.specs.Serial.{serialStart}
+use Rattle.model.specs.Store.{Store, storeMark, storeContents, storeLength, controlAt, memoryAt, logAt, queueAt, formatted, sizesRule, formatCheck, formatStore, format, storeRule, recordsFrom, distance}
+use Rattle.model.specs.Test.{pick, must}
 use Rattle.model.specs.Types.{Checked, Refusal}
 
 -- ---- zeros

@@ -2,19 +2,19 @@
 -- a record over just the parts that it speaks of, so that a proof of it stands as it is after a store to another part. "The first c
 -- stores of this list are made" is one predicate, `First`, for every row of stores. Assumes nothing.
 use Prim.Native.Nat.{ℕ, zero, suc, _+_, _-_, _*_, _≤_, _<_, min}
-use mathlib.Core.Path.{_≡_, refl, sym, ap, _∙_}
-use mathlib.Core.Logic.{_⊎_, inl, inr, _≢_}
-use mathlib.Core.Bool.{Bool, true, false, not}
-use mathlib.Core.List.{List, [], _∷_, _++_}
+use mathlib.Core.Path.{_≡_}
+use mathlib.Core.Logic.{_⊎_, _≢_}
+use mathlib.Core.Bool.{true}
+use mathlib.Core.List.{List, [], _∷_}
 use mathlib.Core.Option.{Option, some}
-use lib.ListN.{length, set, replicate}
-use Rattle.model.proofs.LogLaws.{addr, val, overlay, Distinct}
+use lib.ListN.{length, replicate}
+use Rattle.model.proofs.LogLaws.{addr, overlay, Distinct}
 use Rattle.model.proofs.RingLaws.{Between}
 use Rattle.model.specs.Device.{off, taskStores, eventStores, taskLastStores, eventLastStores}
-use Rattle.model.specs.Program.{word, tasks, events, memoryWords, instructions, transaction, number, effectAt, newOpen}
-use Rattle.model.specs.Serial.{Serial, Walked, walk}
+use Rattle.model.specs.Program.{word, tasks, events, memoryWords, instructions, transaction, number, effectAt}
+use Rattle.model.specs.Serial.{Serial, walk}
 use Rattle.model.specs.Store.{Store, Record, after, firstWaiting, recordsFrom, distance, Phase, Task, Open, Count, Pending, PendingOpen, Head, Tail, Memory, Address, Value, Event, Datum, Write, none, to}
-use Rattle.model.specs.Types.{Answer, Body, Device, Effect, Free, Half, Handler, Next, Place, Resting, Run, Storing}
+use Rattle.model.specs.Types.{Body, Device, Effect, Free, Half, Handler, Next, Place, Resting, Run, Storing}
 
 -- ---- the control words, but tail, which is the handler's
 

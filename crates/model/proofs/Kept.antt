@@ -3,28 +3,27 @@
 use Prim.Native.Nat.{ℕ, zero, suc, _+_, _-_, _*_, _≤_, _<_, min}
 use mathlib.Core.Path.{_≡_, refl, sym, ap, _∙_}
 use mathlib.Core.Logic.{_⊎_, inl, inr, ⊎-elim, _≢_}
-use mathlib.Core.Bool.{Bool, true, false, not}
+use mathlib.Core.Bool.{true, false}
 use mathlib.Core.List.{List, [], _∷_, _++_}
-use mathlib.Core.Option.{Option, none as nothing, some}
+use mathlib.Core.Option.{Option, some}
 use native.Mathlib.Omega.{arith}
-use lib.Dec.{ltb, leb, eqb}
-use lib.ListN.{length, set, getD, replicate}
+use lib.Dec.{eqb}
+use lib.ListN.{length, set}
 use borrow.Author.Tests.{lt-ltb, le-ltb}
 use lib.Seq.{getD-set-other, getD-set-same}
-use Rattle.model.proofs.Invariant.{Controls, controls, First, Lengths, Waiting, AtWork, Handles, HeldAt, Lasting, Copying, CopyingAt, TaskCommit, TaskCommitAt, EventCommit, EventCommitAt, CommitAt, MineAt, Running, Placed, On, Inv}
-use Rattle.model.proofs.LogLaws.{addr, val, overlay, overlay-zero, overlay-suc, overlay-other, Distinct}
-use Rattle.model.proofs.RingLaws.{Between, after-le, after-injective, distance-tail, records-tail, records-free, between-tail, between-free}
+use Rattle.model.proofs.Invariant.{Controls, controls, First, Lengths, Waiting, AtWork, Handles, HeldAt, Lasting, Copying, CopyingAt, TaskCommitAt, EventCommitAt, CommitAt, MineAt, Running, Placed, On, Inv}
+use Rattle.model.proofs.LogLaws.{overlay, overlay-suc}
+use Rattle.model.proofs.RingLaws.{after-le, after-injective, distance-tail, records-tail, records-free, between-tail, between-free}
 use Rattle.model.proofs.StoreLaws.{apply, requeued, retasked, Inside}
 use Rattle.model.proofs.TestLaws.{pick-true, pick-false, below-or, must-true}
-use Rattle.model.specs.Answer.{refusal}
 use Rattle.model.specs.Demand3.{Expected}
-use Rattle.model.specs.Calls.{Call, Boot, Step, Cut, Post}
-use Rattle.model.specs.Device.{Out, out, refuse, judged, off, fresh, handled, moved, handlerStep, storing, taskStores, eventStores, taskLastStores, eventLastStores, lastStores, pairSound, copyStep}
-use Rattle.model.specs.Program.{word, tasks, events, memoryWords, instructions, transaction, number, effectAt, newOpen}
-use Rattle.model.specs.Serial.{Serial, walk, tell, withRecord, accept, afterDone}
-use Rattle.model.specs.Store.{Store, address, value, logAt, Record, after, firstWaiting, slot, recordsFrom, distance, Word, Phase, Task, Open, Count, Pending, PendingOpen, Head, Tail, Memory, Address, Value, Event, Datum, Write, none, to}
+use Rattle.model.specs.Calls.{Call, Step}
+use Rattle.model.specs.Device.{Out, out, refuse, judged, fresh, handled, moved, handlerStep, storing, taskStores, eventStores, taskLastStores, eventLastStores, lastStores, pairSound, copyStep}
+use Rattle.model.specs.Program.{tasks, memoryWords}
+use Rattle.model.specs.Serial.{Serial, tell, withRecord, accept}
+use Rattle.model.specs.Store.{Store, address, value, logAt, Record, after, firstWaiting, slot, Phase, Task, Open, Head, Tail, Memory, Event, Datum, Write, none, to}
 use Rattle.model.specs.Test.{pick}
-use Rattle.model.specs.Types.{Answer, Body, Checked, Device, Effect, Free, Half, Handler, Next, Place, Refusal, Resting, Run, Storing}
+use Rattle.model.specs.Types.{Answer, Body, Checked, Device, Free, Half, Handler, Next, Place, Refusal, Resting, Run}
 
 -- a store to a word that is there
 abbrev pub InsideOf : List ℕ → Store → Write → Type 0

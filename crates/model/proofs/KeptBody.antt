@@ -1,33 +1,31 @@
 -- A body keeps the invariant: choosing it, its instructions with the log, and the stores of its end. Assumes nothing.
 use Prim.Native.Nat.{ℕ, zero, suc, _+_, _-_, _*_, _≤_, _<_, min}
 use mathlib.Core.Path.{_≡_, refl, sym, ap, _∙_}
-use mathlib.Core.Logic.{_⊎_, inl, inr, ⊎-elim, _≢_}
-use mathlib.Core.Bool.{Bool, true, false, not}
-use mathlib.Core.List.{List, [], _∷_, _++_}
-use mathlib.Core.Option.{Option, some}
+use mathlib.Core.Logic.{_⊎_, inl, inr, _≢_}
+use mathlib.Core.Bool.{true}
+use mathlib.Core.List.{List, _∷_}
 use native.Mathlib.Nat.{zero-add, add-suc, suc-add}
 use native.Mathlib.Numerals.{add-one}
 use native.Mathlib.Omega.{arith}
-use borrow.Author.Tests.{lt-ltb, le-ltb, eqb-true, eqb-false, eq-eqb, ltb-true, ltb-false, not-true, not-false}
-use lib.Dec.{ltb, leb, eqb}
-use lib.ListN.{length, set, getD, replicate}
+use borrow.Author.Tests.{lt-ltb, eqb-true, eqb-false, eq-eqb, ltb-true, ltb-false, not-true}
+use lib.ListN.{length, set, replicate}
 use lib.Seq.{getD-set-other, getD-set-same}
-use Rattle.model.proofs.Invariant.{Lengths, Tasked, Waiting, StillAt, Copying, MineAt, Running, Ending, EndingAt, HalfSaved, On, Inv}
+use Rattle.model.proofs.Invariant.{Lengths, Waiting, StillAt, Copying, MineAt, Running, EndingAt, HalfSaved, On, Inv}
 use Rattle.model.proofs.Kept.{Kept, refused-kept, stored-kept, copies-left, running-later, first-head, first-pending}
-use Rattle.model.proofs.LogLaws.{addr, val, overlay, overlay-zero, overlay-suc, overlay-other, overlay-elsewhere, overlay-pair, overlay-overwrite, overlay-append, length-overlay, Distinct, find-pair, find-nothing}
-use Rattle.model.proofs.ProgramLaws.{Contents, Leads, Sound}
-use Rattle.model.proofs.RingLaws.{Between, after-le, between-first, between-head, records-head}
+use Rattle.model.proofs.LogLaws.{addr, overlay, overlay-zero, overlay-other, overlay-elsewhere, overlay-pair, overlay-overwrite, overlay-append, Distinct, find-pair, find-nothing}
+use Rattle.model.proofs.ProgramLaws.{Leads, Sound}
+use Rattle.model.proofs.RingLaws.{after-le, between-first, between-head, records-head}
 use Rattle.model.proofs.StoreLaws.{apply, relogged, recommitted, Inside}
-use Rattle.model.proofs.TestLaws.{pick-case, pick-true, pick-false, clash, same-or, below-or, and-true, and-left, and-right, must-true, then-passed}
+use Rattle.model.proofs.TestLaws.{pick-case, pick-true, below-or, and-true, and-left, and-right, must-true}
 use Rattle.model.specs.Answer.{refusal}
-use Rattle.model.specs.Calls.{Call, Step}
+use Rattle.model.specs.Calls.{Step}
 use Rattle.model.specs.Demand3.{isIn, mayMeet}
-use Rattle.model.specs.Device.{Out, out, refuse, judged, fresh, moved, begun, storing, taskStores, eventStores, taskLastStores, eventLastStores, recordSound, chooseStep, shown, saveStep, act, saveRest}
+use Rattle.model.specs.Device.{Out, out, judged, fresh, moved, begun, storing, taskStores, eventStores, taskLastStores, eventLastStores, recordSound, chooseStep, shown, saveStep, act, saveRest}
 use Rattle.model.specs.Program.{word, tasks, events, memoryWords, instructions, transaction, number, effectAt, newOpen}
-use Rattle.model.specs.Serial.{Serial, Walked, went, served, lost, advance, walk, walkBody, afterTask, afterEvent, serveOldest, runBody, tell}
-use Rattle.model.specs.Store.{Store, address, value, event, datum, Record, queueAt, after, empty, firstWaiting, slot, recordsFrom, distance, find, Word, Phase, Count, Pending, PendingOpen, Address, Value, Write, none, to}
-use Rattle.model.specs.Test.{pick, _and_, _or_}
-use Rattle.model.specs.Types.{Answer, Body, Checked, Device, Effect, Found, Free, Half, Handler, Place, Refusal, Resting, Run}
+use Rattle.model.specs.Serial.{Serial, went, advance, walk, walkBody, afterTask, afterEvent, serveOldest, runBody, tell}
+use Rattle.model.specs.Store.{Store, event, datum, after, firstWaiting, slot, recordsFrom, distance, find, Word, Phase, Count, Pending, PendingOpen, Address, Value, Write, none, to}
+use Rattle.model.specs.Test.{pick, _or_}
+use Rattle.model.specs.Types.{Answer, Body, Checked, Device, Effect, Found, Half, Refusal, Run}
 
 -- no store of a body's end is made
 ending-none : (p : List ℕ) (v : Store) (d : Device) (b : Body) (i j : ℕ) (f : Effect) → Leads p i j f → EndingAt p v d b 0 f

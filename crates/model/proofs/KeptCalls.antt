@@ -1,29 +1,25 @@
 -- Boot, step, post and cut keep the invariant, over the parts of a store. Assumes nothing.
-use Prim.Native.Nat.{ℕ, zero, suc, _+_, _-_, _*_, _≤_, _<_, min}
+use Prim.Native.Nat.{ℕ, suc, _≤_, _<_, min}
 use mathlib.Core.Path.{_≡_, refl, sym, ap, _∙_}
 use mathlib.Core.Logic.{_⊎_, inl, inr, ⊎-elim, _≢_}
-use mathlib.Core.Bool.{Bool, true, false, not}
-use mathlib.Core.List.{List, [], _∷_, _++_}
-use mathlib.Core.Option.{Option, some}
+use mathlib.Core.List.{List}
+use mathlib.Core.Option.{some}
 use native.Mathlib.Omega.{arith}
-use borrow.Author.Tests.{lt-ltb, le-ltb, ltb-true, ltb-false, eqb-true, eqb-false, not-true}
-use lib.Dec.{ltb, leb, eqb}
-use lib.ListN.{length, set, replicate}
-use Rattle.model.proofs.Checks.{rules-obeyed, early-obeyed, device-sound, body-sound, run-fits, half-fits}
+use lib.Dec.{eqb}
+use Rattle.model.proofs.Checks.{body-sound, run-fits, half-fits}
 use Rattle.model.proofs.Invariant.{Lengths, Handles, HeldAt, CopyingAt, TaskCommitAt, EventCommitAt, Placed, Resumes, On, Inv}
 use Rattle.model.proofs.Kept.{Kept, placed-requeued, handler-kept, copies-left, commit-kept}
 use Rattle.model.proofs.KeptBody.{choose-kept, act-kept, rest-kept}
 use Rattle.model.proofs.LogLaws.{overlay, overlay-zero, overlay-again}
 use Rattle.model.proofs.ProgramLaws.{Sound}
 use Rattle.model.proofs.StoreLaws.{apply}
-use Rattle.model.proofs.TestLaws.{pick-case, pick-true, pick-false, clash, must-true}
-use Rattle.model.specs.Calls.{Call, Boot, Step, Cut, Post}
+use Rattle.model.proofs.TestLaws.{pick-true, pick-false}
+use Rattle.model.specs.Calls.{Boot, Step, Cut, Post}
 use Rattle.model.specs.Device.{out, judged, fresh, off, turnedOn, handled, taskLastStores, eventLastStores, placeStep, nextStep}
-use Rattle.model.specs.Program.{number, effectAt, memoryWords, events}
+use Rattle.model.specs.Program.{number, effectAt, events}
 use Rattle.model.specs.Serial.{Serial, tell, afterDone}
-use Rattle.model.specs.Store.{Store, Write, none, to, full, after, firstWaiting}
-use Rattle.model.specs.Test.{pick, must}
-use Rattle.model.specs.Types.{Answer, Body, Checked, Device, Effect, Free, Half, Handler, Next, Place, Refusal, Resting, Run, Storing}
+use Rattle.model.specs.Store.{Store, none, after}
+use Rattle.model.specs.Types.{Answer, Device, Free, Half, Handler, Next, Place, Resting, Run, Storing}
 
 -- ---- a step, past its early checks
 

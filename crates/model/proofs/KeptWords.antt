@@ -1,32 +1,30 @@
 -- The invariant over the words of a store: every call keeps it, meets no refusal but the expected ones, and the serial run follows.
 -- Assumes nothing.
-use Prim.Native.Nat.{ℕ, zero, suc, _+_, _-_, _*_, _≤_, _<_}
+use Prim.Native.Nat.{ℕ, suc, _<_}
 use mathlib.Core.Path.{_≡_, refl, sym, ap, _∙_}
-use mathlib.Core.Logic.{_⊎_, inl, inr, _≢_}
+use mathlib.Core.Logic.{inl, inr, _≢_}
 use mathlib.Core.Bool.{Bool, true, false, not}
-use mathlib.Core.List.{List, [], _∷_}
-use mathlib.Core.Option.{Option, some}
-use native.Mathlib.Omega.{arith}
+use mathlib.Core.List.{List}
+use mathlib.Core.Option.{some}
 use borrow.Author.Tests.{ltb-true, eqb-false, not-true}
-use lib.Dec.{ltb, eqb}
+use lib.Dec.{ltb}
 use Rattle.model.proofs.Checks.{rules-obeyed, early-obeyed, device-sound}
 use Rattle.model.proofs.Invariant.{Lengths, On, Inv}
 use Rattle.model.proofs.Kept.{Kept, refused-kept, InsideOf}
 use Rattle.model.proofs.KeptCalls.{held-of, resumes-of, turned-off-kept, turned-on-kept, next-kept, posted-kept}
 use Rattle.model.proofs.ProgramLaws.{Sound}
 use Rattle.model.proofs.StoreLaws.{viewAt, apply, Sized, view-is, view-settled, settled-sized, lengths-are, rule-kept}
-use Rattle.model.proofs.TestLaws.{pick-false, clash, must-true, then-skip, not-false}
+use Rattle.model.proofs.TestLaws.{clash, must-true, then-skip}
 use Rattle.model.specs.Answer.{refusal}
 use Rattle.model.specs.Calls.{Call, Boot, Step, Cut, Post, call}
-use Rattle.model.specs.Check.{contentsRule, check}
 use Rattle.model.specs.Demand3.{isIn, mayMeet, Expected}
 use Rattle.model.specs.Control.{obeyAll, rules, earlyRules}
-use Rattle.model.specs.Device.{Out, out, refuse, judged, fresh, off, handled, atRest, zeros, isFresh, deviceSound, look, bootCheck, boot, cut, postCheck, post, nextStep, step}
+use Rattle.model.specs.Device.{Out, out, refuse, judged, fresh, handled, atRest, zeros, isFresh, deviceSound, look, bootCheck, boot, cut, postCheck, post, nextStep, step}
 use Rattle.model.specs.Program.{events, memoryWords}
 use Rattle.model.specs.Serial.{Serial, tell, afterDone}
 use Rattle.model.specs.Store.{Store, view, Write, none, to, settled, full, after, storeRule}
 use Rattle.model.specs.Test.{pick, _and_, _or_, must, _then_}
-use Rattle.model.specs.Types.{Answer, Checked, Device, Handler, Next, Refusal, Resting, Storing}
+use Rattle.model.specs.Types.{Answer, Checked, Device, Next, Refusal, Storing}
 
 -- the invariant of a store of l log pairs and q queue records
 pub record InvWords (p : List ℕ) (l q : ℕ) (s : List ℕ) (d : Device) (z : Serial) (k : ℕ) : Type 0 where

@@ -1,16 +1,16 @@
 -- Laws of the log: what a search finds, and memory with the log's pairs laid over it, in order. Assumes nothing.
-use Prim.Native.Nat.{ℕ, zero, suc, _+_, _-_, _*_, _≤_, _<_, min}
+use Prim.Native.Nat.{ℕ, zero, suc, _+_, _*_, _≤_, _<_}
 use mathlib.Core.Path.{_≡_, refl, sym, ap, _∙_}
-use mathlib.Core.Logic.{_⊎_, inl, inr, _≢_}
-use mathlib.Core.Bool.{Bool, true, false, not}
-use mathlib.Core.List.{List, [], _∷_, _++_}
-use native.Mathlib.Nat.{not-suc-le-zero, add-zero, zero-add, add-suc, suc-add}
+use mathlib.Core.Logic.{_≢_}
+use mathlib.Core.Bool.{Bool, true, false}
+use mathlib.Core.List.{List}
+use native.Mathlib.Nat.{not-suc-le-zero}
 use native.Mathlib.Omega.{arith}
-use lib.Dec.{eqb, ltb}
-use lib.ListN.{length, set, getD, length-set}
+use lib.Dec.{eqb}
+use lib.ListN.{length, set, length-set}
 use lib.Seq.{getD-set-other, getD-set-same, set-set, set-comm}
-use borrow.Author.Tests.{eqb-true, eqb-false, ltb-true, ltb-false}
-use Rattle.model.proofs.TestLaws.{pick-case, pick-true, pick-false, clash, same-or}
+use borrow.Author.Tests.{eqb-true, eqb-false}
+use Rattle.model.proofs.TestLaws.{pick-true, pick-false, same-or}
 use Rattle.model.specs.Program.{word}
 use Rattle.model.specs.Store.{findFrom, find}
 use Rattle.model.specs.Test.{pick}

@@ -1,19 +1,18 @@
 -- What a bench sees that makes calls alone, from demand 3. It cites: Demand3, SerialLaws, CallLaws. Assumes nothing.
-use Prim.Native.Nat.{ℕ, zero, suc, _+_, _≤_, _<_}
-use mathlib.Core.Path.{_≡_, refl, sym, ap, _∙_, subst}
-use mathlib.Core.Logic.{_≢_}
-use mathlib.Core.List.{List, [], _∷_, _++_, append-assoc}
+use Prim.Native.Nat.{ℕ}
+use mathlib.Core.Path.{_≡_, ap, _∙_, subst}
+use mathlib.Core.List.{List, [], _∷_, _++_}
 use native.Mathlib.Omega.{arith}
 use lib.ListN.{length}
 use Rattle.model.proofs.CallLaws.{after-append, recovery-by-calls}
 use Rattle.model.proofs.Demand3.{demand3}
 use Rattle.model.proofs.SerialLaws.{tasks-follow}
-use Rattle.model.specs.Calls.{Call, Boot, Step, Cut, Line, Now, call, history, afterCalls, steps}
+use Rattle.model.specs.Calls.{Call, Boot, Step, Cut, Now, call, history, afterCalls, steps}
 use Rattle.model.specs.Claims.{ByCalls}
-use Rattle.model.specs.Demand3.{Expected, Left, recoverySteps, AsSerialRun, AllExpected, recovering, Observed, ObservedByCalls}
+use Rattle.model.specs.Demand3.{recoverySteps, AsSerialRun, AllExpected, recovering, Observed, ObservedByCalls}
 use Rattle.model.specs.Device.{off, cut}
-use Rattle.model.specs.Store.{Store, Record, view, none, settled, waiting, formatCheck, format}
-use Rattle.model.specs.Types.{Answer, Body, Checked, Device}
+use Rattle.model.specs.Store.{Record, view, settled, waiting, formatCheck, format}
+use Rattle.model.specs.Types.{Answer, Body, Checked}
 
 module _ (p : List ℕ) (l q : ℕ) (s : List ℕ) (e : formatCheck p l q s ≡ Checked.Accepted) where
   abbrev fresh-store : List ℕ

@@ -1,18 +1,18 @@
 -- What an accepted program check gives: the sizes, each row, each instruction, and where an instruction leads. Assumes nothing.
 use Prim.Native.Nat.{ℕ, zero, suc, _+_, _-_, _*_, _≤_, _<_}
-use mathlib.Core.Path.{_≡_, refl, sym, ap, _∙_, subst}
+use mathlib.Core.Path.{_≡_, refl, sym, ap, _∙_}
 use mathlib.Core.Bool.{Bool, true, false}
 use mathlib.Core.List.{List, [], _∷_}
-use native.Mathlib.Nat.{not-suc-le-zero, le-of-suc-le-suc, add-zero, add-suc, suc-add, zero-add}
+use native.Mathlib.Nat.{not-suc-le-zero, add-zero, add-suc, suc-add, zero-add}
 use native.Mathlib.Omega.{arith}
-use lib.Dec.{ltb, leb, eqb}
+use lib.Dec.{ltb, eqb}
 use lib.ListN.{length, getD}
 use borrow.Author.Tests.{ltb-true, leb-true, eqb-true, eq-eqb, le-leb, eqb-false}
-use Rattle.model.proofs.TestLaws.{pick-case, pick-true, pick-false, clash, and-left, and-right, must-true, must-passed, then-passed, then-first, then-rest, each-passed}
+use Rattle.model.proofs.TestLaws.{pick-case, pick-true, clash, and-left, and-right, must-true, must-passed, then-passed, then-first, then-rest, each-passed}
 use Rattle.model.specs.Check.{contentsRule, rowsInside, limits, due, rowRule, rows, rowUsed, fieldsFit, lastFits, instructionRule, bodyRule, check}
-use Rattle.model.specs.Program.{word, programMark, tasks, events, memoryWords, entry, total, bodies, start, instructions, transaction, firstBody, opcode, fieldA, fieldB, code, operand, Bounds, boundsTable, bounds, mayBeLast, instructionTable, decode, effect, effectAt, less, reg}
-use Rattle.model.specs.Test.{pick, _and_, must, _then_, each}
-use Rattle.model.specs.Types.{Checked, Refusal, Instruction, Effect}
+use Rattle.model.specs.Program.{tasks, events, memoryWords, entry, total, bodies, start, instructions, firstBody, opcode, fieldA, fieldB, code, operand, Bounds, boundsTable, bounds, mayBeLast, instructionTable, decode, effect, effectAt, less, reg}
+use Rattle.model.specs.Test.{pick}
+use Rattle.model.specs.Types.{Checked, Instruction, Effect}
 
 -- ---- the table of contents
 

@@ -1,12 +1,12 @@
 -- Uncut recovery where the invariant holds: it isn't refused, takes just the steps that document 01 says, and leaves what the serial
 -- run has. Assumes nothing.
-use Prim.Native.Nat.{ℕ, zero, suc, _+_, _-_, _*_, _≤_, _<_}
+use Prim.Native.Nat.{ℕ, zero, suc, _+_, _≤_}
 use mathlib.Core.Path.{_≡_, refl, sym, ap, _∙_, subst}
-use mathlib.Core.Logic.{_⊎_, inl, inr, _≢_}
-use mathlib.Core.Bool.{Bool, true, false, not}
-use mathlib.Core.List.{List, [], _∷_}
-use mathlib.Core.Option.{Option, some}
-use native.Mathlib.Nat.{not-suc-le-zero, add-zero, zero-add, add-assoc, add-comm}
+use mathlib.Core.Logic.{inl, inr, _≢_}
+use mathlib.Core.Bool.{true, false}
+use mathlib.Core.List.{List}
+use mathlib.Core.Option.{some}
+use native.Mathlib.Nat.{not-suc-le-zero, add-zero, zero-add}
 use native.Mathlib.Omega.{arith}
 use borrow.Author.Tests.{ne-eqb}
 use lib.Dec.{eqb}
@@ -18,14 +18,14 @@ use Rattle.model.proofs.KeptCalls.{held-of, resumes-of, off-inv, on-inv
 use Rattle.model.proofs.ProgramLaws.{Sound}
 use Rattle.model.proofs.StoreLaws.{viewAt}
 use Rattle.model.proofs.TestLaws.{pick-true, pick-false, must-true}
-use Rattle.model.specs.Calls.{Call, Boot, Step, Cut, unlessRefused, Recovery, recovered, refused, unfinished, finish, recovery}
+use Rattle.model.specs.Calls.{Step, unlessRefused, recovered, refused, finish, recovery}
 use Rattle.model.specs.Demand3.{Left, recoverySteps, Recovers}
-use Rattle.model.specs.Device.{Out, out, judged, fresh, off, turnedOn, taskLastStores, eventLastStores, lastStores, look, bootCheck, boot, cut, copyStep, placeStep, nextStep, step}
+use Rattle.model.specs.Device.{Out, out, judged, fresh, off, turnedOn, taskLastStores, eventLastStores, lastStores, boot, cut, copyStep, placeStep, nextStep, step}
 use Rattle.model.specs.Program.{memoryWords}
 use Rattle.model.specs.Serial.{Serial, tell}
-use Rattle.model.specs.Store.{Store, view, Write, none, settled, waiting, firstWaiting}
-use Rattle.model.specs.Test.{pick, must}
-use Rattle.model.specs.Types.{Answer, Checked, Device, Free, Half, Handler, Place, Refusal, Resting, Run}
+use Rattle.model.specs.Store.{Store, view, Write, none, settled, waiting}
+use Rattle.model.specs.Test.{must}
+use Rattle.model.specs.Types.{Answer, Checked, Device, Free, Resting}
 
 pub waiting-is : (p : List ℕ) (v : Store) (d : Device) (z : Serial) (k : ℕ) → Inv p v d z k → waiting v ≡ z .records
 unfolding waiting

@@ -4,7 +4,7 @@
 use Prim.Native.Nat.{ℕ}
 use mathlib.Core.Path.{_≡_, refl, ap, _∙_}
 use mathlib.Core.List.{List}
-use native.Mathlib.Omega.{arith}
+use Rattle.model.proofs.TestLaws.{impossible}
 use Rattle.model.proofs.CallLaws.{adds-nothing}
 use Rattle.model.proofs.DeviceLaws.{judged-refused, boot-why, post-why, why}
 use Rattle.model.specs.Calls.{Call, Boot, Step, Cut, Post, call, isCommit, acceptedEvents, isStore, counted}
@@ -22,7 +22,7 @@ pub refused-is : (p s : List ℕ) (d : Device) (c : Call) → Bare d (call p s d
 unfolding call boot cut post
 refused-is p s d Boot r e = judged-refused d _ (boot-why p s d r e)
 refused-is p s d Step r e = why p s d r e .1
-refused-is p s d Cut r e = let z : _≡_ {A = ℕ} 0 1 = cc in absurd (omega arith)
+refused-is p s d Cut r e = impossible (cc)
 refused-is p s d (Post y x) r e = judged-refused d _ (post-why p s d y x r e)
 
 pub refused-changes-nothing : RefusedChangesNothing

@@ -1,16 +1,15 @@
 -- Laws of the ring (specs/Store.antt): how far it is from slot to slot, what a new tail and a new head do to the waiting records,
 -- and that storing to a slot that doesn't wait changes none. Slots are 0 to q. Assumes nothing.
-use Prim.Native.Nat.{ℕ, zero, suc, _+_, _-_, _*_, _≤_, _<_}
+use Prim.Native.Nat.{ℕ, zero, suc, _+_, _*_, _≤_, _<_}
 use mathlib.Core.Path.{_≡_, refl, sym, ap, _∙_}
 use mathlib.Core.Logic.{_⊎_, inl, inr, _≢_}
-use mathlib.Core.Bool.{Bool, true, false, not}
+use mathlib.Core.Bool.{Bool, true, false}
 use mathlib.Core.List.{List, [], _∷_, _++_}
 use native.Mathlib.Omega.{arith}
-use native.Mathlib.Nat.{not-suc-le-zero}
-use lib.Dec.{ltb, leb, eqb}
-use lib.ListN.{set, getD}
+use lib.Dec.{ltb, leb}
+use lib.ListN.{set}
 use lib.Seq.{getD-set-other}
-use borrow.Author.Tests.{ltb-true, ltb-false, leb-true, leb-false, eqb-true, eqb-false, eq-eqb, ne-eqb, le-leb, lt-leb, lt-ltb, le-ltb}
+use borrow.Author.Tests.{ltb-true, leb-true, leb-false, eqb-true, eqb-false, le-leb, lt-ltb}
 use Rattle.model.proofs.TestLaws.{pick-case, pick-true, pick-false, clash, same-or, and-true, or-true-left}
 use Rattle.model.specs.Control.{between}
 use Rattle.model.specs.Store.{after, distance, slot, recordsFrom, Record}

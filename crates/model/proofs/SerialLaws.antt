@@ -1,7 +1,7 @@
 -- Laws of the serial run (specs/Serial.antt): what it needs at a body, the balance of records, the tasks that follow each other, and
 -- that fuel doesn't change it.
 -- Assumes nothing.
-use Prim.Native.Nat.{ℕ, zero, suc, _+_, _-_, _*_, _≤_, _<_}
+use Prim.Native.Nat.{ℕ, zero, suc, _+_, _≤_}
 use mathlib.Core.Path.{_≡_, refl, sym, ap, _∙_}
 use mathlib.Core.Logic.{_⊎_, inl, inr}
 use mathlib.Core.Bool.{Bool, true, false}
@@ -12,7 +12,7 @@ use native.Mathlib.Omega.{arith}
 use borrow.Author.Tests.{eqb-true}
 use lib.Dec.{ltb, eqb}
 use lib.ListN.{length, length-append, set, replicate}
-use Rattle.model.proofs.TestLaws.{pick-case, pick-true, pick-false, clash, below-or, and-left, and-right}
+use Rattle.model.proofs.TestLaws.{below-or, and-left, and-right, impossible}
 use Rattle.model.specs.Calls.{Call, Boot, Step, Cut, Post, Line, countBy, isAccept}
 use Rattle.model.specs.Demand3.{isCompletion, RunsTask, RunsEvent, Runs, SerialDetermined, committedTask, committedTasks, namedAtEnd, namedBy, fromState, namedTasks, TasksFollow}
 use Rattle.model.specs.Program.{word, memoryWords, instructions, number, effectAt}
@@ -24,7 +24,7 @@ use Rattle.model.specs.Types.{Answer, Body, Effect}
 -- ---- options
 
 not-some {ℓ} : {X : Type ℓ} {y : Serial} → none ≡ some y → X
-not-some e = let z : _≡_ {A = ℕ} 0 1 = cc in absurd (omega arith)
+not-some e = impossible (cc)
 
 some-same : {x y : Serial} → some x ≡ some y → x ≡ y
 some-same e = cc

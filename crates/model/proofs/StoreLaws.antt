@@ -1,14 +1,12 @@
 -- What one store does to a store by its parts (specs/Store.antt). Nothing above this file sees where the parts lie.
 -- Assumes nothing.
-use Prim.Native.Nat.{ℕ, zero, suc, _+_, _-_, _*_, _≤_, _<_}
+use Prim.Native.Nat.{ℕ, _+_, _-_, _*_, _≤_, _<_}
 use mathlib.Core.Path.{_≡_, refl, sym, ap, _∙_}
-use mathlib.Core.Logic.{_≢_}
-use mathlib.Core.Bool.{Bool, true, false, not}
-use mathlib.Core.List.{List, [], _∷_, _++_}
-use native.Mathlib.Nat.{add-assoc}
+use mathlib.Core.Bool.{true, false}
+use mathlib.Core.List.{List}
 use native.Mathlib.Omega.{arith}
-use lib.Dec.{ltb, leb, eqb}
-use lib.ListN.{length, take, drop, set, getD, length-set, length-take, length-drop}
+use lib.Dec.{ltb, eqb}
+use lib.ListN.{length, take, drop, set, length-set, length-take, length-drop}
 use lib.Seq.{getD-set-other, getD-set-same, drop-set-lt, drop-set-add, take-set-le, take-set-lt}
 use borrow.Author.Tests.{eqb-false, ltb-true}
 use Rattle.model.specs.Program.{word}

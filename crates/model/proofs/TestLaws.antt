@@ -27,8 +27,12 @@ pick-false x y e = rw (e, pick)
 
 -- ---- tests
 
+-- from a clash of constructors, which `cc` proves as 0 ≡ 1
+pub impossible {ℓ} : {X : Type ℓ} → _≡_ {A = ℕ} 0 1 → X
+impossible e = absurd (omega arith)
+
 pub clash {ℓ} : {X : Type ℓ} {b : Bool} → b ≡ true → b ≡ false → X
-clash e f = let z : _≡_ {A = ℕ} 0 1 = cc in absurd (omega arith)
+clash e f = impossible (cc)
 
 pub and-true : {a b : Bool} → a ≡ true → b ≡ true → (a and b) ≡ true
 unfolding _and_
@@ -80,7 +84,7 @@ must-true r e = rw e
 pub must-passed : (b : Bool) (r : Refusal) → must b r ≡ Checked.Accepted → b ≡ true
 unfolding must
 must-passed true r e = refl
-must-passed false r e = let z : _≡_ {A = ℕ} 0 1 = cc in absurd (omega arith)
+must-passed false r e = impossible (cc)
 
 pub then-passed : {a b : Checked} → a ≡ Checked.Accepted → b ≡ Checked.Accepted → (a then b) ≡ Checked.Accepted
 unfolding _then_
@@ -98,7 +102,7 @@ then-first (Checked.Refused r) b e = e
 pub then-rest : (a b : Checked) → (a then b) ≡ Checked.Accepted → b ≡ Checked.Accepted
 unfolding _then_
 then-rest Checked.Accepted b e = e
-then-rest (Checked.Refused r) b e = let z : _≡_ {A = ℕ} 0 1 = cc in absurd (omega arith)
+then-rest (Checked.Refused r) b e = impossible (cc)
 
 pub each-passed : (f : ℕ → Checked) (i k j : ℕ) → each f i k ≡ Checked.Accepted → j < k → f (i + j) ≡ Checked.Accepted
 unfolding each
@@ -116,7 +120,7 @@ pub record Refuses (P : Refusal → Type 0) (c : Checked) : Type 0 where
 
 module _ {P : Refusal → Type 0} where
   pub refuses-accepted : Refuses P Checked.Accepted
-  refuses-accepted = record { with-such = λ r e. let z : _≡_ {A = ℕ} 0 1 = cc in absurd (omega arith) }
+  refuses-accepted = record { with-such = λ r e. impossible (cc) }
 
   pub refuses-must : (b : Bool) (r : Refusal) → (b ≡ false → P r) → Refuses P (must b r)
   unfolding must

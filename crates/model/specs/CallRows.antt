@@ -56,6 +56,9 @@ outcomes =
     ∷ step sample (controls 0 4 0 0 0 0 2 2) (at (Free 0)) ⇒ begins (Body.Task 4) 0
     -- "the search of the log ends with the pair found": LOAD 3 2, with address 2 in both pairs
     ∷ step (withInstruction 0x0830 2) (set opened 24 2) (twoPairs (task1 2)) ⇒ out none (device true (set registers 3 777) (task1 3) 2 Resting) Answer.Worked
+    -- the third of three pairs
+    ∷ step (withInstruction 0x0830 2) (set (set (formatted sample 3 3) 26 2) 27 999) (device true registers (task1 2) 3 Resting)
+    ⇒ out none (device true (set registers 3 999) (task1 3) 3 Resting) Answer.Worked
     -- "the next, without looking again at address or log, the value": SAVE 1 4, though pair 1 has address 3
     ∷ step sample opened (at (Half (Body.Task 1) 1)) ⇒ out (to (Value 1) 2) (twoPairs (task1 2)) Answer.Stored
     -- GO 2: "11 is n, 12 the next task, 13 the new open number, 8 becomes 1 (the commit store)"
@@ -84,6 +87,7 @@ outcomes =
     ∷ boot sample (controls 0 5 9 0 0 0 3 1) offValue ⇒ refuse offValue (Refusal.Control 9)
     ∷ boot sample (controls 1 1 8 2 2 9 3 1) offValue ⇒ refuse offValue (Refusal.Control 13)
     ∷ boot sample (set taskCommit 24 6) offValue ⇒ refuse offValue (Refusal.Control 24)
+    ∷ boot sample (set (set (set (formatted sample 2 1) 8 1) 11 2) 24 6) offValue ⇒ refuse offValue (Refusal.Control 24)
     ∷ boot sample (set eventCommit 26 2) offValue ⇒ refuse offValue (Refusal.Control 26)
     ∷ boot sample (set eventCommit 32 2) offValue ⇒ out none onValue Answer.Done
     ∷ cut ⇒ out none offValue Answer.Done
@@ -407,8 +411,9 @@ serialRuns =
     ∷ shown (serial 9 (withInstruction 0x0C00 4) (commits (Body.Task 1))) ⇒ stopped
     ∷ shown (serial 9 (set sample 35 0x1000) (commits (Body.Task 1))) ⇒ stopped
     ∷ shown (serial 9 (set sample 45 0x0F00) (accepts 0 50 ++ commits (Body.Event 0))) ⇒ stopped
-    -- "instructions run from the first, on memory without a log": SAVEX 1 0 5 and JUMP 3 for ADD; the counting program
+    -- "instructions run from the first, on memory without a log": SAVEX 1 0 5, SAVE 2 5 and JUMP 3 for ADD; the counting program
     ∷ shown (serial 4 (withInstruction 0x0B10 5) (commits (Body.Task 1))) ⇒ reached (0 ∷ 0 ∷ 0 ∷ 0 ∷ 9 ∷ 9 ∷ []) 2 8 []
+    ∷ shown (serial 4 (withInstruction 0x0920 5) (commits (Body.Task 1))) ⇒ reached afterTask1 2 8 []
     ∷ shown (serial 4 (withInstruction 0x0C00 3) (commits (Body.Task 1))) ⇒ reached afterTask1 2 8 []
     ∷ shown (serial 5 counting (commits (Body.Task 0) ++ commits (Body.Task 0))) ⇒ reached (2 ∷ 0 ∷ []) 0 0 []
     -- "All else, cuts and refusals too, changes nothing": the device's own answers

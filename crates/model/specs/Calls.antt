@@ -3,10 +3,10 @@ use Prim.Native.Nat.{ℕ, zero, suc, _+_, _-_, _^_, min}
 use mathlib.Core.Bool.{Bool, true, false}
 use mathlib.Core.List.{List, [], _∷_}
 use lib.Dec.{eqb}
-use Rattle.model.specs.Device.{Out, boot, cut, post, step, off}
-use Rattle.model.specs.Store.{Store, view, Write, none, to, settled}
+use Rattle.model.specs.Device.{Out, boot, cut, post, step}
+use Rattle.model.specs.Store.{view, Write, none, to, settled}
 use Rattle.model.specs.Test.{pick}
-use Rattle.model.specs.Types.{Answer, Body, Checked, Device, Ended, Refusal, Totals}
+use Rattle.model.specs.Types.{Answer, Device, Ended, Refusal, Totals}
 
 -- ---- "any list of boots, steps, posts and cuts"
 

@@ -1,6 +1,6 @@
 -- Document 01, refusals 1 to 5: the rules of a program, in the check's order, and the parts of them that a step uses.
 use Prim.Native.Nat.{ℕ, zero, suc, _+_, _*_}
-use mathlib.Core.Bool.{Bool, true, false}
+use mathlib.Core.Bool.{Bool, true}
 use mathlib.Core.List.{List}
 use lib.Dec.{ltb, leb, eqb}
 use lib.ListN.{length}

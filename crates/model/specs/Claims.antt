@@ -1,17 +1,16 @@
 -- What is claimed of the definitions for all words and all device states, as statements; proofs/ proves each. Demand3.antt has what is claimed
 -- of a list of calls on a fresh store. docs/CLAIMS.md says which sentence is which.
-use Prim.Native.Nat.{ℕ, zero, suc, _+_, _-_, _^_, _<_, min}
+use Prim.Native.Nat.{ℕ, _-_, _^_, _<_, min}
 use mathlib.Core.Path.{_≡_}
 use mathlib.Core.Logic.{_≢_}
 use mathlib.Core.Bool.{Bool, true, false}
 use mathlib.Core.List.{List, [], _∷_}
 use lib.ListN.{length}
-use Rattle.model.specs.Calls.{Call, Boot, Step, Cut, Post, call, history, afterCalls, steps, countBy, isRefusal, isCommit, isAccept, noTotals, counted, totalsAfter, storesMade, Ran, run, Recovery, recovered, recovery}
+use Rattle.model.specs.Calls.{Call, Boot, Step, Cut, Post, call, history, afterCalls, steps, countBy, isRefusal, isCommit, isAccept, noTotals, counted, totalsAfter, storesMade, Ran, run, recovered, recovery}
 use Rattle.model.specs.Control.{rules, blames}
 use Rattle.model.specs.Device.{off, look, step}
 use Rattle.model.specs.Program.{word}
 use Rattle.model.specs.Store.{view, settled, format}
-use Rattle.model.specs.Test.{pick}
 use Rattle.model.specs.Types.{Answer, Body, Checked, Device, Ended, Free, Half, Handler, Place, Refusal, Resting, Run, Storing, Totals}
 
 -- "A refusal .. changes no word, state or total."

@@ -1,6 +1,6 @@
 -- Demand 3: "for any list of boots, steps, posts and cuts, refused ones among them, on a store freshly formatted with a checked program, the
 -- device off at first". What is claimed of such a list, as statements; proofs/ proves each. docs/CLAIMS.md says which sentence is which.
-use Prim.Native.Nat.{ℕ, zero, suc, _+_, _≤_, _<_}
+use Prim.Native.Nat.{ℕ, suc, _+_, _≤_, _<_}
 use mathlib.Core.Path.{_≡_}
 use mathlib.Core.Logic.{_≢_}
 use mathlib.Core.Bool.{Bool, true, false}
@@ -9,7 +9,7 @@ use mathlib.Core.Option.{Option, none, some}
 use lib.Dec.{eqb}
 use lib.ListN.{length}
 use Rattle.model.specs.Answer.{refusal}
-use Rattle.model.specs.Calls.{Call, Boot, Step, Cut, Post, Line, Now, call, history, afterCalls, countBy, isAccept, steps, Recovery, recovered, recovery}
+use Rattle.model.specs.Calls.{Call, Boot, Step, Cut, Post, Line, Now, call, history, afterCalls, countBy, isAccept, steps, recovered, recovery}
 use Rattle.model.specs.Device.{off}
 use Rattle.model.specs.Program.{entry}
 use Rattle.model.specs.Serial.{Serial, Walked, went, served, lost, walkBody, tell, serial, serialStart}

@@ -6,9 +6,9 @@ use mathlib.Core.List.{List, [], _∷_}
 use lib.Dec.{ltb, leb, eqb}
 use lib.ListN.{length, getD, set, replicate}
 use Rattle.model.specs.Check.{contentsRule, rowsInside, rowUsed, instructionRule, check}
-use Rattle.model.specs.Control.{Rule, obey, obeyAll, openRule, rules, earlyRules}
-use Rattle.model.specs.Program.{tasks, events, memoryWords, instructions, transaction, number, effectAt, newOpen, word, reg}
-use Rattle.model.specs.Store.{Store, view, address, value, event, datum, Word, Phase, Task, Open, Count, Pending, PendingOpen, Head, Tail, Memory, Address, Value, Event, Datum, Write, none, to, find, after, empty, full, logAt, queueAt, storeRule}
+use Rattle.model.specs.Control.{obey, obeyAll, openRule, rules, earlyRules}
+use Rattle.model.specs.Program.{events, memoryWords, instructions, transaction, number, effectAt, newOpen, word, reg}
+use Rattle.model.specs.Store.{Store, view, address, value, event, datum, Phase, Task, Open, Count, Pending, PendingOpen, Head, Tail, Memory, Address, Value, Event, Datum, Write, none, to, find, after, empty, full, logAt, queueAt, storeRule}
 use Rattle.model.specs.Test.{pick, _and_, must, _then_}
 use Rattle.model.specs.Types.{Answer, Body, Checked, Device, Effect, Found, Free, Half, Handler, Next, Place, Refusal, Resting, Run, Storing}
 

@@ -1,14 +1,14 @@
 -- Document 01, "Program words": the table of contents, the rows, the bodies and the instructions, for any list of words.
 -- A word that isn't there reads as 0; the checks of Check.antt say when that can't happen.
 use Prim.Native.Nat.{ℕ, _+_, _-_, _*_, _/_, _%_, _^_}
-use mathlib.Core.Bool.{Bool, true, false}
+use mathlib.Core.Bool.{Bool, true}
 use mathlib.Core.List.{List, [], _∷_}
 use lib.Dec.{ltb, eqb}
 use lib.Bits.{bitAnd, bitOr, bitXor}
 use lib.IntN.{ℤ, pos, negsuc}
 use lib.ListN.{getD}
 use lib.Signed.{ltZ, shrZ}
-use Rattle.model.specs.Test.{pick, _and_}
+use Rattle.model.specs.Test.{pick}
 use Rattle.model.specs.Types.{Body, Instruction, Effect}
 
 abbrev pub word : List ℕ → ℕ → ℕ

@@ -144,6 +144,7 @@ programs =
     -- "4: rows run past the program (place 0)": 32 tasks and 16 events are allowed, but there is no room for their rows
     ∷ check (set sample 1 32) ⇒ Checked.Refused (Refusal.Row 0)
     ∷ check (set sample 2 16) ⇒ Checked.Refused (Refusal.Row 0)
+    ∷ check (take 6 (rowsOnly 6 9)) ⇒ Checked.Refused (Refusal.Row 0)
     ∷ check (take 8 (rowsOnly 8 9)) ⇒ Checked.Refused (Refusal.Row 0)
     ∷ check (rowsOnly 9 9) ⇒ Checked.Refused (Refusal.Row 1)
     -- "a row breaks its rule (place: body)"

@@ -5,11 +5,10 @@
 -- "each body run is the answered one and ends, each address below M; at an event a record is there and the open number is 0."
 -- It stops, too, at an event accepted before any post.
 use Prim.Native.Nat.{ℕ, zero, suc, _+_}
-use mathlib.Core.Bool.{Bool, true, false}
 use mathlib.Core.List.{List, [], _∷_, _++_}
 use mathlib.Core.Option.{Option, none, some}
 use lib.Dec.{ltb, eqb}
-use lib.ListN.{getD, set, replicate}
+use lib.ListN.{set, replicate}
 use Rattle.model.specs.Calls.{Call, Boot, Step, Cut, Post, Line}
 use Rattle.model.specs.Program.{entry, memoryWords, transaction, instructions, number, effectAt, newOpen, word}
 use Rattle.model.specs.Store.{Record}

@@ -1,14 +1,14 @@
 -- Document 01, "The counting program" and its starred cases: one record with a row for each; proofs/Starred.antt has the theorem,
 -- in which the checker computes every row from the definitions.
-use Prim.Native.Nat.{ℕ, zero, suc, _+_, _/_}
+use Prim.Native.Nat.{ℕ, _+_, _/_}
 use mathlib.Core.Path.{_≡_}
 use mathlib.Core.List.{List, [], _∷_, _++_}
 use lib.ListN.{length, replicate, set, take}
-use Rattle.model.specs.Answer.{Told, refusal}
+use Rattle.model.specs.Answer.{refusal}
 use Rattle.model.specs.Calls.{Call, Boot, Step, Cut, Post, call, afterCalls, steps, Recovery, recovered, refused, unfinished, recovery}
 use Rattle.model.specs.Check.{check}
 use Rattle.model.specs.Device.{off}
-use Rattle.model.specs.Store.{Store, Record, view, waiting, formatted}
+use Rattle.model.specs.Store.{view, waiting, formatted}
 use Rattle.model.specs.Types.{Answer, Body, Checked, Device, Refusal, Run}
 
 -- ---- programs

@@ -1,8 +1,8 @@
 -- Document 01, "Store words": where the parts of a store lie, what each holds, and what one store to it is; formatting.
 use Prim.Native.Nat.{ℕ, zero, suc, _+_, _-_, _*_}
-use mathlib.Core.Bool.{Bool, true, false}
+use mathlib.Core.Bool.{Bool}
 use mathlib.Core.List.{List, [], _∷_, _++_}
-use lib.Dec.{ltb, leb, eqb}
+use lib.Dec.{leb, eqb}
 use lib.ListN.{length, take, drop, set, replicate}
 use Rattle.model.specs.Check.{check}
 use Rattle.model.specs.Program.{word, memoryWords, entry}

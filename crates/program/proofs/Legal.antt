@@ -7,7 +7,7 @@ use native.Mathlib.Omega.{arith}
 use borrow.Author.Tests.{ltb-true, ltb-false, eqb-false}
 use lib.Dec.{ltb, eqb}
 use lib.ListN.{List·getD-eq-default}
-use Rattle.model.proofs.TestLaws.{must-passed}
+use Rattle.model.proofs.TestLaws.{must-passed, impossible}
 use Rattle.model.specs.Check.{fieldsFit, lastFits, instructionRule}
 use Rattle.model.specs.Program.{boundsTable, memoryWords, tasks, instructions, opcode, fieldA, fieldB, code, operand, Bounds, bounds, decode, mayBeLast}
 use Rattle.model.specs.Test.{pick, _and_}
@@ -26,7 +26,7 @@ and-first false y h = h
 and-second : (x y : Bool) → (x and y) ≡ true → y ≡ true
 unfolding _and_
 and-second true y h = h
-and-second false y h = let z : _≡_ {A = ℕ} 0 1 = cc in absurd (omega arith)
+and-second false y h = impossible (cc)
 
 -- an opcode that may not be the last isn't the last
 goes-on : (j n : ℕ) → j < n → pick (eqb (j + 1) n) false true ≡ true → j + 1 < n
@@ -34,7 +34,7 @@ unfolding pick
 goes-on j n l h = go (eqb (j + 1) n) refl h
   where
     go : (b : Bool) → eqb (j + 1) n ≡ b → pick b false true ≡ true → j + 1 < n
-    go true t e = let z : _≡_ {A = ℕ} 0 1 = cc in absurd (omega arith)
+    go true t e = impossible (cc)
     go false t e = let other : j + 1 ≡ n → ⊥ = eqb-false (j + 1) n t in omega arith
 
 ends-task : (i t k : ℕ) → k < pick (ltb i t) t 0 → (k < t) × (i < t)

@@ -2,7 +2,7 @@
 ghost use Prim.Native.Nat.{_+_};
 ghost use mathlib.Core.Path.{_≡_};
 ghost use Rattle.model.specs.Check.{fieldsFit, lastFits, instructionRule, bodyRule};
-ghost use Rattle.model.specs.Program.{bodies, instructions, opcode, fieldA, fieldB, code, operand, decode, bounds, mayBeLast};
+ghost use Rattle.model.specs.Program.{bodies, opcode, fieldA, fieldB, code, operand, decode, bounds, mayBeLast};
 ghost use Rattle.model.specs.Test.{each};
 ghost use Rattle.program.specs.Accepted.{Bodies, HasBody, HasInstruction};
 ghost use Rattle.program.specs.Fields.{asBounds};

@@ -10,8 +10,8 @@ use Rattle.model.proofs.CallLaws.{answer-case}
 use Rattle.model.proofs.Refused.{refused-is}
 use Rattle.model.specs.Calls.{Ran, Step, call, unlessRefused, counted, runFrom, run}
 use Rattle.model.specs.Control.{rules, blames}
-use Rattle.model.specs.Device.{Out, out, refuse, step}
-use Rattle.model.specs.Store.{view, none, settled, storedWord}
+use Rattle.model.specs.Device.{Out, refuse, step}
+use Rattle.model.specs.Store.{view, settled, storedWord}
 use Rattle.model.specs.declared.Answer.{Answer}
 use Rattle.model.specs.declared.Checked.{Checked}
 use Rattle.model.specs.declared.Device.{Device}

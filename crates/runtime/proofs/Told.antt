@@ -2,7 +2,7 @@
 -- which commits and accepts nothing whatever its place. Assumes nothing.
 use Prim.Native.Nat.{ℕ}
 use mathlib.Core.List.{List}
-use mathlib.Core.Path.{_≡_, refl, sym, _∙_}
+use mathlib.Core.Path.{_≡_, refl, sym}
 use Rattle.model.specs.Calls.{oneIf, isCommit, acceptedEvents, counted}
 use Rattle.model.specs.Device.{Out}
 use Rattle.model.specs.Test.{pick}

@@ -11,6 +11,7 @@ use lib.Signed.{mag, ltZ, leZ, shrZ, mag-shr}
 use mir.Syntax.{w32}
 use mir.Val.{toZ, ofZ}
 use mir.ValLaws.{toZ-ofZ}
+use Rattle.model.proofs.TestLaws.{impossible}
 use Rattle.model.specs.Program.{signed, unsigned, shifted, less}
 use Rattle.model.specs.Test.{pick}
 
@@ -29,15 +30,15 @@ below-zero z b h l t = go z b l (rw (read-back z h) at t)
     go : (y b : ℤ) → leZ b (pos 0) ≡ true → ltZ y b ≡ true → y ≡ negsuc (mag y)
     go (negsuc n) b l t = refl
     go (pos n) (pos m) l t = absurd (omega (arith, leb-true m 0 l, ltb-true n m t))
-    go (pos n) (negsuc m) l t = let z : _≡_ {A = ℕ} 0 1 = cc in absurd (omega arith)
+    go (pos n) (negsuc m) l t = impossible (cc)
 
 pub from-zero : (z b : ℤ) → mag z < 131072 → leZ (pos 0) b ≡ true → ltZ (toZ w32 (ofZ w32 z)) b ≡ false → z ≡ pos (mag z)
 from-zero z b h l t = go z b l (rw (read-back z h) at t)
   where
     go : (y b : ℤ) → leZ (pos 0) b ≡ true → ltZ y b ≡ false → y ≡ pos (mag y)
     go (pos n) b l t = refl
-    go (negsuc n) (pos m) l t = let z : _≡_ {A = ℕ} 0 1 = cc in absurd (omega arith)
-    go (negsuc n) (negsuc m) l t = let z : _≡_ {A = ℕ} 0 1 = cc in absurd (omega arith)
+    go (negsuc n) (pos m) l t = impossible (cc)
+    go (negsuc n) (negsuc m) l t = impossible (cc)
 
 -- ---- A word's two signs
 

@@ -10,7 +10,7 @@ use Rattle.model.proofs.TestLaws.{must-passed}
 use Rattle.model.specs.Program.{word, memoryWords}
 use Rattle.model.specs.Store.{logAt, queueAt, storeLength, sizesRule, storeRule}
 use Rattle.model.specs.declared.Checked.{Checked}
-use Rattle.store.specs.Shaped.{Sizes, Shaped, ShapedFor}
+use Rattle.store.specs.Shaped.{Sizes, ShapedFor}
 use Rattle.program.specs.Accepted.{Contents}
 use Rattle.program.proofs.Checks.{must-then}
 use Rattle.store.proofs.Checks.{both}

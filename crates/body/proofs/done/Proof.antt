@@ -1,5 +1,4 @@
 -- `done` meets its contract, by the place. Assumes nothing.
-use mathlib.Core.Path.{sym, _∙_}
 use native.Mathlib.Omega.{arith}
 use Rattle.model.specs.Store.{view, settled, storedWord}
 use Rattle.device.specs.Turn.{device}

@@ -1,7 +1,6 @@
 -- `counting` meets its contract: the words. Assumes nothing.
 use mathlib.Core.Path.{refl}
 use Rattle.model.specs.Starred.{counting}
-use borrow.Author.Needs.{needs}
 use Rattle.cases.proofs.counting.Statement.{statement}
 use Rattle.cases.proofs.counting.Tie as tie
 

@@ -1,6 +1,5 @@
 -- `none` meets its contract. Assumes nothing.
 use mathlib.Core.Path.{refl}
-use borrow.Author.Needs.{needs}
 use Rattle.cases.proofs.none.Statement.{statement}
 use Rattle.cases.proofs.none.Tie as tie
 

@@ -1,7 +1,6 @@
 -- `write_totals` meets its contract. Assumes nothing.
 use mathlib.Core.Path.{refl}
 use Rattle.exports.specs.Exported.{totalsWords}
-use borrow.Author.Needs.{needs}
 use Rattle.exports.proofs.write_totals.Statement.{statement}
 use Rattle.exports.proofs.write_totals.Tie as tie
 

@@ -1,5 +1,5 @@
 -- `run::run` meets its contract: the device is taken apart and put together again. Assumes nothing.
-use mathlib.Core.Path.{_≡_, sym, ap, subst, _∙_}
+use mathlib.Core.Path.{sym, ap, subst, _∙_}
 use denote.Ref.{now}
 use Rattle.device.specs.Agree.{Agrees}
 use Rattle.model.specs.Calls.{Ran, run}

@@ -1,6 +1,5 @@
 -- `whole` meets its contract. Assumes nothing.
 use mathlib.Core.Path.{refl}
-use borrow.Author.Needs.{needs}
 use Rattle.runtime.proofs.whole.Statement.{statement}
 use Rattle.runtime.proofs.whole.Tie as tie
 

@@ -1,6 +1,5 @@
 -- `look::core_of` meets its contract. Assumes nothing.
 use mathlib.Core.Path.{refl}
-use borrow.Author.Needs.{needs}
 use Rattle.device.proofs.look.core_of.Statement.{statement}
 use Rattle.device.proofs.look.core_of.Tie as tie
 

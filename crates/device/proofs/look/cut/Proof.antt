@@ -2,7 +2,6 @@
 use mathlib.Core.Path.{refl}
 use Rattle.model.specs.Device.{fresh, cut}
 use Rattle.model.specs.Store.{settled, storedWord}
-use borrow.Author.Needs.{needs}
 use Rattle.device.proofs.look.cut.Statement.{statement}
 use Rattle.device.proofs.look.cut.Tie as tie
 

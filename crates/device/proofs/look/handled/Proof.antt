@@ -1,7 +1,6 @@
 -- `look::handled` meets its contract. Assumes nothing.
 use mathlib.Core.Path.{refl}
 use Rattle.model.specs.Device.{handled}
-use borrow.Author.Needs.{needs}
 use Rattle.device.proofs.look.handled.Statement.{statement}
 use Rattle.device.proofs.look.handled.Tie as tie
 

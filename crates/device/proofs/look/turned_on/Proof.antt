@@ -1,7 +1,6 @@
 -- `look::turned_on` meets its contract. Assumes nothing.
 use mathlib.Core.Path.{refl}
 use Rattle.model.specs.Device.{fresh}
-use borrow.Author.Needs.{needs}
 use Rattle.device.proofs.look.turned_on.Statement.{statement}
 use Rattle.device.proofs.look.turned_on.Tie as tie
 

@@ -8,6 +8,7 @@ use native.Mathlib.Numerals.{add-one}
 use native.Mathlib.Omega.{arith}
 use borrow.Author.Needs.{needs}
 use borrow.Author.Tests.{eq-eqb, ne-eqb}
+use Rattle.model.proofs.TestLaws.{impossible}
 use Rattle.model.specs.Program.{word}
 use Rattle.model.specs.Store.{find, findFrom}
 use Rattle.model.specs.Test.{pick}
@@ -71,7 +72,7 @@ returns : tie.Need-returns Inv-loop μ-loop
 returns c =
     let a = c .before .before .args in (
       sym (c .before .loop .inv .1 ∙ ended (a .log .now) (a .a) (c .before .loop .i) (omega arith)),
-      λ i e. let z : _≡_ {A = ℕ} 0 1 = cc in omega arith,
+      λ i e. impossible (cc),
     )
 
 returns-2 : tie.Need-returns-2 Inv-loop μ-loop
