@@ -411,10 +411,12 @@ serialRuns =
     ∷ shown (serial 9 (withInstruction 0x0C00 4) (commits (Body.Task 1))) ⇒ stopped
     ∷ shown (serial 9 (set sample 35 0x1000) (commits (Body.Task 1))) ⇒ stopped
     ∷ shown (serial 9 (set sample 45 0x0F00) (accepts 0 50 ++ commits (Body.Event 0))) ⇒ stopped
-    -- "instructions run from the first, on memory without a log": SAVEX 1 0 5, SAVE 2 5 and JUMP 3 for ADD; the counting program
+    -- "instructions run from the first, on memory without a log": SAVEX 1 0 5, SAVE 2 5 and JUMP 3 for ADD;
+    -- register 7 in the place of register 1; the counting program
     ∷ shown (serial 4 (withInstruction 0x0B10 5) (commits (Body.Task 1))) ⇒ reached (0 ∷ 0 ∷ 0 ∷ 0 ∷ 9 ∷ 9 ∷ []) 2 8 []
     ∷ shown (serial 4 (withInstruction 0x0920 5) (commits (Body.Task 1))) ⇒ reached afterTask1 2 8 []
     ∷ shown (serial 4 (withInstruction 0x0C00 3) (commits (Body.Task 1))) ⇒ reached afterTask1 2 8 []
+    ∷ shown (serial 4 (set (set sample 29 0x0070) 31 0x0970) (commits (Body.Task 1))) ⇒ reached afterTask1 2 8 []
     ∷ shown (serial 5 counting (commits (Body.Task 0) ++ commits (Body.Task 0))) ⇒ reached (2 ∷ 0 ∷ []) 0 0 []
     -- "All else, cuts and refusals too, changes nothing": the device's own answers
     ∷ fromCalls (refilled ++ steps 18 ++ Cut ∷ Boot ∷ []) ⇒ reached (52 ∷ 0 ∷ 0 ∷ 0 ∷ 0 ∷ 51 ∷ []) 1 0 (holds 1 53 ∷ [])
