@@ -1,8 +1,10 @@
--- All that is claimed of the definitions (specs/Demand3.antt, specs/Claims.antt), with the theorems. Demand 3 stands first: the prover
--- goes through the files in this order, so a wrong definition is refused at demand 3's own fact, and not at a law that repeats the
--- definitions (DeviceLaws). Assumes nothing.
+-- All that is claimed of the definitions (specs/Demand3.antt, specs/Claims.antt), with the theorems. Demand 3 stands first, then the rows:
+-- the prover goes through the files in this order, so a wrong definition is refused at demand 3's own fact or at a row, and not at a
+-- law that repeats the definitions (DeviceLaws). Assumes nothing.
 use Rattle.model.proofs.Demand3.{demand3}
 use Rattle.model.proofs.Observed.{observed}
+use Rattle.model.proofs.Starred.{starred}
+use Rattle.model.proofs.Rows.{rows}
 use Rattle.model.proofs.SerialLaws.{serial-determined, tasks-follow}
 use Rattle.model.proofs.CallLaws.{run-is-steps, totals-are-counts, recovery-by-calls}
 use Rattle.model.proofs.Refused.{refused-changes-nothing}
@@ -12,10 +14,16 @@ use Rattle.model.proofs.Words.{words-stay-words, format-stays-words}
 use Rattle.model.proofs.LookStays.{look-stays}
 use Rattle.model.specs.Claims.{RefusedChangesNothing, WordsStayWords, FormatStaysWords, RefusalStays, PlaceIsBroken, RunIsSteps, TotalsAreCounts, RecoveryByCalls, LookStays}
 use Rattle.model.specs.Demand3.{Demand3, SerialDetermined, TasksFollow, ObservedByCalls}
+use Rattle.model.specs.Rows.{Rows}
+use Rattle.model.specs.Starred.{Starred}
 
 -- of a list of calls on a fresh store
 pub of-lists : Demand3 × ObservedByCalls × SerialDetermined × TasksFollow
 of-lists = (demand3, observed, serial-determined, tasks-follow)
+
+-- of worked cases
+pub of-cases : Starred × Rows
+of-cases = (starred, rows)
 
 -- of run, totals and recovery
 pub of-runs : RunIsSteps × TotalsAreCounts × RecoveryByCalls
