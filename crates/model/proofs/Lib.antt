@@ -18,6 +18,7 @@ pub mod DeviceLaws
 pub mod LookStays
 pub mod CallLaws
 pub mod Observed
+pub mod Stores
 pub mod Refused
 pub mod Words
 pub mod Numbers

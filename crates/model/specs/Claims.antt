@@ -1,16 +1,16 @@
 -- What is claimed of the definitions for all words and all device states, as statements; proofs/ proves each. Demand3.antt has what is claimed
 -- of a list of calls on a fresh store. docs/CLAIMS.md says which sentence is which.
-use Prim.Native.Nat.{ℕ, _-_, _^_, _<_, min}
+use Prim.Native.Nat.{ℕ, _-_, _^_, _≤_, _<_, min}
 use mathlib.Core.Path.{_≡_}
 use mathlib.Core.Logic.{_≢_}
 use mathlib.Core.Bool.{Bool, true, false}
 use mathlib.Core.List.{List, [], _∷_}
 use lib.ListN.{length}
-use Rattle.model.specs.Calls.{Call, Boot, Step, Cut, Post, call, history, afterCalls, steps, countBy, isRefusal, isCommit, isAccept, noTotals, counted, totalsAfter, storesMade, Ran, run, recovered, recovery}
+use Rattle.model.specs.Calls.{Call, Boot, Step, Cut, Post, call, history, afterCalls, steps, countBy, isRefusal, isCommit, isAccept, isStore, noTotals, counted, totalsAfter, storesMade, Ran, run, recovered, recovery}
 use Rattle.model.specs.Control.{rules, blames}
 use Rattle.model.specs.Device.{off, look, step}
 use Rattle.model.specs.Program.{word}
-use Rattle.model.specs.Store.{view, settled, format}
+use Rattle.model.specs.Store.{view, Word, index, to, settled, format}
 use Rattle.model.specs.Types.{Answer, Body, Checked, Device, Ended, Free, Half, Handler, Place, Refusal, Resting, Run, Storing, Totals}
 
 -- "A refusal .. changes no word, state or total."
@@ -89,6 +89,25 @@ RefusalStays =
 abbrev pub PlaceIsBroken : Type 0
 PlaceIsBroken =
     (p s : List ℕ) (d : Device) (c : Call) (w : ℕ) → call p s d c .answer ≡ Answer.Refused (Refusal.Control w) → blames (rules p (view s)) w ≡ true
+
+-- "A step answers: chosen, worked, stored, committed (the commit store), accepted, or refused": these made a store
+unfoldable pub tellsStore : Answer → Bool
+tellsStore Answer.Done = false
+tellsStore (Answer.Chosen b) = false
+tellsStore Answer.Worked = false
+tellsStore Answer.Stored = true
+tellsStore (Answer.Committed b) = true
+tellsStore Answer.Accepted = true
+tellsStore (Answer.Refused r) = false
+
+-- The answer tells whether a store was made. What was stored is a word of the store, and a store that a step takes has at most 1234 words.
+pub record StoreTold (p s : List ℕ) (d : Device) : Type 0 where
+  pub made : isStore (step p s d .write) ≡ tellsStore (step p s d .answer)
+  pub inside : (w : Word) (x : ℕ) → step p s d .write ≡ to w x → index s w < length s
+  pub most : (w : Word) (x : ℕ) → step p s d .write ≡ to w x → length s ≤ 1234
+
+abbrev pub StoreIsTold : Type 0
+StoreIsTold = (p s : List ℕ) (d : Device) → StoreTold p s d
 
 -- ---- Run, totals and recovery are what the calls one by one are
 
