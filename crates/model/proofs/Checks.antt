@@ -1,6 +1,6 @@
 -- The checks that a call makes pass where the invariant holds: rule 7, early and whole, 25, and what a step checks of a body.
 -- Assumes nothing.
-use Prim.Native.Nat.{ℕ, zero, suc, _+_, _≤_, _<_}
+use Prim.Native.Nat.{ℕ, zero, suc, _+_, _-_, _≤_, _<_}
 use mathlib.Core.Path.{_≡_, refl, ap, _∙_}
 use mathlib.Core.Logic.{_⊎_, inl, inr, _≢_}
 use mathlib.Core.Bool.{Bool, true, false, not}
@@ -10,16 +10,16 @@ use borrow.Author.Tests.{lt-ltb, le-ltb, le-leb, eq-eqb, ne-eqb, ltb-true}
 use lib.Dec.{ltb, leb, eqb}
 use lib.ListN.{length}
 use Rattle.model.proofs.Invariant.{Handles, HeldAt, StillAt, CopyingAt, MineAt, EndingAt, HalfSaved, BodyAt, Placed, Resumes, On}
-use Rattle.model.proofs.Kept.{first-head, first-pending, lasting-in, task-last-is, event-last-is}
+use Rattle.model.proofs.Kept.{known-waiting, first-head, first-pending, lasting-in, task-last-is, event-last-is}
 use Rattle.model.proofs.LogLaws.{addr}
 use Rattle.model.proofs.ProgramLaws.{Leads, Sound}
-use Rattle.model.proofs.RingLaws.{Between, between-is, between-first}
+use Rattle.model.proofs.RingLaws.{Between, between-is, between-first, known-passes}
 use Rattle.model.proofs.TestLaws.{pick-case, pick-true, pick-false, below-or, and-true, or-true-left, or-true-right, not-false, must-true, then-passed, then-first, then-rest}
 use Rattle.model.specs.Control.{Rule, obey, obeyAll, upTo, phaseRule, taskRule, openRule, openServing, countRule, pendingTaskRule, headRule, tailRule, pendingHeadRule, pendingOpenRule, addressRule, between, recordRule, controlRules, rules, earlyRules}
-use Rattle.model.specs.Device.{taskStores, eventStores, mayRun, endStores, placeSound, handlerSound, deviceSound, recordSound, headSound, namedRow, openSound, headIs, ends, saves, placeFits, bodySound}
+use Rattle.model.specs.Device.{taskStores, eventStores, mayRun, endStores, placeSound, recordsSound, handlerSound, deviceSound, recordSound, headSound, namedRow, openSound, headIs, ends, saves, placeFits, bodySound}
 use Rattle.model.specs.Program.{tasks, events, memoryWords, instructions, transaction, number, effectAt}
 use Rattle.model.specs.Serial.{Serial}
-use Rattle.model.specs.Store.{Store, event, after, firstWaiting, Task, Write}
+use Rattle.model.specs.Store.{Store, event, carried, after, firstWaiting, distance, room, Task, Write}
 use Rattle.model.specs.Test.{_and_, _or_}
 use Rattle.model.specs.Types.{Body, Checked, Device, Effect, Free, Half, Handler, Place, Resting, Run, Storing}
 
@@ -195,7 +195,7 @@ module _ (p : List ℕ) (v : Store) (z : Serial) (held : HeldAt p v z) (resumes 
       obey-append (controlRules p v ++ upTo (addressRule p v) (v .pairs)) (upTo (recordRule p v) (v .records + 1))
       (obey-append (controlRules p v) (upTo (addressRule p v) (v .pairs)) control-obeyed
       (obey-upTo (addressRule p v) (v .pairs) (λ j l. address-obeyed p v ph j)))
-      (obey-upTo (recordRule p v) (v .records + 1) (λ x l. record-obeyed p v (held .waits .known) x (omega arith)))
+      (obey-upTo (recordRule p v) (v .records + 1) (λ x l. record-obeyed p v (known-waiting (held .waits)) x (omega arith)))
 
   pub early-obeyed : obeyAll (earlyRules p v) ≡ Checked.Accepted
   unfolding earlyRules obeyAll
@@ -272,9 +272,11 @@ module _ (p : List ℕ) (v : Store) (d : Device) (z : Serial) (k : ℕ) (i : On 
       and-true (eq-eqb _ _ (s .phase-is)) (and-true (may-run b x m (r .body-in)) (lt-ltb _ _ (half-in (d .count) (effectAt p (number p b) j (d .regs)) e)))
 
   handler-sound : (h : Handler) → Handles p (v .queue) (v .records) (v .head) (v .tail) (z .posted) h → handlerSound p v h ≡ true
-  unfolding handlerSound
+  unfolding handlerSound recordsSound room
   handler-sound Resting a = refl
-  handler-sound (Storing n e x) a = and-true (lt-ltb _ _ (a .event-in)) (not-false (ne-eqb _ _ (a .room)))
+  handler-sound (Storing c e x) a =
+      let fits : length (carried e x) ≤ v .records - distance (v .records) (v .head) (v .tail) = omega (arith, a .room) in
+      and-true (known-passes p (carried e x) (a .known)) (and-true (le-leb _ _ fits) (lt-ltb _ _ (a .inside)))
 
   pub device-sound : Sound p → deviceSound p v d ≡ true
   unfolding deviceSound
@@ -290,7 +292,7 @@ module _ (p : List ℕ) (v : Store) (d : Device) (z : Serial) (k : ℕ) (i : On 
   head-sound (Body.Event e) x s m =
       must-true _
       (lt-ltb _ _
-      (i .held .waits .known (v .head) (i .held .head-in) (rw (first-head v 0 (s .phase-is) refl) (between-first (v .head) (v .tail) (m .1 .0)))))
+      (known-waiting (i .held .waits) (v .head) (i .held .head-in) (rw (first-head v 0 (s .phase-is) refl) (between-first (v .head) (v .tail) (m .1 .0)))))
 
   open-sound : (b : Body) → StillAt v z → openSound p v b ≡ Checked.Accepted
   unfolding openSound

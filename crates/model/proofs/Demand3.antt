@@ -17,14 +17,14 @@ use Rattle.model.specs.Calls.{Call, Step, call, history, afterCalls}
 use Rattle.model.specs.Demand3.{AsSerialRun, Demand3}
 use Rattle.model.specs.Device.{off}
 use Rattle.model.specs.Program.{memoryWords}
-use Rattle.model.specs.Serial.{Serial, tell, andThen, serialFrom, serial, serialStart, runBody}
+use Rattle.model.specs.Serial.{Serial, given, tell, andThen, serialFrom, serial, serialStart, runBody}
 use Rattle.model.specs.Store.{waiting, settled, formatted}
 use Rattle.model.specs.Types.{Device}
 
 -- after a list of calls that begins with the invariant, and k calls before it
 record After (p : List ℕ) (l q : ℕ) (s : List ℕ) (d : Device) (z : Serial) (k : ℕ) (cs : List Call) : Type 0 where
   state : Serial
-  ran : (fuel : ℕ) → k + length cs ≤ fuel → serialFrom fuel p z (history p s d cs) ≡ some state
+  ran : (fuel : ℕ) → k + length cs ≤ fuel → serialFrom fuel (given p l q) z (history p s d cs) ≡ some state
   inv : InvWords p l q (afterCalls p s d cs .store) (afterCalls p s d cs .device) state (k + length cs)
 
 calls-kept : (p : List ℕ) → Sound p → (l q : ℕ) (cs : List Call) (s : List ℕ) (d : Device) (z : Serial) (k : ℕ) → InvWords p l q s d z k → After p l q s d z k cs
@@ -39,15 +39,15 @@ calls-kept p sound l q (c ∷ cs) s d z k i =
       state = rest .state;
       ran =
           λ fuel b.
-          ap (λ (x : Option Serial). andThen x (λ y. serialFrom fuel p y (history p (settled s (o .write)) (o .device) cs))) (h .tells fuel (omega arith))
+          ap (λ (x : Option Serial). andThen x (λ y. serialFrom fuel (given p l q) y (history p (settled s (o .write)) (o .device) cs))) (h .tells fuel (omega arith))
           ∙ rest .ran fuel (omega arith);
       inv = rw e at (rest .inv);
     }
 
-from-formatted : (p : List ℕ) → Sound p → (l q : ℕ) (cs : List Call) → InvWords p l q (formatted p l q) off (serialStart p) 0 → AsSerialRun p (formatted p l q) cs
+from-formatted : (p : List ℕ) → Sound p → (l q : ℕ) (cs : List Call) → InvWords p l q (formatted p l q) off (serialStart (given p l q)) 0 → AsSerialRun p l q (formatted p l q) cs
 unfolding serial serialStart tell
 from-formatted p sound l q cs i =
-    let a = calls-kept p sound l q cs (formatted p l q) off (serialStart p) 0 i in
+    let a = calls-kept p sound l q cs (formatted p l q) off (serialStart (given p l q)) 0 i in
     let now = afterCalls p (formatted p l q) off cs in
     let n = length cs in
     let next = call-kept p sound l q (now .store) (now .device) (a .state) (0 + n) (a .inv) in
@@ -59,7 +59,7 @@ from-formatted p sound l q cs i =
           ap waiting (view-at p sound l q (now .store) (now .device) (a .state) (0 + n) (a .inv))
           ∙ waiting-is p (viewAt (memoryWords p) l q (now .store)) (now .device) (a .state) (0 + n) (a .inv .inv);
       balance =
-          sym (add-zero _) ∙ serial-balance n p (serialStart p) (a .state) (history p (formatted p l q) off cs) (a .ran n (omega arith));
+          sym (add-zero _) ∙ serial-balance n (given p l q) (serialStart (given p l q)) (a .state) (history p (formatted p l q) off cs) (a .ran n (omega arith));
       refusals = λ c. next c .expected;
       bodies =
           λ b e.

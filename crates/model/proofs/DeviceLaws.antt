@@ -11,14 +11,16 @@ use native.Mathlib.Omega.{arith}
 use borrow.Author.Tests.{ltb-true, ltb-false, eqb-true, eqb-false, lt-ltb, le-ltb, eq-eqb, ne-eqb}
 use lib.ListN.{length, set}
 use Rattle.model.proofs.Early.{Early, MayRun, Stands, Attends, look-passed, body-passed}
+use Rattle.model.proofs.FirstStores.{storing-goes, storing-ends}
 use Rattle.model.proofs.ProgramLaws.{Leads, instruction-leads}
+use Rattle.model.proofs.RingLaws.{forward, RecordStore, record-store, tail-store, record-stores}
 use Rattle.model.proofs.TestLaws.{pick-case, pick-true, pick-false, clash, same-or, below-or}
 use Rattle.model.specs.Calls.{unlessRefused, isRefusal}
-use Rattle.model.specs.Device.{Out, out, refuse, judged, turnedOn, moved, handled, storing, taskStores, eventStores, taskLastStores, eventLastStores, lastStores, endStores, look, bootCheck, boot, postCheck, post, handlerStep, pairSound, copyStep, begun, recordSound, chooseStep, saves, placeFits, bodySound, shown, saveStep, act, saveRest, placeStep, nextStep, step}
+use Rattle.model.specs.Device.{Out, out, refuse, judged, turnedOn, moved, withHandler, storing, recordStores, taskStores, eventStores, taskLastStores, eventLastStores, lastStores, endStores, look, bootCheck, boot, postCheck, post, handlerStep, pairSound, copyStep, begun, recordSound, chooseStep, saves, placeFits, bodySound, shown, saveStep, act, saveRest, placeStep, nextStep, step}
 use Rattle.model.specs.Program.{tasks, events, memoryWords, transaction, number, effectAt, newOpen}
-use Rattle.model.specs.Store.{Store, view, address, value, event, datum, empty, after, find, logAt, queueAt, Phase, Task, Open, Count, Pending, PendingOpen, Head, Tail, Memory, Address, Value, Event, Datum, Write, none, to}
+use Rattle.model.specs.Store.{Store, view, address, value, event, datum, empty, carried, after, find, logAt, queueAt, Phase, Task, Open, Count, Pending, PendingOpen, Head, Tail, Memory, Address, Value, Event, Datum, Write, none, to}
 use Rattle.model.specs.Test.{pick, _and_, must}
-use Rattle.model.specs.Types.{Answer, Body, Checked, Device, Effect, Found, Free, Half, Handler, Next, Place, Refusal, Resting, Run, Storing}
+use Rattle.model.specs.Types.{Answer, Body, Checked, Device, Effect, Found, Free, Half, Handler, Place, Refusal, Resting, Run, Storing}
 
 -- ---- checks before an outcome
 
@@ -119,7 +121,7 @@ module _ (p : List ℕ) (v : Store) (d : Device) (n : ℕ) where
   copy-made l m = pick-true _ _ (lt-ltb n (v .count) l) ∙ rw (lt-ltb (address v n) (memoryWords p) m)
 
   abbrev last : List Write → Out
-  last ws = storing ws (n - v .count) (atPlace d (Free (n + 1))) Answer.Stored
+  last ws = storing ws (n - v .count) (atPlace d (Free (n + 1))) turnedOn Answer.Stored
 
   pub task-last : v .count ≤ n → v .phase ≡ 1 → copyStep p v d n ≡ last (taskLastStores v)
   unfolding copyStep lastStores
@@ -188,16 +190,38 @@ pub record Acts (p : List ℕ) (v : Store) (d : Device) (x : Place) (b : Body) (
 abbrev pub RunsAt : List ℕ → Store → Device → Body → ℕ → ℕ → Effect → Type 0
 RunsAt p v d b j c f = Acts p v d (Run b j c) b j f
 
+-- what a handler does, c of whose stores are made: a store for one of its records, or the tail store
+pub data HandlerMade (p : List ℕ) (v : Store) (d : Device) (c e x : ℕ) : Out → Type 0 where
+  record-made : {w : Write} → Attends p v (Storing (c + 1) e x) → RecordStore (v .records) (v .tail) (carried e x) w
+      → HandlerMade p v d c e x (out w (withHandler d (Storing (c + 1) e x)) Answer.Stored)
+  tail-made : Attends p v (Storing c e x)
+      → HandlerMade p v d c e x (out (to Tail (forward (v .records) (v .tail) (length (carried e x)))) (withHandler d Resting) Answer.Accepted)
+
+module _ (p : List ℕ) (v : Store) (d : Device) (c e x : ℕ) (a : Attends p v (Storing c e x)) where
+  abbrev stores : List Write
+  stores = recordStores (v .records) (v .tail) (carried e x)
+
+  stores-are : length stores ≡ 2 * length (carried e x) + 1
+  stores-are = record-stores (v .records) (carried e x) (v .tail)
+
+  goes : c < 2 * length (carried e x) → HandlerMade p v d c e x (handlerStep v d c e x)
+  unfolding handlerStep
+  goes l =
+      rw (storing-goes stores c _ _ _ (omega (arith, stores-are)))
+      (record-made (record { known = a .known; room = a .room; inside = omega (arith, stores-are) }) (record-store (v .records) (carried e x) (v .tail) c l))
+
+  ends : c ≡ 2 * length (carried e x) → HandlerMade p v d c e x (handlerStep v d c e x)
+  unfolding handlerStep
+  ends l = rw (storing-ends stores c _ _ _ (omega (arith, stores-are)), tail-store (v .records) (carried e x) (v .tail) c l) (tail-made a)
+
+  pub handler-made : HandlerMade p v d c e x (handlerStep v d c e x)
+  handler-made = below-or c (2 * length (carried e x)) goes (λ l. ends (omega (arith, stores-are, a .inside)))
+
 -- ---- what a step that isn't refused does
 
 pub data Made (p : List ℕ) (v : Store) (d : Device) : Out → Type 0 where
   -- "A handler at work makes its next store: event, data, then tail."
-  handler-event : {e x : ℕ} → d .handler ≡ Storing Next.Event e x → Attends p v (Storing Next.Event e x)
-      → Made p v d (out (to (Event (v .tail)) e) (handled d (Storing Next.Data e x)) Answer.Stored)
-  handler-data : {e x : ℕ} → d .handler ≡ Storing Next.Data e x → Attends p v (Storing Next.Data e x)
-      → Made p v d (out (to (Datum (v .tail)) x) (handled d (Storing Next.Tail e x)) Answer.Stored)
-  handler-tail : {e x : ℕ} → d .handler ≡ Storing Next.Tail e x → Attends p v (Storing Next.Tail e x)
-      → Made p v d (out (to Tail (after (v .records) (v .tail))) (handled d Resting) Answer.Accepted)
+  handler : {c e x : ℕ} {o : Out} → d .handler ≡ Storing c e x → HandlerMade p v d c e x o → Made p v d o
   -- "n copies, 9 from 12, 10 from 13, 8 becomes 0", in phase 2 "14 from 12, 8 becomes 0"
   commit-copy : {c : ℕ} → Commits v d c → c < v .count → address v c < memoryWords p
       → Made p v d (out (to (Memory (address v c)) (value v c)) (atPlace d (Free (c + 1))) Answer.Stored)
@@ -277,21 +301,20 @@ module _ (p s : List ℕ) (d : Device) (early : Early p s d) where
   abbrev Is : Out → Type 0
   Is = Outcome p s d
 
-  handler-outcome : (n : Next) (e x : ℕ) → d .handler ≡ Storing n e x → Attends p v (Storing n e x) → Is (handlerStep v d n e x)
-  unfolding handlerStep isRefusal unlessRefused
-  handler-outcome Next.Event e x q a = made early (handler-event q a) refl
-  handler-outcome Next.Data e x q a = made early (handler-data q a) refl
-  handler-outcome Next.Tail e x q a = made early (handler-tail q a) refl
+  handler-outcome : {c e x : ℕ} → d .handler ≡ Storing c e x → (o : Out) → HandlerMade p v d c e x o → Is o
+  unfolding isRefusal unlessRefused
+  handler-outcome q o (record-made a s) = made early (handler q (record-made a s)) refl
+  handler-outcome q o (tail-made a) = made early (handler q (tail-made a)) refl
 
   module _ (c : ℕ) (h : Commits v d c) where
-    task-last-outcome : (i : ℕ) → c ≡ v .count + i → v .phase ≡ 1 → Is (storing (taskLastStores v) i (atPlace d (Free (c + 1))) Answer.Stored)
+    task-last-outcome : (i : ℕ) → c ≡ v .count + i → v .phase ≡ 1 → Is (storing (taskLastStores v) i (atPlace d (Free (c + 1))) turnedOn Answer.Stored)
     unfolding storing taskLastStores pick isRefusal unlessRefused
     task-last-outcome zero e one = made early (commit-task h one (omega arith)) refl
     task-last-outcome (suc zero) e one = made early (commit-open h one e) refl
     task-last-outcome (suc (suc zero)) e one = made early (commit-phase h (omega (arith, task-lasts v one))) refl
     task-last-outcome (suc (suc (suc i))) e one = absurd (omega (arith, task-lasts v one, h .left))
 
-    event-last-outcome : (i : ℕ) → c ≡ v .count + i → v .phase ≡ 2 → v .phase ≢ 1 → Is (storing (eventLastStores v) i (atPlace d (Free (c + 1))) Answer.Stored)
+    event-last-outcome : (i : ℕ) → c ≡ v .count + i → v .phase ≡ 2 → v .phase ≢ 1 → Is (storing (eventLastStores v) i (atPlace d (Free (c + 1))) turnedOn Answer.Stored)
     unfolding storing eventLastStores pick isRefusal unlessRefused
     event-last-outcome zero e two ne = made early (commit-head h two (omega arith)) refl
     event-last-outcome (suc zero) e two ne = made early (commit-phase h (omega (arith, event-lasts v ne))) refl
@@ -389,7 +412,7 @@ module _ (p s : List ℕ) (d : Device) (early : Early p s d) where
   next-outcome : (x : Handler) → d .handler ≡ x → Is (nextStep p v d x)
   unfolding nextStep
   next-outcome Resting q = place-outcome q (d .place) refl (early .place)
-  next-outcome (Storing n e x) q = handler-outcome n e x q (rw q at (early .handler))
+  next-outcome (Storing c e x) q = handler-outcome q _ (handler-made p v d c e x (rw q at (early .handler)))
 
 pub outcome : (p s : List ℕ) (d : Device) → Outcome p s d (step p s d)
 unfolding step

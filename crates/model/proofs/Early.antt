@@ -1,7 +1,7 @@
 -- What passed checks give, for all words and device states: of what step and post look at, and of a body at an instruction. And
 -- the way back for the former: `Fit` says what the early checks ask of the store by its parts and of the device, and they pass where
 -- it holds (`look-passes`). Each predicate is over just the words that it speaks of. Assumes nothing.
-use Prim.Native.Nat.{ℕ, zero, suc, _+_, _*_, _≤_, _<_}
+use Prim.Native.Nat.{ℕ, zero, suc, _+_, _-_, _*_, _≤_, _<_}
 use mathlib.Core.Path.{_≡_, refl, sym, _∙_}
 use mathlib.Core.Logic.{_⊎_, inl, inr, ⊎-elim, _≢_}
 use mathlib.Core.Bool.{Bool, true, false, not}
@@ -11,13 +11,14 @@ use borrow.Author.Tests.{ltb-true, leb-true, eqb-true, eqb-false, lt-ltb, le-leb
 use lib.Dec.{ltb, eqb}
 use lib.ListN.{length}
 use Rattle.model.proofs.ProgramLaws.{Contents, contents-passed}
+use Rattle.model.proofs.RingLaws.{Known, known-passes, known-passed}
 use Rattle.model.proofs.StoreLaws.{Sized}
 use Rattle.model.proofs.TestLaws.{pick-case, pick-true, pick-false, clash, same-or, and-true, and-left, and-right, or-true-left, or-true-right, not-false, must-true, must-passed, then-passed, then-first, then-rest}
 use Rattle.model.specs.Check.{contentsRule, rowsInside, limits, rowUsed, instructionRule}
 use Rattle.model.specs.Control.{Rule, obey, obeyAll, phaseRule, taskRule, openServing, countRule, pendingTaskRule, headRule, tailRule, pendingHeadRule, earlyRules}
-use Rattle.model.specs.Device.{handled, lastStores, mayRun, endStores, placeSound, handlerSound, deviceSound, look, headSound, namedRow, openSound, headIs, placeFits, bodySound}
+use Rattle.model.specs.Device.{withHandler, lastStores, mayRun, endStores, placeSound, recordStores, recordsSound, handlerSound, deviceSound, look, headSound, namedRow, openSound, headIs, placeFits, bodySound}
 use Rattle.model.specs.Program.{word, tasks, events, memoryWords, total, start, instructions, transaction, firstBody, number}
-use Rattle.model.specs.Store.{Store, view, after, storeRule, sizesRule}
+use Rattle.model.specs.Store.{Store, view, Record, carried, after, distance, room, storeRule, sizesRule}
 use Rattle.model.specs.Test.{pick, _and_, _or_}
 use Rattle.model.specs.Types.{Body, Checked, Device, Effect, Free, Half, Handler, Place, Resting, Run, Storing}
 
@@ -186,9 +187,15 @@ abbrev pub Stands : List ℕ → Store → ℕ → Place → Type 0
 Stands p v l x =
     StandsBy p (v .pairs) (v .phase) (v .task) (v .openNumber) (v .count) (v .head) (v .tail) (length (lastStores v)) l x
 
+-- to the records rs, c of whose stores are made
+pub record AttendsTo (p : List ℕ) (q h t c : ℕ) (rs : List Record) : Type 0 where
+  pub known : Known p rs
+  pub room : length rs ≤ q - distance q h t
+  pub inside : c < length (recordStores q t rs)
+
 abbrev pub AttendsBy : List ℕ → ℕ → ℕ → ℕ → Handler → Type 0
 AttendsBy p q h t Resting = Unit {0}
-AttendsBy p q h t (Storing n e x) = (e < events p) × (after q t ≢ h)
+AttendsBy p q h t (Storing c e x) = AttendsTo p q h t c (carried e x)
 
 abbrev pub Attends : List ℕ → Store → Handler → Type 0
 Attends p v x = AttendsBy p (v .records) (v .head) (v .tail) x
@@ -226,14 +233,17 @@ place-passes p v l (Run b j c) m = and-true (eq-eqb _ _ (m .0)) (and-true (may-p
 place-passes p v l (Half b j) m = and-true (eq-eqb _ _ (m .0)) (and-true (may-pass p v b (m .1)) (lt-ltb _ _ (m .2)))
 
 attends : (p : List ℕ) (v : Store) (h : Handler) → handlerSound p v h ≡ true → Attends p v h
-unfolding handlerSound
+unfolding handlerSound recordsSound room
 attends p v Resting e = tt
-attends p v (Storing n x y) e = (ltb-true _ _ (and-left _ _ e), eqb-false _ _ (not-true _ (and-right _ _ e)))
+attends p v (Storing c x y) e =
+    let f = and-right _ _ e in
+    record { known = known-passed p (carried x y) (and-left _ _ e); room = leb-true _ _ (and-left _ _ f); inside = ltb-true _ _ (and-right _ _ f) }
 
 handler-passes : (p : List ℕ) (v : Store) (h : Handler) → Attends p v h → handlerSound p v h ≡ true
-unfolding handlerSound
+unfolding handlerSound recordsSound room
 handler-passes p v Resting m = refl
-handler-passes p v (Storing n e x) m = and-true (lt-ltb _ _ (m .0)) (not-false (ne-eqb _ _ (m .1)))
+handler-passes p v (Storing c e x) m =
+    and-true (known-passes p (carried e x) (m .known)) (and-true (le-leb _ _ (m .room)) (lt-ltb _ _ (m .inside)))
 
 -- ---- what step and post look at
 
@@ -289,11 +299,11 @@ look-passes p s d contents rule fit =
     (then-passed rule (then-passed (control-passes p v (fit .control)) (then-passed (must-true _ sound) (must-true _ (fit .on)))))
 
 -- they pass with the handler at rest as well
-pub look-rests : (p s : List ℕ) (d : Device) → look p s d ≡ Checked.Accepted → look p s (handled d Resting) ≡ Checked.Accepted
-unfolding look handled
+pub look-rests : (p s : List ℕ) (d : Device) → look p s d ≡ Checked.Accepted → look p s (withHandler d Resting) ≡ Checked.Accepted
+unfolding look withHandler
 look-rests p s d e =
     let h = look-passed p s d e in
-    look-passes p s (handled d Resting) (then-first _ _ e) (then-first _ _ (then-rest _ _ e))
+    look-passes p s (withHandler d Resting) (then-first _ _ e) (then-first _ _ (then-rest _ _ e))
     (record { control = h .control; on = h .on; count-in = h .count-in; place = h .place; handler = tt })
 
 -- ---- a row that is used

@@ -13,12 +13,11 @@ use Rattle.model.proofs.Invariant.{Inv, Waiting}
 use Rattle.model.proofs.Kept.{first-head}
 use Rattle.model.proofs.KeptWords.{InvWords}
 use Rattle.model.proofs.ProgramLaws.{Sound, check-passed}
-use Rattle.model.proofs.RingLaws.{Between}
 use Rattle.model.proofs.StoreLaws.{viewAt, Sized}
 use Rattle.model.proofs.TestLaws.{must-passed, must-true, then-passed, then-first, then-rest}
 use Rattle.model.specs.Device.{off, fresh}
 use Rattle.model.specs.Program.{word, memoryWords}
-use Rattle.model.specs.Serial.{serialStart}
+use Rattle.model.specs.Serial.{given, serialStart}
 use Rattle.model.specs.Store.{Store, storeMark, storeContents, storeLength, controlAt, memoryAt, logAt, queueAt, formatted, sizesRule, formatCheck, formatStore, format, storeRule, recordsFrom, distance}
 use Rattle.model.specs.Test.{pick, must}
 use Rattle.model.specs.Types.{Checked, Refusal}
@@ -91,14 +90,10 @@ module _ (p : List ℕ) (sound : Sound p) (l q : ℕ) (sizes : sizesRule l q ≡
         first-in = omega arith;
         tail-in = omega arith;
         same = refl;
-        known = λ x k b. absurd (none x b);
+        known = tt;
       }
-    where
-      none : (x : ℕ) → Between 0 0 x → ⊥
-      none x (inl b) = omega arith
-      none x (inr (k, b)) = omega arith
 
-  fresh-inv : Inv p v off (serialStart p) 0
+  fresh-inv : Inv p v off (serialStart (given p l q)) 0
   unfolding formatted storeContents serialStart fresh
   fresh-inv =
       inl
@@ -113,7 +108,7 @@ module _ (p : List ℕ) (sound : Sound p) (l q : ℕ) (sizes : sizesRule l q ≡
         is-off = refl;
       })
 
-  pub fresh-words : InvWords p l q s off (serialStart p) 0
+  pub fresh-words : InvWords p l q s off (serialStart (given p l q)) 0
   fresh-words = record { sized = sized; contents = contents; inv = fresh-inv }
 
 -- ---- formatting

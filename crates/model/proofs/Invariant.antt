@@ -1,20 +1,20 @@
 -- What holds of store, device and serial run after every call: of a device that is off (`Off`), of one that is on (`On`). Each predicate is
 -- a record over just the parts that it speaks of, so that a proof of it stands as it is after a store to another part. "The first c
--- stores of this list are made" is one predicate, `First`, for every row of stores. Assumes nothing.
+-- stores of this list are made" is one predicate, `First`, for every row of stores: a commit's and a handler's. Assumes nothing.
 use Prim.Native.Nat.{ℕ, zero, suc, _+_, _-_, _*_, _≤_, _<_, min}
 use mathlib.Core.Path.{_≡_}
 use mathlib.Core.Logic.{_⊎_, _≢_}
 use mathlib.Core.Bool.{true}
 use mathlib.Core.List.{List, [], _∷_}
-use mathlib.Core.Option.{Option, some}
 use lib.ListN.{length, replicate}
+use Rattle.model.proofs.FirstStores.{First}
 use Rattle.model.proofs.LogLaws.{addr, overlay, Distinct}
-use Rattle.model.proofs.RingLaws.{Between}
-use Rattle.model.specs.Device.{off, taskStores, eventStores, taskLastStores, eventLastStores}
+use Rattle.model.proofs.RingLaws.{Known, RecordsMade}
+use Rattle.model.specs.Device.{off, recordStores, taskStores, eventStores, taskLastStores, eventLastStores}
 use Rattle.model.specs.Program.{word, tasks, events, memoryWords, instructions, transaction, number, effectAt}
 use Rattle.model.specs.Serial.{Serial, walk}
-use Rattle.model.specs.Store.{Store, Record, after, firstWaiting, recordsFrom, distance, Phase, Task, Open, Count, Pending, PendingOpen, Head, Tail, Memory, Address, Value, Event, Datum, Write, none, to}
-use Rattle.model.specs.Types.{Body, Device, Effect, Free, Half, Handler, Next, Place, Resting, Run, Storing}
+use Rattle.model.specs.Store.{Store, Record, carried, after, firstWaiting, recordsFrom, distance, Phase, Task, Open, Count, Pending, PendingOpen, Head, Tail, Memory, Address, Value, Event, Datum, Write, none, to}
+use Rattle.model.specs.Types.{Body, Device, Effect, Free, Half, Handler, Place, Resting, Run, Storing}
 
 -- ---- the control words, but tail, which is the handler's
 
@@ -56,12 +56,6 @@ Has k (to (Value j) x) = ⊥
 Has k (to (Event i) x) = ⊥
 Has k (to (Datum i) x) = ⊥
 
--- the first n writes of a list are made
-abbrev pub First : Controls → ℕ → List Write → Type 0
-First k zero ws = Unit {0}
-First k (suc n) [] = ⊥
-First k (suc n) (w ∷ ws) = Has k w × First k n ws
-
 -- ---- parts of a store
 
 -- the parts have their lengths
@@ -80,23 +74,19 @@ pub record Waiting (p : List ℕ) (queue : List ℕ) (q f t : ℕ) (records : Li
   pub first-in : f ≤ q
   pub tail-in : t ≤ q
   pub same : recordsFrom queue q f (distance q f t) ≡ records
-  pub known : (x : ℕ) → x ≤ q → Between f t x → word queue (2 * x) < events p
+  pub known : Known p records
 
--- the handler's event waits for its tail store; what it has stored stands in the tail's slot
-abbrev pub SoFar : List ℕ → ℕ → ℕ → ℕ → Next → Type 0
-SoFar queue t e x Next.Event = Unit {0}
-SoFar queue t e x Next.Data = word queue (2 * t) ≡ e
-SoFar queue t e x Next.Tail = (word queue (2 * t) ≡ e) × (word queue (2 * t + 1) ≡ x)
+-- the handler's records wait for its tail store; the first c of its stores are made behind tail
+pub record AtWork (p : List ℕ) (queue : List ℕ) (q h t : ℕ) (posted : List Record) (c : ℕ) (rs : List Record) : Type 0 where
+  pub known : Known p rs
+  pub room : distance q h t + length rs ≤ q
+  pub posted-is : posted ≡ rs
+  pub inside : c < length (recordStores q t rs)
+  pub made : RecordsMade queue q t rs c
 
-pub record AtWork (p : List ℕ) (queue : List ℕ) (q h t : ℕ) (posted : Option Record) (n : Next) (e x : ℕ) : Type 0 where
-  pub event-in : e < events p
-  pub room : after q t ≢ h
-  pub posted-is : posted ≡ some (record { event = e; datum = x })
-  pub so-far : SoFar queue t e x n
-
-abbrev pub Handles : List ℕ → List ℕ → ℕ → ℕ → ℕ → Option Record → Handler → Type 0
+abbrev pub Handles : List ℕ → List ℕ → ℕ → ℕ → ℕ → List Record → Handler → Type 0
 Handles p queue q h t posted Resting = Unit {0}
-Handles p queue q h t posted (Storing n e x) = AtWork p queue q h t posted n e x
+Handles p queue q h t posted (Storing c e x) = AtWork p queue q h t posted c (carried e x)
 
 -- ---- what holds of the store, whatever the device: of its head and waiting records, and of the serial run's task and open number
 
@@ -128,7 +118,7 @@ pub record Lasting (k : Controls) (ws : List Write) (c : ℕ) : Type 0 where
   pub last : ℕ
   pub last-is : c - k .count ≡ last
   pub inside : last < length ws
-  pub made : First k last ws
+  pub made : First (Has k) last ws
 
 pub record TaskCommit (p : List ℕ) (k : Controls) (ws : List Write) (c y o : ℕ) : Type 0 where
   pub phase-is : k .phase ≡ 1
@@ -169,8 +159,8 @@ Ending k ws us c (Effect.Compute a x) = c ≡ 0
 Ending k ws us c (Effect.Jump a) = c ≡ 0
 Ending k ws us c (Effect.Read a x) = c ≡ 0
 Ending k ws us c (Effect.Write x y) = c ≡ 0
-Ending k ws us c (Effect.EndTask a) = (c < length (ws a)) × First k c (ws a)
-Ending k ws us c Effect.EndEvent = (c < length us) × First k c us
+Ending k ws us c (Effect.EndTask a) = (c < length (ws a)) × First (Has k) c (ws a)
+Ending k ws us c Effect.EndEvent = (c < length us) × First (Has k) c us
 Ending k ws us c Effect.Unknown = ⊥
 
 -- the address of a SAVE is stored behind l pairs that haven't it

@@ -1,29 +1,30 @@
 -- Each call keeps the invariant, and the serial run follows it: what a kept call is; refused calls; the handler's stores; a commit's stores in
 -- phases 1 and 2. Assumes nothing.
 use Prim.Native.Nat.{ℕ, zero, suc, _+_, _-_, _*_, _≤_, _<_, min}
-use mathlib.Core.Path.{_≡_, refl, sym, ap, _∙_}
+use mathlib.Core.Path.{_≡_, refl, sym, ap, subst, _∙_}
 use mathlib.Core.Logic.{_⊎_, inl, inr, ⊎-elim, _≢_}
 use mathlib.Core.Bool.{true, false}
 use mathlib.Core.List.{List, [], _∷_, _++_}
-use mathlib.Core.Option.{Option, some}
+use mathlib.Core.Option.{some}
+use native.Mathlib.Numerals.{add-one}
 use native.Mathlib.Omega.{arith}
 use lib.Dec.{eqb}
-use lib.ListN.{length, set}
-use borrow.Author.Tests.{lt-ltb, le-ltb}
-use lib.Seq.{getD-set-other, getD-set-same}
-use Rattle.model.proofs.Invariant.{Controls, controls, First, Lengths, Waiting, AtWork, Handles, HeldAt, Lasting, Copying, CopyingAt, TaskCommitAt, EventCommitAt, CommitAt, MineAt, Running, Placed, On, Inv}
+use lib.ListN.{length, getD, set}
+use borrow.Author.Tests.{lt-ltb, le-ltb, eq-eqb}
+use Rattle.model.proofs.FirstStores.{First, storing-goes, storing-ends}
+use Rattle.model.proofs.Invariant.{Controls, controls, Has, Lengths, Waiting, AtWork, Handles, HeldAt, Lasting, Copying, CopyingAt, TaskCommitAt, EventCommitAt, CommitAt, MineAt, Running, Placed, On, Inv}
 use Rattle.model.proofs.LogLaws.{overlay, overlay-suc}
-use Rattle.model.proofs.RingLaws.{after-le, after-injective, distance-tail, records-tail, records-free, between-tail, between-free}
+use Rattle.model.proofs.RingLaws.{Known, Between, known-between, forward, forward-le, distance-some, distance-head, forward-distance, distance-forward, tail-apart, slot-apart, records-append, records-same, known-append, RecordStore, event-store, datum-store, record-store, tail-store, record-stores, records-made, queueAfter, slot-stays, next-made}
 use Rattle.model.proofs.StoreLaws.{apply, requeued, retasked, Inside}
 use Rattle.model.proofs.TestLaws.{pick-true, pick-false, below-or, must-true}
 use Rattle.model.specs.Demand3.{Expected}
-use Rattle.model.specs.Calls.{Call, Step}
-use Rattle.model.specs.Device.{Out, out, refuse, judged, fresh, handled, moved, handlerStep, storing, taskStores, eventStores, taskLastStores, eventLastStores, lastStores, pairSound, copyStep}
-use Rattle.model.specs.Program.{tasks, memoryWords}
-use Rattle.model.specs.Serial.{Serial, tell, withRecord, accept}
-use Rattle.model.specs.Store.{Store, address, value, logAt, Record, after, firstWaiting, slot, Phase, Task, Open, Head, Tail, Memory, Event, Datum, Write, none, to}
+use Rattle.model.specs.Calls.{Call, Step, acceptedEvents}
+use Rattle.model.specs.Device.{Out, out, refuse, judged, fresh, withHandler, moved, recordStores, handlerStep, storing, taskStores, eventStores, taskLastStores, eventLastStores, lastStores, pairSound, copyStep}
+use Rattle.model.specs.Program.{word, tasks, events, memoryWords}
+use Rattle.model.specs.Serial.{Serial, given, tell, withRecords, accept}
+use Rattle.model.specs.Store.{Store, address, value, logAt, Record, carried, after, distance, firstWaiting, slot, Phase, Task, Open, Head, Tail, Memory, Write, none, to}
 use Rattle.model.specs.Test.{pick}
-use Rattle.model.specs.Types.{Answer, Body, Checked, Device, Free, Half, Handler, Next, Place, Refusal, Resting, Run}
+use Rattle.model.specs.Types.{Answer, Body, Checked, Device, Free, Half, Handler, Place, Refusal, Resting, Run, Storing}
 
 -- a store to a word that is there
 abbrev pub InsideOf : List ℕ → Store → Write → Type 0
@@ -33,7 +34,7 @@ InsideOf p v (to w x) = Inside (memoryWords p) (v .pairs) (v .records) w
 pub record Kept (p : List ℕ) (v : Store) (z : Serial) (k : ℕ) (c : Call) (o : Out) : Type 0 where
   pub inside : InsideOf p v (o .write)
   pub after : Serial
-  pub tells : (fuel : ℕ) → k < fuel → tell fuel p z c (o .answer) ≡ some after
+  pub tells : (fuel : ℕ) → k < fuel → tell fuel (given p (v .pairs) (v .records)) z c (o .answer) ≡ some after
   pub expected : Expected c (o .answer)
   pub inv : Inv p (apply v (o .write)) (o .device) after (suc k)
 
@@ -89,42 +90,50 @@ pub first-pending : (v : Store) → v .phase ≡ 2 → firstWaiting v ≡ v .pen
 unfolding firstWaiting
 first-pending v e = pick-true _ _ (ap (λ (x : ℕ). eqb x 2) e)
 
--- a slot after tail that isn't head isn't the first waiting one either
+-- a waiting record's event is below E
+pub known-waiting : {p queue : List ℕ} {q f t : ℕ} {records : List Record} → Waiting p queue q f t records → (x : ℕ) → x ≤ q → Between f t x
+    → word queue (2 * x) < events p
+known-waiting {p = p} {queue = queue} {q = q} {f = f} {t = t} w x l b =
+    known-between p queue q f t x (w .first-in) (w .tail-in) l (subst (Known p) (sym (w .same)) (w .known)) b
+
+-- as many records as fit behind tail by head fit by the first waiting one, too
 module _ (p : List ℕ) (v : Store) (d : Device) (z : Serial) (k : ℕ) (i : On p v d z k) where
-  abbrev Room : Type 0
-  Room = after (v .records) (v .tail) ≢ v .head → after (v .records) (v .tail) ≢ firstWaiting v
+  abbrev Room : ℕ → Type 0
+  Room n = distance (v .records) (v .head) (v .tail) + n ≤ v .records → distance (v .records) (firstWaiting v) (v .tail) + n ≤ v .records
 
-  room-first : Room
-  room-first = by-place (d .place) (i .placed)
+  room-first : (n : ℕ) → Room n
+  room-first n = by-place (d .place) (i .placed)
     where
-      by-head : (n : ℕ) → v .phase ≡ n → eqb n 2 ≡ false → Room
-      by-head n e f room = rw (first-head v n e f) room
+      by-head : (y : ℕ) → v .phase ≡ y → eqb y 2 ≡ false → Room n
+      by-head y e f room = rw (first-head v y e f) room
 
-      by-place : (x : Place) → Placed p v d z k x → Room
+      by-place : (x : Place) → Placed p v d z k x → Room n
       by-place (Free c) (inl (s, e)) = by-head 0 (s .phase-is) refl
       by-place (Free c) (inr (y, inl t)) = by-head 1 (t .phase-is) refl
       by-place (Free c) (inr (y, inr t)) = λ room. rw (first-pending v (t .phase-is)) (from-pending (t .pending-is) room)
         where
-          from-pending : (v .pending ≡ v .head) ⊎ ((v .pending ≡ after (v .records) (v .head)) × (v .head ≢ v .tail)) → after (v .records) (v .tail) ≢ v .head → after (v .records) (v .tail) ≢ v .pending
-          from-pending (inl e) room = λ q. room (q ∙ e)
+          from-pending : (v .pending ≡ v .head) ⊎ ((v .pending ≡ after (v .records) (v .head)) × (v .head ≢ v .tail))
+              → distance (v .records) (v .head) (v .tail) + n ≤ v .records → distance (v .records) (v .pending) (v .tail) + n ≤ v .records
+          from-pending (inl e) room = rw e room
           from-pending (inr (e, ne)) room =
-              λ q. ne (sym (after-injective (v .records) (v .tail) (v .head) (i .held .waits .tail-in) (i .held .head-in) (q ∙ e)))
+              let fewer = distance-head (v .records) (v .head) (v .tail) (i .held .head-in) (i .held .waits .tail-in) ne in
+              rw e (omega (arith, fewer, room))
       by-place (Run b j c) ((s, r), e) = by-head 0 (s .phase-is) refl
       by-place (Half b j) ((s, r), e) = by-head 0 (s .phase-is) refl
 
 -- ---- the handler: only the queue and its tail change
 
 -- other records and another latest post
-abbrev pub queued : Serial → List Record → Option Record → Serial
+abbrev pub queued : Serial → List Record → List Record → Serial
 queued z rs x = record { memory = z .memory; task = z .task; openNumber = z .openNumber; records = rs; posted = x }
 
 module _ (p : List ℕ) (v : Store) (d : Device) (z : Serial) (k : ℕ) (queue : List ℕ) (t : ℕ) where
   abbrev pub MineStays : Type 0
   MineStays = (b : Body) (x : ℕ) → MineAt v x b → MineAt (requeued v queue t) x b
 
-  pub placed-requeued : (h : Handler) (rs : List Record) (y : Option Record) → MineStays → (v .head ≢ v .tail → v .head ≢ t) → (x : Place)
-      → Placed p v d z k x → Placed p (requeued v queue t) (handled d h) (queued z rs y) (suc k) x
-  unfolding handled taskStores eventStores taskLastStores eventLastStores
+  pub placed-requeued : (h : Handler) (rs : List Record) (y : List Record) → MineStays → (v .head ≢ v .tail → v .head ≢ t) → (x : Place)
+      → Placed p v d z k x → Placed p (requeued v queue t) (withHandler d h) (queued z rs y) (suc k) x
+  unfolding withHandler taskStores eventStores taskLastStores eventLastStores
   placed-requeued h rs y f g (Free c) (inl s) = inl s
   placed-requeued h rs y f g (Free c) (inr (m, inl s)) = inr (m, inl s)
   placed-requeued h rs y f g (Free c) (inr (m, inr s)) =
@@ -143,123 +152,173 @@ module _ (p : List ℕ) (v : Store) (d : Device) (z : Serial) (k : ℕ) (queue :
   placed-requeued h rs y f g (Run b j c) ((s, (x, m, r)), e) = ((s, (x, f b x m, running-later r)), e)
   placed-requeued h rs y f g (Half b j) ((s, (x, m, r)), e) = ((s, (x, f b x m, running-later r)), e)
 
--- a store to the tail's slot
-module _ (p : List ℕ) (v : Store) (lengths : Lengths p v) (d : Device) (z : Serial) (k : ℕ) (i : On p v d z k)
-    (y w : ℕ) (at : (y ≡ 2 * v .tail) ⊎ (y ≡ 2 * v .tail + 1)) where
-  mine-free : MineStays p v d z k (set (v .queue) y w) (v .tail)
-  mine-free (Body.Task n) x m = m
-  mine-free (Body.Event e) x (o, (ne, (a, b))) =
-      (o, (ne, (getD-set-other (v .queue) y (2 * v .head) w 0 (other at) ∙ a, getD-set-other (v .queue) y (2 * v .head + 1) w 0 (other′ at) ∙ b)))
-    where
-      other : (y ≡ 2 * v .tail) ⊎ (y ≡ 2 * v .tail + 1) → 2 * v .head ≢ y
-      other (inl e) = omega arith
-      other (inr e) = omega arith
+-- the stores of a handler at work on the records rs, c of which are made
+module _ (p : List ℕ) (v : Store) (lengths : Lengths p v) (d : Device) (z : Serial) (k : ℕ) (i : On p v d z k) (rs : List Record) (c : ℕ)
+    (a : AtWork p (v .queue) (v .records) (v .head) (v .tail) (z .posted) c rs) where
+  -- a slot that its stores go to isn't head's, if a record waits there, nor a waiting one
+  head-apart : v .head ≢ v .tail → (n : ℕ) → n < length rs → v .head ≢ forward (v .records) (v .tail) n
+  unfolding forward
+  head-apart ne n l =
+      slot-apart (v .records) (v .head) (v .tail) n (i .held .head-in) (i .held .waits .tail-in) (omega (arith, a .room)) 0
+      (distance-some (v .records) (v .head) (v .tail) (i .held .head-in) (i .held .waits .tail-in) ne)
 
-      other′ : (y ≡ 2 * v .tail) ⊎ (y ≡ 2 * v .tail + 1) → 2 * v .head + 1 ≢ y
-      other′ (inl e) = omega arith
-      other′ (inr e) = omega arith
+  waiting-apart : (j : ℕ) → j < distance (v .records) (firstWaiting v) (v .tail) → (n : ℕ) → n < length rs
+      → forward (v .records) (firstWaiting v) j ≢ forward (v .records) (v .tail) n
+  waiting-apart j l n m =
+      slot-apart (v .records) (firstWaiting v) (v .tail) n (i .held .waits .first-in) (i .held .waits .tail-in)
+      (omega (arith, room-first p v d z k i (length rs) (a .room))) j l
 
-  waits-free : Waiting p (set (v .queue) y w) (v .records) (firstWaiting v) (v .tail) (z .records)
-  waits-free =
-      let q = i .held .waits in
-      record {
-        first-in = q .first-in;
-        tail-in = q .tail-in;
-        same = records-free (v .queue) (v .records) (v .tail) y w _ (firstWaiting v) (q .first-in) (q .tail-in) refl at ∙ q .same;
-        known = λ x l b. rw (getD-set-other (v .queue) y (2 * x) w 0 (other x (between-free (firstWaiting v) (v .tail) x b) at)) (q .known x l b);
-      }
-    where
-      other : (x : ℕ) → x ≢ v .tail → (y ≡ 2 * v .tail) ⊎ (y ≡ 2 * v .tail + 1) → 2 * x ≢ y
-      other x ne (inl e) = omega arith
-      other x ne (inr e) = omega arith
+  -- ---- a store before the last
 
-  stored-free : (h : Handler) → Handles p (set (v .queue) y w) (v .records) (v .head) (v .tail) (z .posted) h
-      → Inv p (requeued v (set (v .queue) y w) (v .tail)) (handled d h) z (suc k)
-  unfolding handled firstWaiting
-  stored-free h hs =
-      inr
+  module _ (w : Write) (s : RecordStore (v .records) (v .tail) rs w) where
+    abbrev queue′ : List ℕ
+    queue′ = queueAfter (v .queue) w
+
+    store-is : apply v w ≡ requeued v queue′ (v .tail)
+    unfolding apply queueAfter
+    store-is = go w s
+      where
+        go : (w : Write) → RecordStore (v .records) (v .tail) rs w → apply v w ≡ requeued v (queueAfter (v .queue) w) (v .tail)
+        go w (event-store n r l m) = refl
+        go w (datum-store n r l m) = refl
+
+    store-inside : InsideOf p v w
+    store-inside = go w s
+      where
+        below : (n : ℕ) → n < length rs → forward (v .records) (v .tail) n ≤ v .records
+        below n l = forward-le (v .records) (v .tail) n (i .held .waits .tail-in) (omega (arith, a .room))
+
+        go : (w : Write) → RecordStore (v .records) (v .tail) rs w → InsideOf p v w
+        go w (event-store n r l m) = below n l
+        go w (datum-store n r l m) = below n l
+
+    mine-stays : MineStays p v d z k queue′ (v .tail)
+    unfolding slot
+    mine-stays (Body.Task n) x m = m
+    mine-stays (Body.Event e) x (o, (ne, (f, g))) =
+        let same = slot-stays (v .queue) (v .records) (v .tail) rs w s (v .head) (head-apart ne) in
+        (o, (ne, (ap (λ (r : Record). r .event) same ∙ f, ap (λ (r : Record). r .datum) same ∙ g)))
+
+    waits-stay : Waiting p queue′ (v .records) (firstWaiting v) (v .tail) (z .records)
+    waits-stay =
+        let q = i .held .waits in
+        record {
+          first-in = q .first-in;
+          tail-in = q .tail-in;
+          same =
+              records-same (v .queue) queue′ (v .records) _ (firstWaiting v)
+              (λ j l. slot-stays (v .queue) (v .records) (v .tail) rs w s _ (waiting-apart j l)) ∙ q .same;
+          known = q .known;
+        }
+
+    pub record-kept : (h : Handler) → Handles p queue′ (v .records) (v .head) (v .tail) (z .posted) h → Kept p v z k Step (out w (withHandler d h) Answer.Stored)
+    unfolding withHandler firstWaiting
+    record-kept h hs =
+        stored-kept w (withHandler d h) store-inside
+        (rw store-is
+        (inr
+        (record {
+          held = record { tasked = i .held .tasked; head-in = i .held .head-in; waits = waits-stay };
+          on = i .on;
+          handles = hs;
+          count-in = i .count-in;
+          placed = placed-requeued p v d z k queue′ (v .tail) h (z .records) (z .posted) mine-stays (λ ne. ne) (d .place) (i .placed);
+        })))
+
+  -- ---- the last, after which the records wait
+
+  module _ (last : c ≡ 2 * length rs) (some-record : 0 < length rs) where
+    abbrev tail′ : ℕ
+    tail′ = forward (v .records) (v .tail) (length rs)
+
+    -- head isn't the new tail
+    tail-free : v .head ≢ tail′
+    tail-free = tail-apart (v .records) (v .head) (v .tail) (length rs) (i .held .head-in) (i .held .waits .tail-in) (a .room) (omega arith)
+
+    held-longer : HeldAt p (requeued v (v .queue) tail′) (withRecords z rs)
+    unfolding firstWaiting withRecords
+    held-longer =
+        let q = i .held .waits in
+        let room = room-first p v d z k i (length rs) (a .room) in
+        let n = distance (v .records) (firstWaiting v) (v .tail) in
+        let more = distance-forward (v .records) (firstWaiting v) (v .tail) (length rs) (q .first-in) (q .tail-in) room in
+        let behind = forward-distance (v .records) (firstWaiting v) (v .tail) (q .first-in) (q .tail-in) in
+        record {
+          tasked = i .held .tasked;
+          head-in = i .held .head-in;
+          waits =
+              record {
+                first-in = q .first-in;
+                tail-in = forward-le (v .records) (v .tail) (length rs) (q .tail-in) (omega (arith, a .room));
+                same =
+                    rw more
+                    (records-append (v .queue) (v .records) n (length rs) (firstWaiting v)
+                    ∙ rw (q .same, behind, records-made (v .queue) (v .records) rs (v .tail) c last (a .made)));
+                known = known-append p (z .records) rs (q .known) (a .known);
+              };
+        }
+
+    tail-stored : Inv p (requeued v (v .queue) tail′) (withHandler d Resting) (withRecords z rs) (suc k)
+    unfolding withHandler withRecords
+    tail-stored =
+        inr
+        (record {
+          held = held-longer;
+          on = i .on;
+          handles = tt;
+          count-in = i .count-in;
+          placed = placed-requeued p v d z k (v .queue) tail′ Resting (z .records ++ rs) (z .posted) mine (λ _. tail-free) (d .place) (i .placed);
+        })
+      where
+        mine : MineStays p v d z k (v .queue) tail′
+        mine (Body.Task n) y m = m
+        mine (Body.Event n) y (o, (ne, m)) = (o, (tail-free, m))
+
+    pub tail-kept : length rs ≡ acceptedEvents Answer.Accepted → Kept p v z k Step (out (to Tail tail′) (withHandler d Resting) Answer.Accepted)
+    unfolding apply tell accept
+    tail-kept one =
+        record {
+          inside = tt;
+          after = withRecords z rs;
+          tells = λ fuel l. pick-true _ _ (eq-eqb _ _ (ap length (a .posted-is) ∙ one)) ∙ ap (λ (xs : List Record). some (withRecords z xs)) (a .posted-is);
+          expected = tt;
+          inv = tail-stored;
+        }
+
+module _ (p : List ℕ) (v : Store) (lengths : Lengths p v) (d : Device) (z : Serial) (k : ℕ) (i : On p v d z k) (c e x : ℕ)
+    (a : AtWork p (v .queue) (v .records) (v .head) (v .tail) (z .posted) c (carried e x)) where
+  abbrev stores : List Write
+  stores = recordStores (v .records) (v .tail) (carried e x)
+
+  abbrev many : ℕ
+  many = 2 * length (carried e x)
+
+  stores-are : length stores ≡ many + 1
+  stores-are = record-stores (v .records) (carried e x) (v .tail)
+
+  ends : c ≡ many → Kept p v z k Step (handlerStep v d c e x)
+  unfolding handlerStep carried acceptedEvents
+  ends last =
+      rw (storing-ends stores c _ _ _ (omega (arith, stores-are)), tail-store (v .records) (carried e x) (v .tail) c last)
+      (tail-kept p v lengths d z k i (carried e x) c a last (omega arith) refl)
+
+  goes : c < many → Kept p v z k Step (handlerStep v d c e x)
+  unfolding handlerStep
+  goes before =
+      rw (storing-goes stores c _ _ _ (omega (arith, stores-are)))
+      (record-kept p v lengths d z k i (carried e x) c a (getD stores c none) (record-store (v .records) (carried e x) (v .tail) c before) (Storing (c + 1) e x)
       (record {
-        held = record { tasked = i .held .tasked; head-in = i .held .head-in; waits = waits-free };
-        on = i .on;
-        handles = hs;
-        count-in = i .count-in;
-        placed = placed-requeued p v d z k (set (v .queue) y w) (v .tail) h (z .records) (z .posted) mine-free (λ ne. ne) (d .place) (i .placed);
-      })
-
-module _ (p : List ℕ) (v : Store) (lengths : Lengths p v) (d : Device) (z : Serial) (k : ℕ) (i : On p v d z k) where
-  -- one record more waits
-  held-longer : (e x : ℕ) → AtWork p (v .queue) (v .records) (v .head) (v .tail) (z .posted) Next.Tail e x
-      → HeldAt p (requeued v (v .queue) (after (v .records) (v .tail))) (withRecord z (record { event = e; datum = x }))
-  unfolding firstWaiting withRecord
-  held-longer e x a =
-      let q = i .held .waits in
-      let room = room-first p v d z k i (a .room) in
-      let new : Record = record { event = e; datum = x } in
-      let slot-is : slot (v .queue) (v .tail) ≡ new = unfold slot in λ s. record { event = a .so-far .0 s; datum = a .so-far .1 s } in
-      record {
-        tasked = i .held .tasked;
-        head-in = i .held .head-in;
-        waits =
-            record {
-              first-in = q .first-in;
-              tail-in = after-le (v .records) (v .tail) (q .tail-in);
-              same =
-                  rw (distance-tail (v .records) (firstWaiting v) (v .tail) (q .first-in) (q .tail-in) room)
-                  (records-tail (v .queue) (v .records) (v .tail) _ (firstWaiting v) (q .first-in) (q .tail-in) refl ∙ rw (q .same, slot-is));
-              known = λ y l b. ⊎-elim (q .known y l) (λ (f : y ≡ v .tail). rw (f, a .so-far .0) (a .event-in)) (between-tail (v .records) (firstWaiting v) (v .tail) y (q .first-in) (q .tail-in) l room b);
-            };
-      }
-
-  tail-stored : (e x : ℕ) → AtWork p (v .queue) (v .records) (v .head) (v .tail) (z .posted) Next.Tail e x
-      → Inv p (requeued v (v .queue) (after (v .records) (v .tail))) (handled d Resting) (withRecord z (record { event = e; datum = x })) (suc k)
-  unfolding handled withRecord
-  tail-stored e x a =
-      inr
-      (record {
-        held = held-longer e x a;
-        on = i .on;
-        handles = tt;
-        count-in = i .count-in;
-        placed =
-            placed-requeued p v d z k (v .queue) (after (v .records) (v .tail)) Resting (z .records ++ record { event = e; datum = x } ∷ []) (z .posted) mine
-            (λ _ f. a .room (sym f)) (d .place) (i .placed);
-      })
-    where
-      mine : MineStays p v d z k (v .queue) (after (v .records) (v .tail))
-      mine (Body.Task n) y m = m
-      mine (Body.Event n) y (o, (ne, m)) = (o, (λ f. a .room (sym f), m))
-
-  pub handler-kept : (n : Next) (e x : ℕ) → AtWork p (v .queue) (v .records) (v .head) (v .tail) (z .posted) n e x → Kept p v z k Step (handlerStep v d n e x)
-  unfolding handlerStep apply tell accept
-  handler-kept Next.Event e x a =
-      stored-kept (to (Event (v .tail)) e) _ (i .held .waits .tail-in)
-      (stored-free p v lengths d z k i (2 * v .tail) e (inl refl) _
-      (record {
-        event-in = a .event-in;
+        known = a .known;
         room = a .room;
         posted-is = a .posted-is;
-        so-far = getD-set-same (v .queue) (2 * v .tail) e 0 (omega (arith, i .held .waits .tail-in, lengths .queue-length));
+        inside = omega (arith, stores-are);
+        made =
+            rw (add-one c)
+            (next-made (v .queue) (v .records) (lengths .queue-length) (carried e x) (v .tail) c (i .held .waits .tail-in) (omega (arith, a .room)) before (a .made));
       }))
-  handler-kept Next.Data e x a =
-      stored-kept (to (Datum (v .tail)) x) _ (i .held .waits .tail-in)
-      (stored-free p v lengths d z k i (2 * v .tail + 1) x (inr refl) _
-      (record {
-        event-in = a .event-in;
-        room = a .room;
-        posted-is = a .posted-is;
-        so-far = (
-          getD-set-other (v .queue) (2 * v .tail + 1) (2 * v .tail) x 0 (omega arith) ∙ a .so-far,
-          getD-set-same (v .queue) (2 * v .tail + 1) x 0 (omega (arith, i .held .waits .tail-in, lengths .queue-length)),
-        );
-      }))
-  handler-kept Next.Tail e x a =
-      record {
-        inside = tt;
-        after = withRecord z (record { event = e; datum = x });
-        tells = λ fuel l. ap (accept z) (a .posted-is);
-        expected = tt;
-        inv = tail-stored e x a;
-      }
+
+  pub handler-kept : Kept p v z k Step (handlerStep v d c e x)
+  handler-kept = below-or c many goes (λ l. ends (omega (arith, stores-are, a .inside)))
 
 -- ---- a commit's stores in phases 1 and 2
 
@@ -357,16 +416,16 @@ module _ (p : List ℕ) (v : Store) (d : Device) (rest : d .handler ≡ Resting)
         whole = m .whole;
       }
 
-  last-is : v .count ≤ c → (j : ℕ) → c - v .count ≡ j → copyStep p v d c ≡ storing (lastStores v) j further Answer.Stored
+  last-is : v .count ≤ c → (j : ℕ) → c - v .count ≡ j → copyStep p v d c ≡ storing (lastStores v) j further (fresh true) Answer.Stored
   unfolding copyStep
-  last-is h j e = pick-false _ _ (le-ltb _ _ h) ∙ ap (λ (x : ℕ). storing (lastStores v) x further Answer.Stored) e
+  last-is h j e = pick-false _ _ (le-ltb _ _ h) ∙ ap (λ (x : ℕ). storing (lastStores v) x further (fresh true) Answer.Stored) e
 
   -- ---- the last stores of a task's commit
 
   module _ (h : v .count ≤ c) (s : TaskCommitAt p v z c) where
     -- words 9 and 10 become y and o, the first j + 1 of these stores are made
     task-stored : (w : Write) (y o j : ℕ) → InsideOf p v w → apply v w ≡ retasked v y o → y < tasks p → c - v .count ≡ j → suc j < length (taskLastStores v)
-        → First (controls (retasked v y o)) (suc j) (taskLastStores v) → Kept p v z k Step (out w further Answer.Stored)
+        → First (Has (controls (retasked v y o))) (suc j) (taskLastStores v) → Kept p v z k Step (out w further Answer.Stored)
     unfolding taskLastStores firstWaiting
     task-stored w y o j inside is below at more made =
         stored-kept w further inside
@@ -405,8 +464,8 @@ module _ (p : List ℕ) (v : Store) (d : Device) (rest : d .handler ≡ Resting)
               );
         }))
 
-    task-last-kept : (j : ℕ) → c - v .count ≡ j → j < length (taskLastStores v) → First (controls v) j (taskLastStores v)
-        → Kept p v z k Step (storing (taskLastStores v) j further Answer.Stored)
+    task-last-kept : (j : ℕ) → c - v .count ≡ j → j < length (taskLastStores v) → First (Has (controls v)) j (taskLastStores v)
+        → Kept p v z k Step (storing (taskLastStores v) j further (fresh true) Answer.Stored)
     unfolding taskLastStores storing pick apply
     task-last-kept zero at more made =
         task-stored (to Task (v .pending)) (v .pending) (v .openNumber) 0 tt refl (rw (s .pending-is) (i .held .tasked .task-in)) at (omega arith) (refl, tt)
@@ -456,8 +515,8 @@ module _ (p : List ℕ) (v : Store) (d : Device) (rest : d .handler ≡ Resting)
           placed = inl (record { phase-is = refl; memory-is = memory-whole h; task-is = s .task-is; open-is = s .open-is }, refl);
         }))
 
-    event-last-kept : (j : ℕ) → c - v .count ≡ j → j < length (eventLastStores v) → First (controls v) j (eventLastStores v)
-        → Kept p v z k Step (storing (eventLastStores v) j further Answer.Stored)
+    event-last-kept : (j : ℕ) → c - v .count ≡ j → j < length (eventLastStores v) → First (Has (controls v)) j (eventLastStores v)
+        → Kept p v z k Step (storing (eventLastStores v) j further (fresh true) Answer.Stored)
     unfolding eventLastStores storing pick
     event-last-kept zero at more made = head-stored at
     event-last-kept (suc zero) at more (head, _) = event-ended head
@@ -491,7 +550,7 @@ module _ (p : List ℕ) (v : Store) (d : Device) (rest : d .handler ≡ Resting)
       (record { answer-is = refl; on = i .on; rests = rest; place = c + 1; place-is = refl; remaining = less-left r n })
 
   turn-task : v .count ≤ c → v .phase ≡ 1 → (j : ℕ) → c - v .count ≡ j → j < length (taskLastStores v) → (r : ℕ) → Remaining v c (suc r)
-      → Turn v (storing (taskLastStores v) j further Answer.Stored) r
+      → Turn v (storing (taskLastStores v) j further (fresh true) Answer.Stored) r
   unfolding taskLastStores eventLastStores lastStores apply moved storing pick fresh
   turn-task h e zero at more r n = record { answer-is = refl; on = i .on; rests = rest; place = c + 1; place-is = refl; remaining = less-left r n }
   turn-task h e (suc zero) at more r n = record { answer-is = refl; on = i .on; rests = rest; place = c + 1; place-is = refl; remaining = less-left r n }
@@ -507,7 +566,7 @@ module _ (p : List ℕ) (v : Store) (d : Device) (rest : d .handler ≡ Resting)
   turn-task h e (suc (suc (suc j))) at more r n = absurd (omega arith)
 
   turn-event : v .count ≤ c → v .phase ≡ 2 → (j : ℕ) → c - v .count ≡ j → j < length (eventLastStores v) → (r : ℕ) → Remaining v c (suc r)
-      → Turn v (storing (eventLastStores v) j further Answer.Stored) r
+      → Turn v (storing (eventLastStores v) j further (fresh true) Answer.Stored) r
   unfolding taskLastStores eventLastStores lastStores apply moved storing pick fresh
   turn-event h e zero at more r n = record { answer-is = refl; on = i .on; rests = rest; place = c + 1; place-is = refl; remaining = less-left r n }
   turn-event h e (suc zero) at more r n =

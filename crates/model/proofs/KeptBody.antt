@@ -1,6 +1,6 @@
 -- A body keeps the invariant: choosing it, its instructions with the log, and the stores of its end. Assumes nothing.
 use Prim.Native.Nat.{ℕ, zero, suc, _+_, _-_, _*_, _≤_, _<_, min}
-use mathlib.Core.Path.{_≡_, refl, sym, ap, _∙_}
+use mathlib.Core.Path.{_≡_, refl, sym, ap, subst, _∙_}
 use mathlib.Core.Logic.{_⊎_, inl, inr, _≢_}
 use mathlib.Core.Bool.{true}
 use mathlib.Core.List.{List, _∷_}
@@ -11,10 +11,10 @@ use borrow.Author.Tests.{lt-ltb, eqb-true, eqb-false, eq-eqb, ltb-true, ltb-fals
 use lib.ListN.{length, set, replicate}
 use lib.Seq.{getD-set-other, getD-set-same}
 use Rattle.model.proofs.Invariant.{Lengths, Waiting, StillAt, Copying, MineAt, Running, EndingAt, HalfSaved, On, Inv}
-use Rattle.model.proofs.Kept.{Kept, refused-kept, stored-kept, copies-left, running-later, first-head, first-pending}
+use Rattle.model.proofs.Kept.{Kept, refused-kept, stored-kept, copies-left, running-later, known-waiting, first-head, first-pending}
 use Rattle.model.proofs.LogLaws.{addr, overlay, overlay-zero, overlay-other, overlay-elsewhere, overlay-pair, overlay-overwrite, overlay-append, Distinct, find-pair, find-nothing}
 use Rattle.model.proofs.ProgramLaws.{Leads, Sound}
-use Rattle.model.proofs.RingLaws.{after-le, between-first, between-head, records-head}
+use Rattle.model.proofs.RingLaws.{Known, after-le, between-first, records-head}
 use Rattle.model.proofs.StoreLaws.{apply, relogged, recommitted, Inside}
 use Rattle.model.proofs.TestLaws.{pick-case, pick-true, below-or, and-true, and-left, and-right, must-true}
 use Rattle.model.specs.Answer.{refusal}
@@ -92,7 +92,7 @@ module _ (p : List ℕ) (sound : Sound p) (v : Store) (lengths : Lengths p v) (d
       let open′ : v .openNumber ≡ 0 = eqb-true _ _ (and-left _ _ e) in
       let some-record : v .head ≢ v .tail = eqb-false _ _ (not-true _ (and-right _ _ e)) in
       let known : event v (v .head) < events p =
-      i .held .waits .known (v .head) (i .held .head-in)
+      known-waiting (i .held .waits) (v .head) (i .held .head-in)
       (rw (first-head v 0 (still .phase-is) refl) (between-first (v .head) (v .tail) some-record)) in
       let passed : recordSound p v ≡ Checked.Accepted = must-true _ (lt-ltb _ _ known) in
       rw passed
@@ -406,7 +406,7 @@ event-commits p sound v lengths d z k i still e j x mine h ends count pending =
                         first-in = after-le q (v .head) (i .held .head-in);
                         tail-in = waits .tail-in;
                         same = refl;
-                        known = λ y l s. waits .known y l (between-head q (v .head) (v .tail) y (i .held .head-in) (waits .tail-in) l some-record s);
+                        known = subst (Known p) records-are (waits .known) .1;
                       });
                 };
             on = refl;
@@ -461,7 +461,7 @@ module _ (p : List ℕ) (sound : Sound p) (v : Store) (lengths : Lengths p v) (d
     (h : Running p (v .memory) (v .log) (z .memory) k b x j (d .regs) (d .count)) where
   task-end-kept : (a : ℕ) → effectAt p (number p b) j (d .regs) ≡ Effect.EndTask a → Leads p (number p b) j (Effect.EndTask a) → (c : ℕ)
       → EndingAt p v d b c (Effect.EndTask a)
-      → Kept p v z k Step (storing (taskStores p (number p b) a (d .count)) c (moved d (d .regs) (Run b j (c + 1)) (d .count)) (Answer.Committed b))
+      → Kept p v z k Step (storing (taskStores p (number p b) a (d .count)) c (moved d (d .regs) (Run b j (c + 1)) (d .count)) (fresh true) (Answer.Committed b))
   unfolding storing pick taskStores eventStores apply
   task-end-kept a e leads zero (l, _) =
       staged p sound v lengths d z k i still b j x mine h Count (d .count) 1 (d .count) (v .pending) (v .pendingOpen) tt refl (Effect.EndTask a) e
@@ -478,7 +478,7 @@ module _ (p : List ℕ) (sound : Sound p) (v : Store) (lengths : Lengths p v) (d
 
   event-end-kept : effectAt p (number p b) j (d .regs) ≡ Effect.EndEvent → Leads p (number p b) j Effect.EndEvent → (c : ℕ)
       → EndingAt p v d b c Effect.EndEvent
-      → Kept p v z k Step (storing (eventStores v (d .count)) c (moved d (d .regs) (Run b j (c + 1)) (d .count)) (Answer.Committed b))
+      → Kept p v z k Step (storing (eventStores v (d .count)) c (moved d (d .regs) (Run b j (c + 1)) (d .count)) (fresh true) (Answer.Committed b))
   unfolding storing pick taskStores eventStores apply
   event-end-kept e leads zero (l, _) =
       staged p sound v lengths d z k i still b j x mine h Count (d .count) 1 (d .count) (v .pending) (v .pendingOpen) tt refl Effect.EndEvent e

@@ -3,7 +3,6 @@ use Prim.Native.Nat.{ℕ, suc, _≤_, _<_, min}
 use mathlib.Core.Path.{_≡_, refl, sym, ap, _∙_}
 use mathlib.Core.Logic.{_⊎_, inl, inr, ⊎-elim, _≢_}
 use mathlib.Core.List.{List}
-use mathlib.Core.Option.{some}
 use native.Mathlib.Omega.{arith}
 use lib.Dec.{eqb}
 use Rattle.model.proofs.Checks.{body-sound, run-fits, half-fits}
@@ -15,11 +14,11 @@ use Rattle.model.proofs.ProgramLaws.{Sound}
 use Rattle.model.proofs.StoreLaws.{apply}
 use Rattle.model.proofs.TestLaws.{pick-true, pick-false}
 use Rattle.model.specs.Calls.{Boot, Step, Cut, Post}
-use Rattle.model.specs.Device.{out, judged, fresh, off, turnedOn, handled, taskLastStores, eventLastStores, placeStep, nextStep}
+use Rattle.model.specs.Device.{out, judged, fresh, off, turnedOn, withHandler, recordStores, taskLastStores, eventLastStores, placeStep, nextStep}
 use Rattle.model.specs.Program.{number, effectAt, events}
 use Rattle.model.specs.Serial.{Serial, tell, afterDone}
-use Rattle.model.specs.Store.{Store, none, after}
-use Rattle.model.specs.Types.{Answer, Device, Free, Half, Handler, Next, Place, Resting, Run, Storing}
+use Rattle.model.specs.Store.{Store, none, carried, room}
+use Rattle.model.specs.Types.{Answer, Device, Free, Half, Handler, Place, Resting, Run, Storing}
 
 -- ---- a step, past its early checks
 
@@ -45,7 +44,7 @@ module _ (p : List ℕ) (sound : Sound p) (v : Store) (lengths : Lengths p v) (d
   pub next-kept : (h : Handler) → d .handler ≡ h → Handles p (v .queue) (v .records) (v .head) (v .tail) (z .posted) h → Kept p v z k Step (nextStep p v d h)
   unfolding nextStep
   next-kept Resting e w = place-kept e (d .place) (i .placed)
-  next-kept (Storing n e x) q w = handler-kept p v lengths d z k i n e x w
+  next-kept (Storing c e x) q w = handler-kept p v lengths d z k i c e x w
 
 -- ---- the device off, and turned on
 
@@ -118,10 +117,10 @@ module _ (p : List ℕ) (v : Store) (d : Device) (z : Serial) (k : ℕ) where
 
   -- ---- a post that is answered done
 
-  pub posted-kept : On p v d z k → (e x : ℕ) → e < events p → after (v .records) (v .tail) ≢ v .head
-      → Kept p v z k (Post e x) (out none (handled d (Storing Next.Event e x)) Answer.Done)
-  unfolding tell apply afterDone handled
-  posted-kept i e x below room =
+  pub posted-kept : On p v d z k → (e x : ℕ) → e < events p → 1 ≤ room v
+      → Kept p v z k (Post e x) (out none (withHandler d (Storing 0 e x)) Answer.Done)
+  unfolding tell apply afterDone withHandler room carried recordStores
+  posted-kept i e x below fits =
       record {
         inside = tt;
         after = afterDone z (Post e x);
@@ -132,8 +131,8 @@ module _ (p : List ℕ) (v : Store) (d : Device) (z : Serial) (k : ℕ) where
             (record {
               held = i .held;
               on = i .on;
-              handles = record { event-in = below; room = room; posted-is = refl; so-far = tt };
+              handles = record { known = (below, tt); room = omega (arith, fits); posted-is = refl; inside = omega arith; made = tt };
               count-in = i .count-in;
-              placed = placed-requeued p v d z k (v .queue) (v .tail) (Storing Next.Event e x) (z .records) (some (record { event = e; datum = x })) (λ b y m. m) (λ ne. ne) (d .place) (i .placed);
+              placed = placed-requeued p v d z k (v .queue) (v .tail) (Storing 0 e x) (z .records) (carried e x) (λ b y m. m) (λ ne. ne) (d .place) (i .placed);
             });
       }

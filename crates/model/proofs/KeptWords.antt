@@ -1,13 +1,13 @@
 -- The invariant over the words of a store: every call keeps it, meets no refusal but the expected ones, and the serial run follows.
 -- Assumes nothing.
-use Prim.Native.Nat.{ℕ, suc, _<_}
+use Prim.Native.Nat.{ℕ, suc, _≤_, _<_}
 use mathlib.Core.Path.{_≡_, refl, sym, ap, _∙_}
 use mathlib.Core.Logic.{inl, inr, _≢_}
 use mathlib.Core.Bool.{Bool, true, false, not}
 use mathlib.Core.List.{List}
 use mathlib.Core.Option.{some}
-use borrow.Author.Tests.{ltb-true, eqb-false, not-true}
-use lib.Dec.{ltb}
+use borrow.Author.Tests.{ltb-true, leb-true}
+use lib.Dec.{ltb, leb}
 use Rattle.model.proofs.Checks.{rules-obeyed, early-obeyed, device-sound}
 use Rattle.model.proofs.Invariant.{Lengths, On, Inv}
 use Rattle.model.proofs.Kept.{Kept, refused-kept, InsideOf}
@@ -19,12 +19,12 @@ use Rattle.model.specs.Answer.{refusal}
 use Rattle.model.specs.Calls.{Call, Boot, Step, Cut, Post, call}
 use Rattle.model.specs.Demand3.{isIn, mayMeet, Expected}
 use Rattle.model.specs.Control.{obeyAll, rules, earlyRules}
-use Rattle.model.specs.Device.{Out, out, refuse, judged, fresh, handled, atRest, zeros, isFresh, deviceSound, look, bootCheck, boot, cut, postCheck, post, nextStep, step}
+use Rattle.model.specs.Device.{Out, out, refuse, judged, fresh, withHandler, atRest, zeros, isFresh, deviceSound, look, bootCheck, boot, cut, postCheck, post, nextStep, step}
 use Rattle.model.specs.Program.{events, memoryWords}
-use Rattle.model.specs.Serial.{Serial, tell, afterDone}
-use Rattle.model.specs.Store.{Store, view, Write, none, to, settled, full, after, storeRule}
+use Rattle.model.specs.Serial.{Serial, given, tell, afterDone}
+use Rattle.model.specs.Store.{Store, view, Write, none, to, settled, room, storeRule}
 use Rattle.model.specs.Test.{pick, _and_, _or_, must, _then_}
-use Rattle.model.specs.Types.{Answer, Checked, Device, Next, Refusal, Storing}
+use Rattle.model.specs.Types.{Answer, Checked, Device, Refusal, Storing}
 
 -- the invariant of a store of l log pairs and q queue records
 pub record InvWords (p : List ℕ) (l q : ℕ) (s : List ℕ) (d : Device) (z : Serial) (k : ℕ) : Type 0 where
@@ -34,7 +34,7 @@ pub record InvWords (p : List ℕ) (l q : ℕ) (s : List ℕ) (d : Device) (z : 
 
 pub record KeptWords (p : List ℕ) (l q : ℕ) (s : List ℕ) (z : Serial) (k : ℕ) (c : Call) (o : Out) : Type 0 where
   pub after : Serial
-  pub tells : (fuel : ℕ) → k < fuel → tell fuel p z c (o .answer) ≡ some after
+  pub tells : (fuel : ℕ) → k < fuel → tell fuel (given p l q) z c (o .answer) ≡ some after
   pub expected : Expected c (o .answer)
   pub inv : InvWords p l q (settled s (o .write)) (o .device) after (suc k)
   pub parts : viewAt (memoryWords p) l q (settled s (o .write)) ≡ apply (viewAt (memoryWords p) l q s) (o .write)
@@ -145,23 +145,23 @@ module _ (p : List ℕ) (sound : Sound p) (l q : ℕ) (s : List ℕ) (d : Device
   post-kept : (e x : ℕ) → KeptWords p l q s z k (Post e x) (post p s d e x)
   unfolding post postCheck refusal isIn mayMeet _or_
   post-kept e x =
-      let o = out none (handled d (Storing Next.Event e x)) Answer.Done in
+      let o = out none (withHandler d (Storing 0 e x)) Answer.Done in
       let known = ltb e (events p) in
       let rests = atRest (d .handler) in
-      let room = not (full (view s)) in
-      rw (judged-then (look p s d) (must known Refusal.NoEvent then must rests Refusal.HandlerBusy then must room Refusal.QueueFull) d o)
+      let free = leb 1 (room (view s)) in
+      rw (judged-then (look p s d) (must known Refusal.NoEvent then must rests Refusal.HandlerBusy then must free Refusal.QueueFull) d o)
       (judged-words (Post e x) (d .on) Refusal.PowerOff _ (look p s d) look-is refl
       (λ on.
-      rw (judged-then (must known Refusal.NoEvent) (must rests Refusal.HandlerBusy then must room Refusal.QueueFull) d o)
+      rw (judged-then (must known Refusal.NoEvent) (must rests Refusal.HandlerBusy then must free Refusal.QueueFull) d o)
       (judged-words (Post e x) known Refusal.NoEvent _ _ refl refl
       (λ below.
-      rw (judged-then (must rests Refusal.HandlerBusy) (must room Refusal.QueueFull) d o)
+      rw (judged-then (must rests Refusal.HandlerBusy) (must free Refusal.QueueFull) d o)
       (judged-words (Post e x) rests Refusal.HandlerBusy _ _ refl refl
       (λ rest.
-      judged-words (Post e x) room Refusal.QueueFull _ _ refl refl
-      (λ free.
-      let not-full : after (v .records) (v .tail) ≢ v .head = eqb-false _ _ (not-true _ (ap (λ (u : Store). not (full u)) (sym view-at) ∙ free)) in
-      to-words (Post e x) o (posted-kept p v d z k (when-on on) e x (ltb-true _ _ below) not-full))))))))
+      judged-words (Post e x) free Refusal.QueueFull _ _ refl refl
+      (λ fits.
+      let room-for-one : 1 ≤ room v = leb-true _ _ (ap (λ (u : Store). leb 1 (room u)) (sym view-at) ∙ fits) in
+      to-words (Post e x) o (posted-kept p v d z k (when-on on) e x (ltb-true _ _ below) room-for-one))))))))
 
   pub call-kept : (c : Call) → KeptWords p l q s z k c (call p s d c)
   unfolding call

@@ -8,16 +8,16 @@ use mathlib.Core.Bool.{true}
 use mathlib.Core.List.{List}
 use native.Mathlib.Omega.{arith}
 use lib.ListN.{length}
-use Rattle.model.proofs.DeviceLaws.{atPlace, task-lasts, event-lasts, least-last, Commits, Made, handler-event, handler-data, handler-tail, commit-copy, commit-task, commit-open, commit-head, commit-phase, chosen-event, chosen-task, computed, jumped, loaded, overwritten, half-saved, saved, go-count, go-pending, go-open, go-phase, done-count, done-pending, done-phase, Outcome, refused, made, outcome}
+use Rattle.model.proofs.DeviceLaws.{atPlace, task-lasts, event-lasts, least-last, Commits, Made, record-made, tail-made, handler, commit-copy, commit-task, commit-open, commit-head, commit-phase, chosen-event, chosen-task, computed, jumped, loaded, overwritten, half-saved, saved, go-count, go-pending, go-open, go-phase, done-count, done-pending, done-phase, Outcome, refused, made, outcome}
 use Rattle.model.proofs.Early.{ControlledBy, control-still, MayRunBy, MayRun, StandsBy, Stands, Attends, Fit, Early, early-fit, look-passes}
 use Rattle.model.proofs.Kept.{InsideOf}
 use Rattle.model.proofs.LogLaws.{find-pair}
-use Rattle.model.proofs.RingLaws.{after-le}
+use Rattle.model.proofs.RingLaws.{forward, forward-le, tail-apart, event-store, datum-store, slot-in, carried-one}
 use Rattle.model.proofs.StoreLaws.{parts, apply, view-after, rule-kept}
 use Rattle.model.proofs.TestLaws.{clash, then-first, then-rest}
-use Rattle.model.specs.Device.{Out, fresh, moved, handled, taskLastStores, eventLastStores, lastStores, endStores, look, begun, step}
+use Rattle.model.specs.Device.{Out, fresh, moved, withHandler, taskLastStores, eventLastStores, lastStores, endStores, look, begun, step}
 use Rattle.model.specs.Program.{tasks, memoryWords, word}
-use Rattle.model.specs.Store.{Store, view, after, Write, none, to, settled}
+use Rattle.model.specs.Store.{Store, view, carried, after, distance, Write, none, to, settled}
 use Rattle.model.specs.Types.{Body, Checked, Device, Free, Half, Handler, Place, Resting, Run}
 use Rattle.model.specs.Claims.{soundAfter, LookStays}
 
@@ -41,8 +41,8 @@ module _ (p : List ℕ) (v : Store) (d : Device) (fit : Fit p v d) where
   runs-fits : (m l q r : List ℕ) (b : Body) (j n : ℕ) → n ≤ v .pairs → v .phase ≡ 0 → MayRun p v b → Fit p (beside m l q) (moved d r (Run b j 0) n)
   runs-fits m l q r b j n k z may = moved-fits m l q r (Run b j 0) n k (z, may, some-end b)
 
-  handled-fits : (q : List ℕ) (h : Handler) → Attends p v h → Fit p (beside (v .memory) (v .log) q) (handled d h)
-  unfolding handled lastStores taskLastStores eventLastStores
+  handled-fits : (q : List ℕ) (h : Handler) → Attends p v h → Fit p (beside (v .memory) (v .log) q) (withHandler d h)
+  unfolding withHandler lastStores taskLastStores eventLastStores
   handled-fits q h a = record { control = fit .control; on = fit .on; count-in = fit .count-in; place = fit .place; handler = a }
 
   -- other words 9, 10, 14 and 15
@@ -63,29 +63,32 @@ module _ (p : List ℕ) (v : Store) (d : Device) (fit : Fit p v d) where
         open-none = open′;
       }
 
-  -- a new tail
-  module _ (room : after (v .records) (v .tail) ≢ v .head) where
+  -- a new tail, behind some records
+  module _ (k : ℕ) (some-record : 0 < k) (room : distance (v .records) (v .head) (v .tail) + k ≤ v .records) where
     abbrev x : ℕ
-    x = after (v .records) (v .tail)
+    x = forward (v .records) (v .tail) k
+
+    apart : v .head ≢ x
+    apart = tail-apart (v .records) (v .head) (v .tail) k (fit .control .head-in) (fit .control .tail-in) room (omega arith)
 
     may-tail : (b : Body) → MayRun p v b → MayRunBy p (v .task) (v .openNumber) (v .head) x b
     may-tail (Body.Task t) h = h
-    may-tail (Body.Event e) h = (h .0, h .1, λ z. room (sym z))
+    may-tail (Body.Event e) h = (h .0, h .1, apart)
 
-    stands-tail : (n k : ℕ) (y : Place) → StandsBy p (v .pairs) (v .phase) (v .task) (v .openNumber) (v .count) (v .head) (v .tail) k n y
-        → StandsBy p (v .pairs) (v .phase) (v .task) (v .openNumber) (v .count) (v .head) x k n y
-    stands-tail n k (Free c) h = h
-    stands-tail n k (Run b j c) h = (h .0, may-tail b (h .1), h .2)
-    stands-tail n k (Half b j) h = (h .0, may-tail b (h .1), h .2)
+    stands-tail : (n c : ℕ) (y : Place) → StandsBy p (v .pairs) (v .phase) (v .task) (v .openNumber) (v .count) (v .head) (v .tail) c n y
+        → StandsBy p (v .pairs) (v .phase) (v .task) (v .openNumber) (v .count) (v .head) x c n y
+    stands-tail n c (Free i) h = h
+    stands-tail n c (Run b j i) h = (h .0, may-tail b (h .1), h .2)
+    stands-tail n c (Half b j) h = (h .0, may-tail b (h .1), h .2)
 
-    tail-fits : Fit p (parts (v .pairs) (v .records) (v .phase) (v .task) (v .openNumber) (v .count) (v .pending) (v .pendingOpen) (v .head) x (v .memory) (v .log) (v .queue)) (handled d Resting)
-    unfolding handled lastStores taskLastStores eventLastStores
+    tail-fits : Fit p (parts (v .pairs) (v .records) (v .phase) (v .task) (v .openNumber) (v .count) (v .pending) (v .pendingOpen) (v .head) x (v .memory) (v .log) (v .queue)) (withHandler d Resting)
+    unfolding withHandler lastStores taskLastStores eventLastStores
     tail-fits =
         let c = fit .control in
         record {
           control =
-              control-other (v .task) (v .openNumber) (v .head) x (c .task-in) (c .head-in) (after-le (v .records) (v .tail) (c .tail-in))
-              (λ q. ⊎-elim inl (λ a. inr (a .0, λ z. room (sym z))) (c .pending-is q)) (c .open-none);
+              control-other (v .task) (v .openNumber) (v .head) x (c .task-in) (c .head-in) (forward-le (v .records) (v .tail) k (c .tail-in) (omega (arith, room)))
+              (λ q. ⊎-elim inl (λ a. inr (a .0, apart)) (c .pending-is q)) (c .open-none);
           on = fit .on;
           count-in = fit .count-in;
           place = stands-tail (d .count) (length (lastStores v)) (d .place) (fit .place);
@@ -139,9 +142,10 @@ module _ (p : List ℕ) (v : Store) (d : Device) (fit : Fit p v d) where
 
   keeps : (o : Out) → Made p v d o → Keeps o
   unfolding apply begun endStores soundAfter
-  keeps o (handler-event q a) _ = (fit .control .tail-in, handled-fits _ _ a)
-  keeps o (handler-data q a) _ = (fit .control .tail-in, handled-fits _ _ a)
-  keeps o (handler-tail q a) _ = (tt, tail-fits (a .1))
+  keeps o (handler q (record-made a (event-store n r l m))) _ = (slot-in (v .head) n (fit .control .tail-in) (a .room) l, handled-fits _ _ a)
+  keeps o (handler q (record-made a (datum-store n r l m))) _ = (slot-in (v .head) n (fit .control .tail-in) (a .room) l, handled-fits _ _ a)
+  keeps o (handler {e = e} {x = x} q (tail-made a)) _ =
+      (tt, tail-fits (length (carried e x)) (omega (arith, carried-one e x)) (omega (arith, a .room, carried-one e x)))
   keeps o (commit-copy {c = c} h l m) _ =
       (m, moved-fits _ _ _ (d .regs) (Free (c + 1)) (d .count) (fit .count-in) (λ z. absurd (h .phase z), λ _. omega (arith, least-last v)))
   keeps o (commit-task h one e) _ =

@@ -11,6 +11,7 @@ use Rattle.model.specs.Calls.{Call, Boot, Step, Cut, Now, call, history,
 use Rattle.model.specs.Claims.{ByCalls}
 use Rattle.model.specs.Demand3.{recoverySteps, AsSerialRun, AllExpected, recovering, Observed, ObservedByCalls}
 use Rattle.model.specs.Device.{off, cut}
+use Rattle.model.specs.Serial.{given}
 use Rattle.model.specs.Store.{Record, view, settled, waiting, formatCheck, format}
 use Rattle.model.specs.Types.{Answer, Body, Checked}
 
@@ -30,7 +31,7 @@ module _ (p : List ℕ) (l q : ℕ) (s : List ℕ) (e : formatCheck p l q s ≡ 
   )
 
   module _ (cs : List Call) where
-    abbrev d : AsSerialRun p fresh-store cs
+    abbrev d : AsSerialRun p l q fresh-store cs
     d = demand3 p l q s e cs
 
     abbrev now : Now
@@ -54,13 +55,13 @@ module _ (p : List ℕ) (l q : ℕ) (s : List ℕ) (e : formatCheck p l q s ≡ 
         → (r : Record) × (rest : List Record) × (waiting (view (now .store)) ≡ r ∷ rest) × (r .event ≡ n)
     oldest-waits n a = let r = d .bodies (Body.Event n) a in (r .oldest, r .rest, d .waits ∙ r .there, r .named)
 
-    seen : Observed p fresh-store cs
+    seen : Observed p l q fresh-store cs
     unfolding afterCalls
     seen =
         record {
           state = d .state;
           ran = d .ran (length cs) (omega arith);
-          tasks = tasks-follow (length cs) p (history p fresh-store off cs) (d .state) (d .ran (length cs) (omega arith));
+          tasks = tasks-follow (length cs) (given p l q) (history p fresh-store off cs) (d .state) (d .ran (length cs) (omega arith));
           answers = expected-from cs [];
           goes-on = λ m h. rw (recovering-is m) (by-calls .goes-on m h);
           ends = rw leaves (by-calls .ended);

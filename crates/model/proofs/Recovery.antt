@@ -22,7 +22,7 @@ use Rattle.model.specs.Calls.{Step, unlessRefused, recovered, refused, f
 use Rattle.model.specs.Demand3.{Left, recoverySteps, Recovers}
 use Rattle.model.specs.Device.{Out, out, judged, fresh, off, turnedOn, taskLastStores, eventLastStores, lastStores, boot, cut, copyStep, placeStep, nextStep, step}
 use Rattle.model.specs.Program.{memoryWords}
-use Rattle.model.specs.Serial.{Serial, tell}
+use Rattle.model.specs.Serial.{Serial, given, tell}
 use Rattle.model.specs.Store.{Store, view, Write, none, settled, waiting}
 use Rattle.model.specs.Test.{must}
 use Rattle.model.specs.Types.{Answer, Checked, Device, Free, Resting}
@@ -97,7 +97,7 @@ module _ (p : List ℕ) (sound : Sound p) (l q : ℕ) (s : List ℕ) (d : Device
   stored-same : (h : KeptWords p l q s z k Step (step p s d)) → step p s d .answer ≡ Answer.Stored → h .after ≡ z
   unfolding tell
   stored-same h e =
-      let t : tell (suc k) p z Step Answer.Stored ≡ some (h .after) = rw e at (h .tells (suc k) (omega arith)) in
+      let t : tell (suc k) (given p l q) z Step Answer.Stored ≡ some (h .after) = rw e at (h .tells (suc k) (omega arith)) in
       let u : some z ≡ some (h .after) = t in
       cc
 

@@ -1,30 +1,30 @@
 -- After 23 or 24 every step repeats that refusal until a cut, save for handler steps: for all words and device states. `why` says that
--- an instruction met it; what a handler stores, tail and the tail's slot, is nothing that the instruction reads, and the early checks
+-- an instruction met it; what a handler stores, tail and slots behind it, is nothing that the instruction reads, and the early checks
 -- pass again (LookStays). Assumes nothing.
-use Prim.Native.Nat.{ℕ, _+_, _*_}
+use Prim.Native.Nat.{ℕ, _+_, _-_, _*_, _≤_}
 use mathlib.Core.Path.{_≡_, refl, sym, ap, _∙_, subst}
 use mathlib.Core.Logic.{_≢_}
 use mathlib.Core.Bool.{Bool, true, false, not}
 use mathlib.Core.List.{List, [], _∷_}
 use native.Mathlib.Omega.{arith}
 use lib.Dec.{leb, eqb}
-use lib.ListN.{set}
-use lib.Seq.{getD-set-other}
-use Rattle.model.proofs.DeviceLaws.{judged-case, step-refused, step-goes, step-acts, load-refused, save-refused, save-full, RunsAt, Meets, by-record, by-pair, by-body, load-above, save-above, log-full, Why, looked, met, why}
-use Rattle.model.proofs.Early.{Early, MayRun, look-rests}
+use lib.ListN.{length}
+use Rattle.model.proofs.DeviceLaws.{judged-case, step-refused, step-goes, step-acts, load-refused, save-refused, save-full, HandlerMade, record-made, tail-made, handler-made, RunsAt, Meets, by-record, by-pair, by-body, load-above, save-above, log-full, Why, looked, met, why}
+use Rattle.model.proofs.Early.{Early, MayRun, look-passed, look-rests}
 use Rattle.model.proofs.LookStays.{look-stays}
 use Rattle.model.proofs.Numbers.{Low, low-contents, low-store, low-inside, low-used, low-body}
+use Rattle.model.proofs.RingLaws.{forward, distance-some, slot-apart, RecordStore, event-store, datum-store, slot-in, queueAfter, slot-stays}
 use Rattle.model.proofs.StoreLaws.{apply, requeued, Inside, view-after}
 use Rattle.model.proofs.TestLaws.{clash, must-passed, then-rest, Refuses, refuses-accepted, refuses-must, refuses-then}
 use Rattle.model.specs.Answer.{refusal}
 use Rattle.model.specs.Calls.{Call, Boot, Step, Cut, Post, call, afterCalls}
 use Rattle.model.specs.Claims.{Stays, address, logFull, uncut, RefusalStays, soundAfter}
 use Rattle.model.specs.Control.{Rule, obey, obeyAll, openRule, taskRule}
-use Rattle.model.specs.Device.{Out, out, refuse, handled, look, boot, bootCheck, post, postCheck, handlerStep, recordSound, headSound, headIs, openSound, bodySound, act, nextStep, step}
+use Rattle.model.specs.Device.{Out, out, refuse, withHandler, look, boot, bootCheck, post, postCheck, recordSound, headSound, headIs, openSound, bodySound, act, nextStep, step}
 use Rattle.model.specs.Program.{word, memoryWords, number}
-use Rattle.model.specs.Store.{Store, view, event, after, Word, Event, Datum, Tail, to, settled}
+use Rattle.model.specs.Store.{Store, view, event, Record, carried, distance, slot, Word, Event, Datum, Tail, Write, to, settled}
 use Rattle.model.specs.Test.{_or_, must}
-use Rattle.model.specs.Types.{Answer, Body, Checked, Device, Effect, Handler, Next, Place, Refusal, Resting, Run, Storing}
+use Rattle.model.specs.Types.{Answer, Body, Checked, Device, Effect, Handler, Place, Refusal, Resting, Run, Storing}
 
 -- ---- 23 and 24 come from an instruction alone
 
@@ -110,10 +110,10 @@ module _ (p : List ℕ) (v : Store) (queue : List ℕ) (t : ℕ) (same : v .head
 -- ---- a step that 23 or 24 refuses, were its handler at rest
 
 abbrev Stuck : List ℕ → List ℕ → Device → Refusal → Type 0
-Stuck p s d r = step p s (handled d Resting) .answer ≡ Answer.Refused r
+Stuck p s d r = step p s (withHandler d Resting) .answer ≡ Answer.Refused r
 
-rests-is : (d : Device) → d .handler ≡ Resting → handled d Resting ≡ d
-unfolding handled
+rests-is : (d : Device) → d .handler ≡ Resting → withHandler d Resting ≡ d
+unfolding withHandler
 rests-is d e = λ i. record { on = d .on; regs = d .regs; place = d .place; count = d .count; handler = sym e i }
 
 -- it begins so
@@ -131,48 +131,62 @@ module _ (p s : List ℕ) (d : Device) (r : Refusal) (w : Stays r) (k : Stuck p 
   abbrev After : Out → Type 0
   After o = Stuck p (settled s (o .write)) (o .device) r
 
-  meets : Early p s (handled d Resting) × Meets p v (handled d Resting) r
-  meets = by-why (why p s (handled d Resting) r k .0)
+  meets : Early p s (withHandler d Resting) × Meets p v (withHandler d Resting) r
+  meets = by-why (why p s (withHandler d Resting) r k .0)
     where
-      by-why : Why p s (handled d Resting) r → Early p s (handled d Resting) × Meets p v (handled d Resting) r
-      by-why (looked f) = absurd (other-look p s (handled d Resting) .with-such r f w)
+      by-why : Why p s (withHandler d Resting) r → Early p s (withHandler d Resting) × Meets p v (withHandler d Resting) r
+      by-why (looked f) = absurd (other-look p s (withHandler d Resting) .with-such r f w)
       by-why (met early rests m) = (early, m)
 
   -- a store by the handler
-  stored : (x : Word) (y : ℕ) (h : Handler) (a : Answer) (queue : List ℕ) (t : ℕ) → step p s d ≡ out (to x y) (handled d h) a → soundAfter a ≡ true
+  stored : (x : Word) (y : ℕ) (h : Handler) (a : Answer) (queue : List ℕ) (t : ℕ) → step p s d ≡ out (to x y) (withHandler d h) a → soundAfter a ≡ true
       → Inside (memoryWords p) (v .pairs) (v .records) x → apply v (to x y) ≡ requeued v queue t
-      → (v .head ≢ v .tail → word queue (2 * v .head) ≡ event v (v .head)) → After (out (to x y) (handled d h) a)
-  unfolding handled
+      → (v .head ≢ v .tail → word queue (2 * v .head) ≡ event v (v .head)) → After (out (to x y) (withHandler d h) a)
+  unfolding withHandler
   stored x y h a queue t is sound inside parts same =
       let s′ = settled s (to x y) in
       let looks = look-stays p s d (ap (λ (o : Out). soundAfter (o .answer)) is ∙ sound) in
-      again p v queue t same s′ (handled d Resting) refl
-      (look-rests p s′ (handled d h) (subst (λ (o : Out). look p (settled s (o .write)) (o .device) ≡ Checked.Accepted) is looks))
+      again p v queue t same s′ (withHandler d Resting) refl
+      (look-rests p s′ (withHandler d h) (subst (λ (o : Out). look p (settled s (o .write)) (o .device) ≡ Checked.Accepted) is looks))
       (view-after (memoryWords p) (v .pairs) (v .records) s (meets .0 .shaped .sized) x y inside ∙ parts) r w (meets .1)
 
-  stuck-handler : (n : Next) (e x : ℕ) → step p s d ≡ handlerStep v d n e x → After (handlerStep v d n e x)
-  unfolding handlerStep apply soundAfter
-  stuck-handler Next.Event e x is =
-      stored (Event (v .tail)) e (Storing Next.Data e x) Answer.Stored (set (v .queue) (2 * v .tail) e) (v .tail) is refl (meets .0 .control .tail-in) refl
-      (λ ne. getD-set-other (v .queue) (2 * v .tail) (2 * v .head) e 0 (omega arith))
-  stuck-handler Next.Data e x is =
-      stored (Datum (v .tail)) x (Storing Next.Tail e x) Answer.Stored (set (v .queue) (2 * v .tail + 1) x) (v .tail) is refl (meets .0 .control .tail-in) refl
-      (λ ne. getD-set-other (v .queue) (2 * v .tail + 1) (2 * v .head) x 0 (omega arith))
-  stuck-handler Next.Tail e x is =
-      stored Tail (after (v .records) (v .tail)) Resting Answer.Accepted (v .queue) (after (v .records) (v .tail)) is refl tt refl (λ _. refl)
+  -- the record at head, if one waits, isn't where the handler stores
+  head-stays : (rs : List Record) (w : Write) → RecordStore (v .records) (v .tail) rs w → length rs ≤ v .records - distance (v .records) (v .head) (v .tail)
+      → v .head ≢ v .tail → word (queueAfter (v .queue) w) (2 * v .head) ≡ event v (v .head)
+  unfolding slot forward
+  head-stays rs w store room ne =
+      let c = meets .0 .control in
+      ap (λ (x : Record). x .event)
+      (slot-stays (v .queue) (v .records) (v .tail) rs w store (v .head)
+      (λ n l.
+      slot-apart (v .records) (v .head) (v .tail) n (c .head-in) (c .tail-in) (omega (arith, room)) 0
+      (distance-some (v .records) (v .head) (v .tail) (c .head-in) (c .tail-in) ne)))
+
+  stuck-handler : {c e x : ℕ} (o : Out) → HandlerMade p v d c e x o → step p s d ≡ o → After o
+  unfolding apply soundAfter queueAfter
+  stuck-handler {c = c} {e = e} {x = x} o (record-made a (event-store n y l m)) is =
+      stored (Event _) (y .event) (Storing (c + 1) e x) Answer.Stored _ (v .tail) is refl (slot-in (v .head) n (meets .0 .control .tail-in) (a .room) l) refl
+      (head-stays (carried e x) _ (event-store n y l m) (a .room))
+  stuck-handler {c = c} {e = e} {x = x} o (record-made a (datum-store n y l m)) is =
+      stored (Datum _) (y .datum) (Storing (c + 1) e x) Answer.Stored _ (v .tail) is refl (slot-in (v .head) n (meets .0 .control .tail-in) (a .room) l) refl
+      (head-stays (carried e x) _ (datum-store n y l m) (a .room))
+  stuck-handler o (tail-made a) is = stored Tail _ Resting Answer.Accepted (v .queue) _ is refl tt refl (λ _. refl)
 
   stuck-step : (h : Handler) → d .handler ≡ h → After (step p s d)
   unfolding settled nextStep
   stuck-step Resting q =
       subst After (sym (why p s d r (ap (λ (u : Device). step p s u .answer) (sym (rests-is d q)) ∙ k) .1)) k
-  stuck-step (Storing n e x) q = by-look (look p s d) refl
+  stuck-step (Storing c e x) q = by-look (look p s d) refl
     where
-      by-look : (c : Checked) → look p s d ≡ c → After (step p s d)
-      by-look Checked.Accepted ok = let is = step-goes p s d ok ∙ ap (nextStep p v d) q in subst After (sym is) (stuck-handler n e x is)
+      by-look : (k : Checked) → look p s d ≡ k → After (step p s d)
+      by-look Checked.Accepted ok =
+          let is = step-goes p s d ok ∙ ap (nextStep p v d) q in
+          let attends = look-passed p s d ok .handler in
+          subst After (sym is) (stuck-handler _ (handler-made p v d c e x (rw q at attends)) is)
       by-look (Checked.Refused f) not-ok = subst After (sym (step-refused p s d not-ok)) k
 
   stuck-call : (c : Call) → uncut (c ∷ []) ≡ true → After (call p s d c)
-  unfolding call boot bootCheck post settled handled uncut
+  unfolding call boot bootCheck post settled withHandler uncut
   stuck-call Boot e =
       judged-case After (bootCheck p s d) (λ f _. k)
       (λ ok. clash (must-passed (not (d .on)) Refusal.PowerOn (then-rest _ _ (then-rest _ _ (then-rest _ _ ok)))) (ap not (meets .0 .on)))

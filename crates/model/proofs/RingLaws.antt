@@ -1,18 +1,21 @@
--- Laws of the ring (specs/Store.antt): how far it is from slot to slot, what a new tail and a new head do to the waiting records,
--- and that storing to a slot that doesn't wait changes none. Slots are 0 to q. Assumes nothing.
-use Prim.Native.Nat.{ℕ, zero, suc, _+_, _*_, _≤_, _<_}
-use mathlib.Core.Path.{_≡_, refl, sym, ap, _∙_}
+-- Laws of the ring (specs/Store.antt), for any number of slots: how far it is from slot to slot, what a new tail and a new head do to the
+-- waiting records, and that the stores of records behind tail change none that waits. Slots are 0 to q. Assumes nothing.
+use Prim.Native.Nat.{ℕ, zero, suc, _+_, _-_, _*_, _≤_, _<_}
+use mathlib.Core.Path.{_≡_, refl, sym, ap, subst, _∙_}
 use mathlib.Core.Logic.{_⊎_, inl, inr, _≢_}
 use mathlib.Core.Bool.{Bool, true, false}
 use mathlib.Core.List.{List, [], _∷_, _++_}
 use native.Mathlib.Omega.{arith}
 use lib.Dec.{ltb, leb}
-use lib.ListN.{set}
-use lib.Seq.{getD-set-other}
+use lib.ListN.{length, getD, set}
+use lib.Seq.{getD-set-other, getD-set-same}
 use borrow.Author.Tests.{ltb-true, leb-true, leb-false, eqb-true, eqb-false, le-leb, lt-ltb}
-use Rattle.model.proofs.TestLaws.{pick-case, pick-true, pick-false, clash, same-or, and-true, or-true-left}
+use Rattle.model.proofs.FirstStores.{First}
+use Rattle.model.proofs.TestLaws.{pick-case, pick-true, pick-false, clash, and-true, and-left, and-right, or-true-left}
 use Rattle.model.specs.Control.{between}
-use Rattle.model.specs.Store.{after, distance, slot, recordsFrom, Record}
+use Rattle.model.specs.Device.{recordStores, knownEvents}
+use Rattle.model.specs.Program.{word, events}
+use Rattle.model.specs.Store.{after, distance, slot, recordsFrom, Record, carried, Phase, Task, Open, Count, Pending, PendingOpen, Head, Tail, Memory, Address, Value, Event, Datum, Write, none, to}
 use Rattle.model.specs.Test.{pick, _and_, _or_}
 
 -- ---- what the definitions say, in plain arithmetic
@@ -25,6 +28,40 @@ pub after-is : (q x : ℕ) → After q x (after q x)
 unfolding after
 after-is q x = pick-case (λ (y : ℕ). After q x y) (λ e. inl (eqb-true _ _ e, refl)) (λ e. inr (eqb-false _ _ e, refl))
 
+pub after-le : (q x : ℕ) → x ≤ q → after q x ≤ q
+after-le q x l = go (after q x) (after-is q x)
+  where
+    go : (y : ℕ) → After q x y → y ≤ q
+    go y (inl a) = omega arith
+    go y (inr a) = omega arith
+
+-- the slot n places after x
+unfoldable pub forward : ℕ → ℕ → ℕ → ℕ
+forward q x zero = x
+forward q x (suc n) = forward q (after q x) n
+
+-- y is that slot
+abbrev pub Forward : ℕ → ℕ → ℕ → ℕ → Type 0
+Forward q x n y = ((x + n ≤ q) × (y ≡ x + n)) ⊎ ((q < x + n) × (y + (q + 1) ≡ x + n))
+
+pub forward-is : (q x n : ℕ) → x ≤ q → n ≤ q → Forward q x n (forward q x n)
+unfolding forward
+forward-is q x zero l m = inl (omega arith, omega arith)
+forward-is q x (suc n) l m = go (after q x) (forward q (after q x) n) (after-is q x) (forward-is q (after q x) n (after-le q x l) (omega arith))
+  where
+    go : (a y : ℕ) → After q x a → Forward q a n y → Forward q x (suc n) y
+    go a y (inl s) (inl f) = inr (omega arith, omega arith)
+    go a y (inl s) (inr f) = absurd (omega arith)
+    go a y (inr s) (inl f) = inl (omega arith, omega arith)
+    go a y (inr s) (inr f) = inr (omega arith, omega arith)
+
+pub forward-le : (q x n : ℕ) → x ≤ q → n ≤ q → forward q x n ≤ q
+forward-le q x n l m = go (forward q x n) (forward-is q x n l m)
+  where
+    go : (y : ℕ) → Forward q x n y → y ≤ q
+    go y (inl f) = omega arith
+    go y (inr f) = omega arith
+
 -- n slots lie from h up to t
 abbrev pub Distance : ℕ → ℕ → ℕ → ℕ → Type 0
 Distance q h t n = ((h ≤ t) × (n + h ≡ t)) ⊎ ((t < h) × (n + h ≡ t + (q + 1)))
@@ -36,35 +73,27 @@ distance-is q h t l =
     (λ e. let le : h ≤ t = leb-true _ _ e in inl (le, omega arith))
     (λ e. let lt : t < h = leb-false _ _ e in inr (lt, omega arith))
 
-pub after-le : (q x : ℕ) → x ≤ q → after q x ≤ q
-after-le q x l = go (after q x) (after-is q x)
+pub distance-le : (q h t : ℕ) → h ≤ q → t ≤ q → distance q h t ≤ q
+distance-le q h t l m = go (distance q h t) (distance-is q h t l)
   where
-    go : (y : ℕ) → After q x y → y ≤ q
-    go y (inl a) = omega arith
-    go y (inr a) = omega arith
+    go : (n : ℕ) → Distance q h t n → n ≤ q
+    go n (inl d) = omega arith
+    go n (inr d) = omega arith
 
-pub after-injective : (q x y : ℕ) → x ≤ q → y ≤ q → after q x ≡ after q y → x ≡ y
-after-injective q x y l m e = go (after q x) (after q y) (after-is q x) (after-is q y) e
+-- none exactly where the two are one
+pub distance-some : (q h t : ℕ) → h ≤ q → t ≤ q → h ≢ t → 0 < distance q h t
+distance-some q h t l m ne = go (distance q h t) (distance-is q h t l)
   where
-    go : (a b : ℕ) → After q x a → After q y b → a ≡ b → x ≡ y
-    go a b (inl s) (inl t) e = omega arith
-    go a b (inl s) (inr t) e = omega arith
-    go a b (inr s) (inl t) e = omega arith
-    go a b (inr s) (inr t) e = omega arith
+    go : (n : ℕ) → Distance q h t n → 0 < n
+    go n (inl d) = omega arith
+    go n (inr d) = omega arith
 
-pub distance-none : (q h t : ℕ) → h ≤ q → t ≤ q → distance q h t ≡ 0 → h ≡ t
-distance-none q h t l m e = go (distance q h t) (distance-is q h t l) e
+pub distance-apart : (q h t : ℕ) → h ≤ q → 0 < distance q h t → h ≢ t
+distance-apart q h t l p = go (distance q h t) (distance-is q h t l) p
   where
-    go : (n : ℕ) → Distance q h t n → n ≡ 0 → h ≡ t
-    go n (inl d) e = omega arith
-    go n (inr d) e = omega arith
-
-pub distance-some : (q h t k : ℕ) → h ≤ q → t ≤ q → distance q h t ≡ suc k → h ≢ t
-distance-some q h t k l m e = go (distance q h t) (distance-is q h t l) e
-  where
-    go : (n : ℕ) → Distance q h t n → n ≡ suc k → h ≢ t
-    go n (inl d) e = omega arith
-    go n (inr d) e = omega arith
+    go : (n : ℕ) → Distance q h t n → 0 < n → h ≢ t
+    go n (inl d) p = omega arith
+    go n (inr d) p = omega arith
 
 -- a new head: one slot fewer
 pub distance-head : (q h t : ℕ) → h ≤ q → t ≤ q → h ≢ t → distance q h t ≡ suc (distance q (after q h) t)
@@ -81,31 +110,65 @@ distance-head q h t l m ne =
     go a n k (inr x) (inr y) (inl z) = omega arith
     go a n k (inr x) (inr y) (inr z) = omega arith
 
--- a new tail: one slot more
-pub distance-tail : (q h t : ℕ) → h ≤ q → t ≤ q → after q t ≢ h → distance q h (after q t) ≡ suc (distance q h t)
-distance-tail q h t l m ne = go (after q t) (distance q h t) (distance q h (after q t)) (after-is q t) (distance-is q h t l) (distance-is q h (after q t) l) ne
+-- as far from h as t is: that is t
+pub forward-distance : (q h t : ℕ) → h ≤ q → t ≤ q → forward q h (distance q h t) ≡ t
+forward-distance q h t l m =
+    go (distance q h t) (forward q h (distance q h t)) (distance-is q h t l) (forward-is q h (distance q h t) l (distance-le q h t l m))
   where
-    go : (a n k : ℕ) → After q t a → Distance q h t n → Distance q h a k → a ≢ h → k ≡ suc n
-    go a n k (inl x) (inl y) (inl z) ne = omega arith
-    go a n k (inl x) (inl y) (inr z) ne = omega arith
-    go a n k (inl x) (inr y) (inl z) ne = omega arith
-    go a n k (inl x) (inr y) (inr z) ne = omega arith
-    go a n k (inr x) (inl y) (inl z) ne = omega arith
-    go a n k (inr x) (inl y) (inr z) ne = omega arith
-    go a n k (inr x) (inr y) (inl z) ne = omega arith
-    go a n k (inr x) (inr y) (inr z) ne = omega arith
+    go : (n y : ℕ) → Distance q h t n → Forward q h n y → y ≡ t
+    go n y (inl d) (inl f) = omega arith
+    go n y (inl d) (inr f) = omega arith
+    go n y (inr d) (inl f) = omega arith
+    go n y (inr d) (inr f) = omega arith
+
+-- ---- with room for i records behind tail
+
+module _ (q h t i : ℕ) (l : h ≤ q) (m : t ≤ q) (room : distance q h t + i ≤ q) where
+  -- a tail that is i slots on: so many slots more
+  pub distance-forward : distance q h (forward q t i) ≡ distance q h t + i
+  distance-forward =
+      go (distance q h t) (forward q t i) (distance q h (forward q t i)) (distance-is q h t l) (forward-is q t i m (omega arith))
+      (distance-is q h (forward q t i) l) room
+    where
+      go : (n y k : ℕ) → Distance q h t n → Forward q t i y → Distance q h y k → n + i ≤ q → k ≡ n + i
+      go n y k (inl d) (inl f) (inl e) r = omega arith
+      go n y k (inl d) (inl f) (inr e) r = omega arith
+      go n y k (inl d) (inr f) (inl e) r = omega arith
+      go n y k (inl d) (inr f) (inr e) r = omega arith
+      go n y k (inr d) (inl f) (inl e) r = omega arith
+      go n y k (inr d) (inl f) (inr e) r = omega arith
+      go n y k (inr d) (inr f) (inl e) r = omega arith
+      go n y k (inr d) (inr f) (inr e) r = omega arith
+
+  -- such a tail isn't head, unless none waits and none came
+  pub tail-apart : 0 < distance q h t + i → h ≢ forward q t i
+  tail-apart p = distance-apart q h (forward q t i) l (subst (λ (n : ℕ). 0 < n) (sym distance-forward) p)
+
+  -- the slot i places after tail is none of the waiting ones
+  pub slot-apart : (j : ℕ) → j < distance q h t → forward q h j ≢ forward q t i
+  slot-apart j below =
+      go (distance q h t) (forward q h j) (forward q t i) (distance-is q h t l) (forward-is q h j l (omega arith)) (forward-is q t i m (omega arith))
+      room below
+    where
+      go : (n y z : ℕ) → Distance q h t n → Forward q h j y → Forward q t i z → n + i ≤ q → j < n → y ≢ z
+      go n y z (inl d) (inl f) (inl g) r b = omega arith
+      go n y z (inl d) (inl f) (inr g) r b = omega arith
+      go n y z (inl d) (inr f) (inl g) r b = omega arith
+      go n y z (inl d) (inr f) (inr g) r b = omega arith
+      go n y z (inr d) (inl f) (inl g) r b = omega arith
+      go n y z (inr d) (inl f) (inr g) r b = omega arith
+      go n y z (inr d) (inr f) (inl g) r b = omega arith
+      go n y z (inr d) (inr f) (inr g) r b = omega arith
 
 -- ---- the records
 
--- a new tail adds the record of the slot that was tail
-pub records-tail : (queue : List ℕ) (q t k h : ℕ) → h ≤ q → t ≤ q → distance q h t ≡ k
-    → recordsFrom queue q h (suc k) ≡ recordsFrom queue q h k ++ slot queue t ∷ []
-unfolding recordsFrom
-records-tail queue q t zero h l m e = rw (distance-none q h t l m e)
-records-tail queue q t (suc k) h l m e =
-    ap (λ (rs : List Record). slot queue h ∷ rs)
-    (records-tail queue q t k (after q h) (after-le q h l) m
-    (let f : suc (distance q (after q h) t) ≡ suc k = sym (distance-head q h t l m (distance-some q h t k l m e)) ∙ e in omega arith))
+-- from a slot on, and then from where these end
+pub records-append : (queue : List ℕ) (q n k h : ℕ) → recordsFrom queue q h (n + k) ≡ recordsFrom queue q h n ++ recordsFrom queue q (forward q h n) k
+unfolding recordsFrom forward
+records-append queue q zero k h = let e : 0 + k ≡ k = omega arith in ap (recordsFrom queue q h) e
+records-append queue q (suc n) k h =
+    let e : suc n + k ≡ suc (n + k) = omega arith in
+    ap (recordsFrom queue q h) e ∙ ap (λ (rs : List Record). slot queue h ∷ rs) (records-append queue q n k (after q h))
 
 -- a new head takes the first record away
 pub records-head : (queue : List ℕ) (q h t : ℕ) → h ≤ q → t ≤ q → h ≢ t
@@ -113,24 +176,40 @@ pub records-head : (queue : List ℕ) (q h t : ℕ) → h ≤ q → t ≤ q → 
 unfolding recordsFrom
 records-head queue q h t l m ne = rw (distance-head q h t l m ne)
 
--- a store to the tail's slot changes no record from head up to it
-pub records-free : (queue : List ℕ) (q t y x k h : ℕ) → h ≤ q → t ≤ q → distance q h t ≡ k → (y ≡ 2 * t) ⊎ (y ≡ 2 * t + 1)
-    → recordsFrom (set queue y x) q h k ≡ recordsFrom queue q h k
-unfolding recordsFrom slot
-records-free queue q t y x zero h l m e at = refl
-records-free queue q t y x (suc k) h l m e at =
-    let ne : h ≢ t = distance-some q h t k l m e in
-    let f : suc (distance q (after q h) t) ≡ suc k = sym (distance-head q h t l m ne) ∙ e in
-    let rest = records-free queue q t y x k (after q h) (after-le q h l) m (omega arith) at in
-    rw (getD-set-other queue y (2 * h) x 0 (other at ne), getD-set-other queue y (2 * h + 1) x 0 (other′ at ne), rest)
-  where
-    other : (y ≡ 2 * t) ⊎ (y ≡ 2 * t + 1) → h ≢ t → 2 * h ≢ y
-    other (inl e) ne = omega arith
-    other (inr e) ne = omega arith
+-- the same records from another queue
+pub records-same : (queue other : List ℕ) (q n h : ℕ) → ((j : ℕ) → j < n → slot other (forward q h j) ≡ slot queue (forward q h j))
+    → recordsFrom other q h n ≡ recordsFrom queue q h n
+unfolding recordsFrom forward
+records-same queue other q zero h f = refl
+records-same queue other q (suc n) h f =
+    let rest = records-same queue other q n (after q h) (λ j l. f (suc j) (omega arith)) in
+    λ i. f 0 (omega arith) i ∷ rest i
 
-    other′ : (y ≡ 2 * t) ⊎ (y ≡ 2 * t + 1) → h ≢ t → 2 * h + 1 ≢ y
-    other′ (inl e) ne = omega arith
-    other′ (inr e) ne = omega arith
+-- every event is below E
+abbrev pub Known : List ℕ → List Record → Type 0
+Known p [] = Unit {0}
+Known p (r ∷ rs) = (r .event < events p) × Known p rs
+
+pub known-append : (p : List ℕ) (rs ss : List Record) → Known p rs → Known p ss → Known p (rs ++ ss)
+known-append p [] ss k l = l
+known-append p (r ∷ rs) ss (a, k) l = (a, known-append p rs ss k l)
+
+-- as 25 asks it
+pub known-passes : (p : List ℕ) (rs : List Record) → Known p rs → knownEvents p rs ≡ true
+unfolding knownEvents
+known-passes p [] k = refl
+known-passes p (r ∷ rs) (a, k) = and-true (lt-ltb _ _ a) (known-passes p rs k)
+
+pub known-passed : (p : List ℕ) (rs : List Record) → knownEvents p rs ≡ true → Known p rs
+unfolding knownEvents
+known-passed p [] e = tt
+known-passed p (r ∷ rs) e = (ltb-true _ _ (and-left _ _ e), known-passed p rs (and-right _ _ e))
+
+known-at : (p queue : List ℕ) (q n h j : ℕ) → Known p (recordsFrom queue q h n) → j < n → word queue (2 * forward q h j) < events p
+unfolding recordsFrom forward slot
+known-at p queue q zero h j k l = absurd (omega arith)
+known-at p queue q (suc n) h zero (a, k) l = a
+known-at p queue q (suc n) h (suc j) (a, k) l = known-at p queue q n (after q h) j k (omega arith)
 
 -- ---- the slots between head and tail
 
@@ -163,35 +242,162 @@ between-self h t ne =
     pick-case (λ (b : Bool). b ≡ true)
     (λ e. let l : h ≤ t = leb-true _ _ e in let m : h < t = omega arith in and-true here (lt-ltb _ _ m)) (λ e. or-true-left _ _ here)
 
--- the tail's slot is free
-pub between-free : (h t x : ℕ) → Between h t x → x ≢ t
-between-free h t x (inl b) = omega arith
-between-free h t x (inr (l, inl b)) = omega arith
-between-free h t x (inr (l, inr b)) = omega arith
-
--- a new tail: its old slot waits too
-pub between-tail : (q h t x : ℕ) → h ≤ q → t ≤ q → x ≤ q → after q t ≢ h → Between h (after q t) x → Between h t x ⊎ (x ≡ t)
-between-tail q h t x l m n ne b = same-or x t inr (λ d. inl (go (after q t) (after-is q t) ne b (leb h t) refl d))
+-- they are nearer to head than tail is
+between-nearer : (q h t x : ℕ) → h ≤ q → x ≤ q → Between h t x → distance q h x < distance q h t
+between-nearer q h t x l n b = go (distance q h x) (distance q h t) (distance-is q h x l) (distance-is q h t l) b
   where
-    go : (a : ℕ) → After q t a → a ≢ h → Between h a x → (c : Bool) → leb h t ≡ c → x ≢ t → Between h t x
-    go a (inl s) ne (inl b) c e d = absurd (omega arith)
-    go a (inr s) ne (inl b) true e d = inl (leb-true _ _ e, (omega arith, omega arith))
-    go a (inr s) ne (inl b) false e d = let k : t < h = leb-false _ _ e in absurd (omega arith)
-    go a (inl s) ne (inr (y, inl b)) c e d = inl (omega arith, (omega arith, omega arith))
-    go a (inr s) ne (inr (y, inl b)) c e d = inr (omega arith, inl (omega arith))
-    go a (inl s) ne (inr (y, inr b)) c e d = absurd (omega arith)
-    go a (inr s) ne (inr (y, inr b)) c e d = inr (omega arith, inr (omega arith))
+    go : (j k : ℕ) → Distance q h x j → Distance q h t k → Between h t x → j < k
+    go j k (inl d) (inl e) (inl b) = omega arith
+    go j k (inl d) (inl e) (inr (c, b)) = absurd (omega arith)
+    go j k (inl d) (inr e) (inl b) = absurd (omega arith)
+    go j k (inl d) (inr e) (inr (c, inl b)) = omega arith
+    go j k (inl d) (inr e) (inr (c, inr b)) = omega arith
+    go j k (inr d) (inl e) (inl b) = absurd (omega arith)
+    go j k (inr d) (inl e) (inr (c, b)) = absurd (omega arith)
+    go j k (inr d) (inr e) (inl b) = absurd (omega arith)
+    go j k (inr d) (inr e) (inr (c, inl b)) = absurd (omega arith)
+    go j k (inr d) (inr e) (inr (c, inr b)) = omega arith
 
--- a new head: what waits then waits now
-pub between-head : (q h t x : ℕ) → h ≤ q → t ≤ q → x ≤ q → h ≢ t → Between (after q h) t x → Between h t x
-between-head q h t x l m n ne b = go (after q h) (after-is q h) b (leb h t) refl
+-- the event of a waiting slot is below E
+pub known-between : (p queue : List ℕ) (q h t x : ℕ) → h ≤ q → t ≤ q → x ≤ q → Known p (recordsFrom queue q h (distance q h t)) → Between h t x
+    → word queue (2 * x) < events p
+known-between p queue q h t x l m n k b =
+    subst (λ (y : ℕ). word queue (2 * y) < events p) (forward-distance q h x l n)
+    (known-at p queue q (distance q h t) h (distance q h x) k (between-nearer q h t x l n b))
+
+-- ---- the stores of records, from slot t on (`recordStores`)
+
+-- what a write stores to the queue stands there
+abbrev pub InQueue : List ℕ → Write → Type 0
+InQueue queue none = ⊥
+InQueue queue (to Phase x) = ⊥
+InQueue queue (to Task x) = ⊥
+InQueue queue (to Open x) = ⊥
+InQueue queue (to Count x) = ⊥
+InQueue queue (to Pending x) = ⊥
+InQueue queue (to PendingOpen x) = ⊥
+InQueue queue (to Head x) = ⊥
+InQueue queue (to Tail x) = ⊥
+InQueue queue (to (Memory a) x) = ⊥
+InQueue queue (to (Address j) x) = ⊥
+InQueue queue (to (Value j) x) = ⊥
+InQueue queue (to (Event i) x) = word queue (2 * i) ≡ x
+InQueue queue (to (Datum i) x) = word queue (2 * i + 1) ≡ x
+
+-- the first c of them are made
+abbrev pub RecordsMade : List ℕ → ℕ → ℕ → List Record → ℕ → Type 0
+RecordsMade queue q t rs c = First (InQueue queue) c (recordStores q t rs)
+
+pub data Member (r : Record) : List Record → Type 0 where
+  here : {rs : List Record} → Member r (r ∷ rs)
+  there : {s : Record} {rs : List Record} → Member r rs → Member r (s ∷ rs)
+
+-- one of them before the last: the event or the data of a record, in its slot
+pub data RecordStore (q t : ℕ) (rs : List Record) : Write → Type 0 where
+  event-store : (i : ℕ) (r : Record) → i < length rs → Member r rs → RecordStore q t rs (to (Event (forward q t i)) (r .event))
+  datum-store : (i : ℕ) (r : Record) → i < length rs → Member r rs → RecordStore q t rs (to (Datum (forward q t i)) (r .datum))
+
+-- such a slot is there
+pub slot-in : {q t k : ℕ} (h i : ℕ) → t ≤ q → k ≤ q - distance q h t → i < k → forward q t i ≤ q
+slot-in {q = q} {t = t} h i l room below = forward-le q t i l (omega arith)
+
+later-store : (q t : ℕ) (s : Record) (rs : List Record) (w : Write) → RecordStore q (after q t) rs w → RecordStore q t (s ∷ rs) w
+unfolding forward
+later-store q t s rs w (event-store i r l m) = event-store (suc i) r (omega arith) (there m)
+later-store q t s rs w (datum-store i r l m) = datum-store (suc i) r (omega arith) (there m)
+
+pub record-store : (q : ℕ) (rs : List Record) (t c : ℕ) → c < 2 * length rs → RecordStore q t rs (getD (recordStores q t rs) c none)
+unfolding recordStores forward
+record-store q [] t c l = absurd (omega arith)
+record-store q (r ∷ rs) t zero l = event-store 0 r (omega arith) here
+record-store q (r ∷ rs) t (suc zero) l = datum-store 0 r (omega arith) here
+record-store q (r ∷ rs) t (suc (suc c)) l = later-store q t r rs _ (record-store q rs (after q t) c (omega arith))
+
+-- and the last
+pub tail-store : (q : ℕ) (rs : List Record) (t c : ℕ) → c ≡ 2 * length rs → getD (recordStores q t rs) c none ≡ to Tail (forward q t (length rs))
+unfolding recordStores forward
+tail-store q [] t zero e = refl
+tail-store q [] t (suc c) e = absurd (omega arith)
+tail-store q (r ∷ rs) t zero e = absurd (omega arith)
+tail-store q (r ∷ rs) t (suc zero) e = absurd (omega arith)
+tail-store q (r ∷ rs) t (suc (suc c)) e = tail-store q rs (after q t) c (omega arith)
+
+-- how many records a post carries, and how many stores these are
+pub carried-one : (e x : ℕ) → length (carried e x) ≡ 1
+unfolding carried
+carried-one e x = refl
+
+pub record-stores : (q : ℕ) (rs : List Record) (t : ℕ) → length (recordStores q t rs) ≡ 2 * length rs + 1
+unfolding recordStores
+record-stores q [] t = refl
+record-stores q (r ∷ rs) t = let e = record-stores q rs (after q t) in omega arith
+
+-- once all but the last are made, the records stand there
+pub records-made : (queue : List ℕ) (q : ℕ) (rs : List Record) (t c : ℕ) → c ≡ 2 * length rs → RecordsMade queue q t rs c
+    → recordsFrom queue q t (length rs) ≡ rs
+unfolding recordStores recordsFrom slot
+records-made queue q [] t c e f = refl
+records-made queue q (r ∷ rs) t zero e f = absurd (omega arith)
+records-made queue q (r ∷ rs) t (suc zero) e f = absurd (omega arith)
+records-made queue q (r ∷ rs) t (suc (suc c)) e (a, (b, f)) =
+    let rest = records-made queue q rs (after q t) c (omega arith) f in
+    λ i. record { event = a i; datum = b i } ∷ rest i
+
+-- ---- the queue after one of them
+
+unfoldable pub queueAfter : List ℕ → Write → List ℕ
+queueAfter queue none = queue
+queueAfter queue (to Phase x) = queue
+queueAfter queue (to Task x) = queue
+queueAfter queue (to Open x) = queue
+queueAfter queue (to Count x) = queue
+queueAfter queue (to Pending x) = queue
+queueAfter queue (to PendingOpen x) = queue
+queueAfter queue (to Head x) = queue
+queueAfter queue (to Tail x) = queue
+queueAfter queue (to (Memory a) x) = queue
+queueAfter queue (to (Address j) x) = queue
+queueAfter queue (to (Value j) x) = queue
+queueAfter queue (to (Event i) x) = set queue (2 * i) x
+queueAfter queue (to (Datum i) x) = set queue (2 * i + 1) x
+
+-- another slot stays
+pub slot-stays : (queue : List ℕ) (q t : ℕ) (rs : List Record) (w : Write) → RecordStore q t rs w → (x : ℕ)
+    → ((i : ℕ) → i < length rs → x ≢ forward q t i) → slot (queueAfter queue w) x ≡ slot queue x
+unfolding queueAfter slot
+slot-stays queue q t rs w (event-store i r l m) x f =
+    let ne = f i l in
+    λ k. record {
+      event = getD-set-other queue (2 * forward q t i) (2 * x) (r .event) 0 (omega arith) k;
+      datum = getD-set-other queue (2 * forward q t i) (2 * x + 1) (r .event) 0 (omega arith) k;
+    }
+slot-stays queue q t rs w (datum-store i r l m) x f =
+    let ne = f i l in
+    λ k. record {
+      event = getD-set-other queue (2 * forward q t i + 1) (2 * x) (r .datum) 0 (omega arith) k;
+      datum = getD-set-other queue (2 * forward q t i + 1) (2 * x + 1) (r .datum) 0 (omega arith) k;
+    }
+
+-- a slot isn't met again before q slots
+forward-apart : (q t i : ℕ) → t ≤ q → suc i ≤ q → t ≢ forward q (after q t) i
+unfolding forward
+forward-apart q t i l m = go (forward q t (suc i)) (forward-is q t (suc i) l m)
   where
-    go : (a : ℕ) → After q h a → Between a t x → (c : Bool) → leb h t ≡ c → Between h t x
-    go a (inl s) (inl b) c e = inr (omega arith, inr (omega arith))
-    go a (inr s) (inl b) true e = inl (leb-true _ _ e, (omega arith, omega arith))
-    go a (inr s) (inl b) false e = let k : t < h = leb-false _ _ e in absurd (omega arith)
-    go a (inl s) (inr (y, w)) c e = absurd (omega arith)
-    go a (inr s) (inr (y, inl b)) true e = let k : h ≤ t = leb-true _ _ e in absurd (omega arith)
-    go a (inr s) (inr (y, inr b)) true e = let k : h ≤ t = leb-true _ _ e in absurd (omega arith)
-    go a (inr s) (inr (y, inl b)) false e = inr (leb-false _ _ e, inl (omega arith))
-    go a (inr s) (inr (y, inr b)) false e = inr (leb-false _ _ e, inr (omega arith))
+    go : (y : ℕ) → Forward q t (suc i) y → t ≢ y
+    go y (inl f) = omega arith
+    go y (inr f) = omega arith
+
+-- the next of them is made, and those before it stay
+pub next-made : (queue : List ℕ) (q : ℕ) → length queue ≡ 2 * (q + 1) → (rs : List Record) (t c : ℕ) → t ≤ q → length rs ≤ q → c < 2 * length rs
+    → RecordsMade queue q t rs c → RecordsMade (queueAfter queue (getD (recordStores q t rs) c none)) q t rs (suc c)
+unfolding recordStores queueAfter slot
+next-made queue q n [] t c l m b f = absurd (omega arith)
+next-made queue q n (r ∷ rs) t zero l m b f = (getD-set-same queue (2 * t) (r .event) 0 (omega arith), tt)
+next-made queue q n (r ∷ rs) t (suc zero) l m b (a, f) = (
+  getD-set-other queue (2 * t + 1) (2 * t) (r .datum) 0 (omega arith) ∙ a,
+  (getD-set-same queue (2 * t + 1) (r .datum) 0 (omega arith), tt),
+)
+next-made queue q n (r ∷ rs) t (suc (suc c)) l m b (a, (d, f)) =
+    let w = getD (recordStores q (after q t) rs) c none in
+    let same = slot-stays queue q (after q t) rs w (record-store q rs (after q t) c (omega arith)) t (λ i k. forward-apart q t i l (omega arith)) in
+    (ap (λ (s : Record). s .event) same ∙ a, (ap (λ (s : Record). s .datum) same ∙ d, next-made queue q n rs (after q t) c (after-le q t l) (omega arith) (omega arith) f))

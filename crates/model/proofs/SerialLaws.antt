@@ -13,10 +13,10 @@ use borrow.Author.Tests.{eqb-true}
 use lib.Dec.{ltb, eqb}
 use lib.ListN.{length, length-append, set, replicate}
 use Rattle.model.proofs.TestLaws.{below-or, and-left, and-right, impossible}
-use Rattle.model.specs.Calls.{Call, Boot, Step, Cut, Post, Line, countBy, isAccept}
+use Rattle.model.specs.Calls.{Call, Boot, Step, Cut, Post, Line, countBy, isAccept, acceptedEvents}
 use Rattle.model.specs.Demand3.{isCompletion, RunsTask, RunsEvent, Runs, SerialDetermined, committedTask, committedTasks, namedAtEnd, namedBy, fromState, namedTasks, TasksFollow}
 use Rattle.model.specs.Program.{word, memoryWords, instructions, number, effectAt}
-use Rattle.model.specs.Serial.{Serial, Walked, went, served, lost, advance, walk, walkBody, afterTask, afterEvent, serveOldest, runBody, afterDone, withRecord, accept, tell, andThen, serialFrom, serial, serialStart}
+use Rattle.model.specs.Serial.{Serial, Formatting, Walked, went, served, lost, advance, walk, walkBody, afterTask, afterEvent, serveOldest, runBody, afterDone, withRecords, accept, tell, andThen, serialFrom, serial, serialStart}
 use Rattle.model.specs.Store.{Record}
 use Rattle.model.specs.Test.{pick, _and_}
 use Rattle.model.specs.Types.{Answer, Body, Effect}
@@ -105,23 +105,24 @@ body-balance fuel p z y (Body.Event e) f = by-oldest (z .records) f
         (event-records z y rest (walkBody fuel p (Body.Event e) (x .datum) (z .memory))
         (chosen (eqb (x .event) e and eqb (z .openNumber) 0) _ y g .1)))
 
-accept-balance : (z y : Serial) (x : Option Record) → accept z x ≡ some y → suc (length (z .records)) ≡ length (y .records)
-unfolding accept withRecord
-accept-balance z y none e = not-some e
-accept-balance z y (some x) e =
-    let q : length (z .records ++ x ∷ []) ≡ length (y .records) = ap (λ (x : Serial). length (x .records)) (some-same e) in
-    omega (arith, length-append (z .records) (x ∷ []))
+accept-balance : (z y : Serial) (n : ℕ) → accept z n ≡ some y → length (z .records) + n ≡ length (y .records)
+unfolding accept withRecords
+accept-balance z y n e =
+    let h = chosen _ _ y e in
+    let as-many : length (z .posted) ≡ n = eqb-true _ _ (h .0) in
+    let q : length (z .records ++ z .posted) ≡ length (y .records) = ap (λ (x : Serial). length (x .records)) (some-same (h .1)) in
+    omega (arith, length-append (z .records) (z .posted))
 
-tell-balance : (fuel : ℕ) (p : List ℕ) (z y : Serial) (c : Call) (a : Answer) → tell fuel p z c a ≡ some y
+tell-balance : (fuel : ℕ) (g : Formatting) (z y : Serial) (c : Call) (a : Answer) → tell fuel g z c a ≡ some y
     → added (isAccept a) (length (z .records)) ≡ added (isCompletion a) (length (y .records))
-unfolding tell added isAccept isCompletion pick
-tell-balance fuel p z y c Answer.Done e = ap length (sym (done-records z c) ∙ ap (λ (x : Serial). x .records) (some-same e))
-tell-balance fuel p z y c (Answer.Chosen b) e = ap (λ (x : Serial). length (x .records)) (some-same e)
-tell-balance fuel p z y c Answer.Worked e = ap (λ (x : Serial). length (x .records)) (some-same e)
-tell-balance fuel p z y c Answer.Stored e = ap (λ (x : Serial). length (x .records)) (some-same e)
-tell-balance fuel p z y c (Answer.Committed b) e = body-balance fuel p z y b e
-tell-balance fuel p z y c Answer.Accepted e = accept-balance z y (z .posted) e
-tell-balance fuel p z y c (Answer.Refused r) e = ap (λ (x : Serial). length (x .records)) (some-same e)
+unfolding tell added isAccept isCompletion pick acceptedEvents
+tell-balance fuel g z y c Answer.Done e = ap length (sym (done-records z c) ∙ ap (λ (x : Serial). x .records) (some-same e))
+tell-balance fuel g z y c (Answer.Chosen b) e = ap (λ (x : Serial). length (x .records)) (some-same e)
+tell-balance fuel g z y c Answer.Worked e = ap (λ (x : Serial). length (x .records)) (some-same e)
+tell-balance fuel g z y c Answer.Stored e = ap (λ (x : Serial). length (x .records)) (some-same e)
+tell-balance fuel g z y c (Answer.Committed b) e = body-balance fuel (g .program) z y b e
+tell-balance fuel g z y c Answer.Accepted e = let h = accept-balance z y 1 e in omega arith
+tell-balance fuel g z y c (Answer.Refused r) e = ap (λ (x : Serial). length (x .records)) (some-same e)
 
 then-none : (f : Serial → Option Serial) → andThen none f ≡ none
 unfolding andThen
@@ -132,15 +133,15 @@ unfolding andThen
 then-some w f = refl
 
 -- a serial run over a line and more
-line-some : (fuel : ℕ) (p : List ℕ) (z y : Serial) (x : Line) (xs : List Line) → serialFrom fuel p z (x ∷ xs) ≡ some y
-    → (w : Serial) × (tell fuel p z (x .called) (x .answered) ≡ some w) × (serialFrom fuel p w xs ≡ some y)
+line-some : (fuel : ℕ) (g : Formatting) (z y : Serial) (x : Line) (xs : List Line) → serialFrom fuel g z (x ∷ xs) ≡ some y
+    → (w : Serial) × (tell fuel g z (x .called) (x .answered) ≡ some w) × (serialFrom fuel g w xs ≡ some y)
 unfolding serialFrom
-line-some fuel p z y x xs e = go (tell fuel p z (x .called) (x .answered)) refl e
+line-some fuel g z y x xs e = go (tell fuel g z (x .called) (x .answered)) refl e
   where
-    go : (o : Option Serial) → tell fuel p z (x .called) (x .answered) ≡ o → andThen o (λ w. serialFrom fuel p w xs) ≡ some y
-        → (w : Serial) × (tell fuel p z (x .called) (x .answered) ≡ some w) × (serialFrom fuel p w xs ≡ some y)
-    go none q f = not-some (sym (then-none (λ w. serialFrom fuel p w xs)) ∙ f)
-    go (some w) q f = (w, q, sym (then-some w (λ u. serialFrom fuel p u xs)) ∙ f)
+    go : (o : Option Serial) → tell fuel g z (x .called) (x .answered) ≡ o → andThen o (λ w. serialFrom fuel g w xs) ≡ some y
+        → (w : Serial) × (tell fuel g z (x .called) (x .answered) ≡ some w) × (serialFrom fuel g w xs ≡ some y)
+    go none q f = not-some (sym (then-none (λ w. serialFrom fuel g w xs)) ∙ f)
+    go (some w) q f = (w, q, sym (then-some w (λ u. serialFrom fuel g u xs)) ∙ f)
 
 join : (a c : Bool) (m n s t u : ℕ) → added a s ≡ added c t → m + t ≡ n + u → pick a (suc m) m + s ≡ pick c (suc n) n + u
 unfolding added pick
@@ -149,14 +150,14 @@ join true false m n s t u e f = omega arith
 join false true m n s t u e f = omega arith
 join false false m n s t u e f = omega arith
 
-pub serial-balance : (fuel : ℕ) (p : List ℕ) (z y : Serial) (xs : List Line) → serialFrom fuel p z xs ≡ some y
+pub serial-balance : (fuel : ℕ) (g : Formatting) (z y : Serial) (xs : List Line) → serialFrom fuel g z xs ≡ some y
     → countBy isAccept xs + length (z .records) ≡ countBy isCompletion xs + length (y .records)
 unfolding serialFrom countBy
-serial-balance fuel p z y [] e = ap (λ (x : Serial). 0 + length (x .records)) (some-same e)
-serial-balance fuel p z y (x ∷ xs) e =
-    let (w, q, f) = line-some fuel p z y x xs e in
+serial-balance fuel g z y [] e = ap (λ (x : Serial). 0 + length (x .records)) (some-same e)
+serial-balance fuel g z y (x ∷ xs) e =
+    let (w, q, f) = line-some fuel g z y x xs e in
     join (isAccept (x .answered)) (isCompletion (x .answered)) (countBy isAccept xs) (countBy isCompletion xs) (length (z .records))
-    (length (w .records)) (length (y .records)) (tell-balance fuel p z w (x .called) (x .answered) q) (serial-balance fuel p w y xs f)
+    (length (w .records)) (length (y .records)) (tell-balance fuel g z w (x .called) (x .answered) q) (serial-balance fuel g w y xs f)
 
 -- ---- each task is the one that the task before it named
 
@@ -167,10 +168,9 @@ done-task z Step = refl
 done-task z Cut = refl
 done-task z (Post e x) = refl
 
-accept-task : (z y : Serial) (x : Option Record) → accept z x ≡ some y → y .task ≡ z .task
-unfolding accept withRecord
-accept-task z y none e = not-some e
-accept-task z y (some x) e = ap (λ (u : Serial). u .task) (sym (some-same e))
+accept-task : (z y : Serial) (n : ℕ) → accept z n ≡ some y → y .task ≡ z .task
+unfolding accept withRecords
+accept-task z y n e = ap (λ (u : Serial). u .task) (sym (some-same (chosen _ _ y e .1)))
 
 event-task : (z y : Serial) (rest : List Record) (w : Walked) → afterEvent z rest w ≡ some y → y .task ≡ z .task
 unfolding afterEvent
@@ -191,36 +191,36 @@ ended-task p z y (went k m) e = ap (λ (u : Serial). u .task ∷ []) (some-same 
 ended-task p z y (served m) e = not-some e
 ended-task p z y lost e = not-some e
 
-line-tasks : (fuel : ℕ) (p : List ℕ) (z y : Serial) (c : Call) (a : Answer) → tell fuel p z c a ≡ some y → (ts : List ℕ)
-    → committedTask a ++ (y .task ∷ ts) ≡ z .task ∷ (namedBy fuel p (z .memory) (committedTask a) ++ ts)
-unfolding tell committedTask namedBy runBody
-line-tasks fuel p z y c Answer.Done e ts = ap (λ (t : ℕ). t ∷ ts) (ap (λ (u : Serial). u .task) (sym (some-same e)) ∙ done-task z c)
-line-tasks fuel p z y c (Answer.Chosen b) e ts = ap (λ (u : Serial). u .task ∷ ts) (sym (some-same e))
-line-tasks fuel p z y c Answer.Worked e ts = ap (λ (u : Serial). u .task ∷ ts) (sym (some-same e))
-line-tasks fuel p z y c Answer.Stored e ts = ap (λ (u : Serial). u .task ∷ ts) (sym (some-same e))
-line-tasks fuel p z y c (Answer.Committed (Body.Task t)) e ts =
-    let w = walkBody fuel p (Body.Task t) 0 (z .memory) in
-    let h = chosen (eqb t (z .task)) (afterTask p z w) y e in
+line-tasks : (fuel : ℕ) (g : Formatting) (z y : Serial) (c : Call) (a : Answer) → tell fuel g z c a ≡ some y → (ts : List ℕ)
+    → committedTask a ++ (y .task ∷ ts) ≡ z .task ∷ (namedBy fuel (g .program) (z .memory) (committedTask a) ++ ts)
+unfolding tell committedTask namedBy runBody acceptedEvents
+line-tasks fuel g z y c Answer.Done e ts = ap (λ (t : ℕ). t ∷ ts) (ap (λ (u : Serial). u .task) (sym (some-same e)) ∙ done-task z c)
+line-tasks fuel g z y c (Answer.Chosen b) e ts = ap (λ (u : Serial). u .task ∷ ts) (sym (some-same e))
+line-tasks fuel g z y c Answer.Worked e ts = ap (λ (u : Serial). u .task ∷ ts) (sym (some-same e))
+line-tasks fuel g z y c Answer.Stored e ts = ap (λ (u : Serial). u .task ∷ ts) (sym (some-same e))
+line-tasks fuel g z y c (Answer.Committed (Body.Task t)) e ts =
+    let w = walkBody fuel (g .program) (Body.Task t) 0 (z .memory) in
+    let h = chosen (eqb t (z .task)) (afterTask (g .program) z w) y e in
     let current : t ≡ z .task = eqb-true _ _ (h .0) in
-    rw (ended-task p z y w (h .1), current)
-line-tasks fuel p z y c (Answer.Committed (Body.Event n)) e ts = ap (λ (t : ℕ). t ∷ ts) (oldest-task fuel p z y n (z .records) e)
-line-tasks fuel p z y c Answer.Accepted e ts = ap (λ (t : ℕ). t ∷ ts) (accept-task z y (z .posted) e)
-line-tasks fuel p z y c (Answer.Refused r) e ts = ap (λ (u : Serial). u .task ∷ ts) (sym (some-same e))
+    rw (ended-task (g .program) z y w (h .1), current)
+line-tasks fuel g z y c (Answer.Committed (Body.Event n)) e ts = ap (λ (t : ℕ). t ∷ ts) (oldest-task fuel (g .program) z y n (z .records) e)
+line-tasks fuel g z y c Answer.Accepted e ts = ap (λ (t : ℕ). t ∷ ts) (accept-task z y 1 e)
+line-tasks fuel g z y c (Answer.Refused r) e ts = ap (λ (u : Serial). u .task ∷ ts) (sym (some-same e))
 
-follow-from : (fuel : ℕ) (p : List ℕ) (xs : List Line) (z y : Serial) → serialFrom fuel p z xs ≡ some y
-    → committedTasks xs ++ (y .task ∷ []) ≡ z .task ∷ namedTasks fuel p z xs
+follow-from : (fuel : ℕ) (g : Formatting) (xs : List Line) (z y : Serial) → serialFrom fuel g z xs ≡ some y
+    → committedTasks xs ++ (y .task ∷ []) ≡ z .task ∷ namedTasks fuel g z xs
 unfolding serialFrom committedTasks namedTasks fromState
-follow-from fuel p [] z y e = ap (λ (u : Serial). u .task ∷ []) (sym (some-same e))
-follow-from fuel p (x ∷ xs) z y e =
-    let (w, q, f) = line-some fuel p z y x xs e in
+follow-from fuel g [] z y e = ap (λ (u : Serial). u .task ∷ []) (sym (some-same e))
+follow-from fuel g (x ∷ xs) z y e =
+    let (w, q, f) = line-some fuel g z y x xs e in
     rw q
     (append-assoc (committedTask (x .answered)) (committedTasks xs) (y .task ∷ [])
-    ∙ ap (λ (ts : List ℕ). committedTask (x .answered) ++ ts) (follow-from fuel p xs w y f)
-    ∙ line-tasks fuel p z w (x .called) (x .answered) q (namedTasks fuel p w xs))
+    ∙ ap (λ (ts : List ℕ). committedTask (x .answered) ++ ts) (follow-from fuel g xs w y f)
+    ∙ line-tasks fuel g z w (x .called) (x .answered) q (namedTasks fuel g w xs))
 
 pub tasks-follow : TasksFollow
 unfolding serial serialStart
-tasks-follow fuel p xs z e = follow-from fuel p xs (serialStart p) z e
+tasks-follow fuel g xs z e = follow-from fuel g xs (serialStart g) z e
 
 -- ---- fuel: with more of it a body's run is the same, unless it was lost
 
@@ -244,17 +244,17 @@ advance-more p j r m go on h (Effect.EndTask k) = inr refl
 advance-more p j r m go on h Effect.EndEvent = inr refl
 advance-more p j r m go on h Effect.Unknown = inl refl
 
-walk-more : (f g : ℕ) → f ≤ g → (p : List ℕ) (i j : ℕ) (r m : List ℕ) → More (walk f p i j r m) (walk g p i j r m)
+walk-more : (f f′ : ℕ) → f ≤ f′ → (p : List ℕ) (i j : ℕ) (r m : List ℕ) → More (walk f p i j r m) (walk f′ p i j r m)
 unfolding walk
-walk-more zero g l p i j r m = inl refl
+walk-more zero f′ l p i j r m = inl refl
 walk-more (suc f) zero l p i j r m = absurd (not-suc-le-zero l)
-walk-more (suc f) (suc g) l p i j r m =
+walk-more (suc f) (suc f′) l p i j r m =
     pick-either (ltb j (instructions p i))
-    (advance-more p j r m (λ k s n. walk f p i k s n) (λ k s n. walk g p i k s n) (λ k s n. walk-more f g (le-of-suc-le-suc l) p i k s n) (effectAt p i j r))
+    (advance-more p j r m (λ k s n. walk f p i k s n) (λ k s n. walk f′ p i k s n) (λ k s n. walk-more f f′ (le-of-suc-le-suc l) p i k s n) (effectAt p i j r))
 
-end-more : (f g : ℕ) → f ≤ g → (p : List ℕ) (b : Body) (x : ℕ) (m : List ℕ) → More (walkBody f p b x m) (walkBody g p b x m)
+end-more : (f f′ : ℕ) → f ≤ f′ → (p : List ℕ) (b : Body) (x : ℕ) (m : List ℕ) → More (walkBody f p b x m) (walkBody f′ p b x m)
 unfolding walkBody
-end-more f g l p b x m = walk-more f g l p (number p b) 0 (x ∷ replicate 7 0) m
+end-more f f′ l p b x m = walk-more f f′ l p (number p b) 0 (x ∷ replicate 7 0) m
 
 task-more : (p : List ℕ) (z y : Serial) (u w : Walked) → More u w → afterTask p z u ≡ some y → afterTask p z w ≡ some y
 unfolding afterTask
@@ -271,42 +271,42 @@ unfolding pick
 pick-more true u w y h e = h e
 pick-more false u w y h e = e
 
-oldest-more : (f g : ℕ) → f ≤ g → (p : List ℕ) (z y : Serial) (e : ℕ) (rs : List Record) → serveOldest f p z e rs ≡ some y → serveOldest g p z e rs ≡ some y
+oldest-more : (f f′ : ℕ) → f ≤ f′ → (p : List ℕ) (z y : Serial) (e : ℕ) (rs : List Record) → serveOldest f p z e rs ≡ some y → serveOldest f′ p z e rs ≡ some y
 unfolding serveOldest
-oldest-more f g l p z y e [] h = h
-oldest-more f g l p z y e (x ∷ rest) h =
+oldest-more f f′ l p z y e [] h = h
+oldest-more f f′ l p z y e (x ∷ rest) h =
     pick-more (eqb (x .event) e and eqb (z .openNumber) 0) (afterEvent z rest (walkBody f p (Body.Event e) (x .datum) (z .memory)))
-    (afterEvent z rest (walkBody g p (Body.Event e) (x .datum) (z .memory))) y
-    (event-more z y rest _ _ (end-more f g l p (Body.Event e) (x .datum) (z .memory))) h
+    (afterEvent z rest (walkBody f′ p (Body.Event e) (x .datum) (z .memory))) y
+    (event-more z y rest _ _ (end-more f f′ l p (Body.Event e) (x .datum) (z .memory))) h
 
-body-more : (f g : ℕ) → f ≤ g → (p : List ℕ) (z y : Serial) (b : Body) → runBody f p z b ≡ some y → runBody g p z b ≡ some y
+body-more : (f f′ : ℕ) → f ≤ f′ → (p : List ℕ) (z y : Serial) (b : Body) → runBody f p z b ≡ some y → runBody f′ p z b ≡ some y
 unfolding runBody
-body-more f g l p z y (Body.Task t) h =
-    pick-more (eqb t (z .task)) (afterTask p z (walkBody f p (Body.Task t) 0 (z .memory))) (afterTask p z (walkBody g p (Body.Task t) 0 (z .memory))) y
-    (task-more p z y _ _ (end-more f g l p (Body.Task t) 0 (z .memory))) h
-body-more f g l p z y (Body.Event e) h = oldest-more f g l p z y e (z .records) h
+body-more f f′ l p z y (Body.Task t) h =
+    pick-more (eqb t (z .task)) (afterTask p z (walkBody f p (Body.Task t) 0 (z .memory))) (afterTask p z (walkBody f′ p (Body.Task t) 0 (z .memory))) y
+    (task-more p z y _ _ (end-more f f′ l p (Body.Task t) 0 (z .memory))) h
+body-more f f′ l p z y (Body.Event e) h = oldest-more f f′ l p z y e (z .records) h
 
-tell-more : (f g : ℕ) → f ≤ g → (p : List ℕ) (z y : Serial) (c : Call) (a : Answer) → tell f p z c a ≡ some y → tell g p z c a ≡ some y
+tell-more : (f f′ : ℕ) → f ≤ f′ → (g : Formatting) (z y : Serial) (c : Call) (a : Answer) → tell f g z c a ≡ some y → tell f′ g z c a ≡ some y
 unfolding tell
-tell-more f g l p z y c Answer.Done h = h
-tell-more f g l p z y c (Answer.Chosen b) h = h
-tell-more f g l p z y c Answer.Worked h = h
-tell-more f g l p z y c Answer.Stored h = h
-tell-more f g l p z y c (Answer.Committed b) h = body-more f g l p z y b h
-tell-more f g l p z y c Answer.Accepted h = h
-tell-more f g l p z y c (Answer.Refused r) h = h
+tell-more f f′ l g z y c Answer.Done h = h
+tell-more f f′ l g z y c (Answer.Chosen b) h = h
+tell-more f f′ l g z y c Answer.Worked h = h
+tell-more f f′ l g z y c Answer.Stored h = h
+tell-more f f′ l g z y c (Answer.Committed b) h = body-more f f′ l (g .program) z y b h
+tell-more f f′ l g z y c Answer.Accepted h = h
+tell-more f f′ l g z y c (Answer.Refused r) h = h
 
-serial-more : (f g : ℕ) → f ≤ g → (p : List ℕ) (z y : Serial) (xs : List Line) → serialFrom f p z xs ≡ some y → serialFrom g p z xs ≡ some y
+serial-more : (f f′ : ℕ) → f ≤ f′ → (g : Formatting) (z y : Serial) (xs : List Line) → serialFrom f g z xs ≡ some y → serialFrom f′ g z xs ≡ some y
 unfolding serialFrom
-serial-more f g l p z y [] e = e
-serial-more f g l p z y (x ∷ xs) e =
-    let (w, q, h) = line-some f p z y x xs e in
-    ap (λ (o : Option Serial). andThen o (λ u. serialFrom g p u xs)) (tell-more f g l p z w (x .called) (x .answered) q)
-    ∙ then-some w (λ u. serialFrom g p u xs)
-    ∙ serial-more f g l p w y xs h
+serial-more f f′ l g z y [] e = e
+serial-more f f′ l g z y (x ∷ xs) e =
+    let (w, q, h) = line-some f g z y x xs e in
+    ap (λ (o : Option Serial). andThen o (λ u. serialFrom f′ g u xs)) (tell-more f f′ l g z w (x .called) (x .answered) q)
+    ∙ then-some w (λ u. serialFrom f′ g u xs)
+    ∙ serial-more f f′ l g w y xs h
 
 pub serial-determined : SerialDetermined
 unfolding serial
-serial-determined f g p y w xs e h =
-    below-or f g (λ l. some-same (sym (serial-more f g (omega arith) p (serialStart p) y xs e) ∙ h))
-    (λ l. some-same (sym e ∙ serial-more g f l p (serialStart p) w xs h))
+serial-determined f f′ g y w xs e h =
+    below-or f f′ (λ l. some-same (sym (serial-more f f′ (omega arith) g (serialStart g) y xs e) ∙ h))
+    (λ l. some-same (sym e ∙ serial-more f′ f l g (serialStart g) w xs h))

@@ -5,9 +5,10 @@ use mathlib.Core.List.{List}
 use mathlib.Core.Path.{_≡_, refl, sym, subst}
 use native.Mathlib.Omega.{arith}
 use lib.ListN.{length}
-use Rattle.model.proofs.DeviceLaws.{Made, handler-event, handler-data, handler-tail, commit-copy, commit-task, commit-open, commit-head, commit-phase, chosen-event, chosen-task, computed, jumped, loaded, overwritten, half-saved, saved, go-count, go-pending, go-open, go-phase, done-count, done-pending, done-phase, Outcome, refused, made, outcome}
+use Rattle.model.proofs.DeviceLaws.{Made, record-made, tail-made, handler, commit-copy, commit-task, commit-open, commit-head, commit-phase, chosen-event, chosen-task, computed, jumped, loaded, overwritten, half-saved, saved, go-count, go-pending, go-open, go-phase, done-count, done-pending, done-phase, Outcome, refused, made, outcome}
 use Rattle.model.proofs.Early.{Early}
 use Rattle.model.proofs.LogLaws.{find-pair}
+use Rattle.model.proofs.RingLaws.{event-store, datum-store, slot-in}
 use Rattle.model.proofs.StoreLaws.{Sized, Inside}
 use Rattle.model.specs.Calls.{isStore}
 use Rattle.model.specs.Claims.{tellsStore, StoreIsTold}
@@ -50,9 +51,9 @@ module _ (p s : List ℕ) (d : Device) (early : Early p s d) where
 
   made-fine : (o : Out) → Made p (view s) d o → Fine p s o
   unfolding isStore tellsStore
-  made-fine o (handler-event q a) = (refl, falls (Event (view s .tail)) (early .control .tail-in))
-  made-fine o (handler-data q a) = (refl, falls (Datum (view s .tail)) (early .control .tail-in))
-  made-fine o (handler-tail q a) = (refl, falls Tail tt)
+  made-fine o (handler q (record-made a (event-store n r l m))) = (refl, falls (Event _) (slot-in (view s .head) n (early .control .tail-in) (a .room) l))
+  made-fine o (handler q (record-made a (datum-store n r l m))) = (refl, falls (Datum _) (slot-in (view s .head) n (early .control .tail-in) (a .room) l))
+  made-fine o (handler q (tail-made a)) = (refl, falls Tail tt)
   made-fine o (commit-copy {c} h l m) = (refl, falls (Memory _) m)
   made-fine o (commit-task h one e) = (refl, falls Task tt)
   made-fine o (commit-open h one e) = (refl, falls Open tt)

@@ -13,18 +13,18 @@ use lib.IntN.{ℤ}
 use lib.ListN.{length, getD, take, drop, set, replicate, length-set}
 use lib.Seq.{getD-drop}
 use lib.Signed.{shrZ}
-use Rattle.model.proofs.DeviceLaws.{judged-case, atPlace, most-last, Commits, Acts, RunsAt, Made, handler-event, handler-data, handler-tail, commit-copy, commit-task, commit-open, commit-head, commit-phase, chosen-event, chosen-task, computed, jumped, loaded, overwritten, half-saved, saved, go-count, go-pending, go-open, go-phase, done-count, done-pending, done-phase, Outcome, refused, made, outcome}
+use Rattle.model.proofs.DeviceLaws.{judged-case, atPlace, most-last, Commits, Acts, RunsAt, HandlerMade, record-made, tail-made, Made, handler, commit-copy, commit-task, commit-open, commit-head, commit-phase, chosen-event, chosen-task, computed, jumped, loaded, overwritten, half-saved, saved, go-count, go-pending, go-open, go-phase, done-count, done-pending, done-phase, Outcome, refused, made, outcome}
 use Rattle.model.proofs.Early.{Early, body-passed}
 use Rattle.model.proofs.Fresh.{format-passed}
 use Rattle.model.proofs.ProgramLaws.{Sound}
-use Rattle.model.proofs.RingLaws.{after-le}
+use Rattle.model.proofs.RingLaws.{after-le, forward-le, Member, here, there, RecordStore, event-store, datum-store, carried-one, record-stores}
 use Rattle.model.proofs.TestLaws.{pick-case, and-left, and-right}
 use Rattle.model.specs.Calls.{Call, Boot, Step, Cut, Post, call}
 use Rattle.model.specs.Claims.{Words, BodyWords, PlaceWords, HandlerWords, DeviceWords, CallWords, WordsStayWords, FormatStaysWords}
-use Rattle.model.specs.Device.{Out, judged, fresh, moved, handled, boot, cut, post, begun, shown, step}
+use Rattle.model.specs.Device.{Out, judged, fresh, moved, withHandler, boot, cut, post, begun, shown, step}
 use Rattle.model.specs.Program.{word, memoryWords, transaction, number, operand, instructionTable, decode, signed, unsigned, shifted, reg, effect, effectAt, newOpen}
-use Rattle.model.specs.Store.{Store, view, after, memoryAt, logAt, queueAt, index, Write, none, to, settled, storeMark, storeContents, storeLength, sizesRule, formatted, formatCheck, formatStore, format}
-use Rattle.model.specs.Types.{Body, Checked, Device, Effect, Found, Free, Handler, Instruction, Next, Place, Resting, Run, Storing}
+use Rattle.model.specs.Store.{Store, view, Record, carried, after, memoryAt, logAt, queueAt, index, Write, none, to, settled, storeMark, storeContents, storeLength, sizesRule, formatted, formatCheck, formatStore, format}
+use Rattle.model.specs.Types.{Body, Checked, Device, Effect, Found, Free, Handler, Instruction, Place, Resting, Run, Storing}
 
 -- ---- lists of words
 
@@ -133,9 +133,22 @@ effectAt-words p i j r ps rs l = effect-words r j rs l _ (decode-words _ _ _ (op
 
 -- ---- outcomes
 
+abbrev RecordsWords : List Record → Type 0
+RecordsWords [] = Unit {0}
+RecordsWords (r ∷ rs) = ((r .event < 2 ^ 16) × (r .datum < 2 ^ 16)) × RecordsWords rs
+
 abbrev pub WriteWords : Write → Type 0
 WriteWords none = Unit {0}
 WriteWords (to w x) = x < 2 ^ 16
+
+-- the records that a post carries
+members-words : (rs : List Record) → RecordsWords rs → (r : Record) → Member r rs → (r .event < 2 ^ 16) × (r .datum < 2 ^ 16)
+members-words rs (a, k) r here = a
+members-words rs (a, k) r (there m) = members-words _ k r m
+
+carried-words : (e x : ℕ) → e < 2 ^ 16 → x < 2 ^ 16 → (r : Record) → Member r (carried e x) → (r .event < 2 ^ 16) × (r .datum < 2 ^ 16)
+unfolding carried
+carried-words e x es xs = members-words (carried e x) ((es, xs), tt)
 
 pub record OutWords (o : Out) : Type 0 where
   pub write : WriteWords (o .write)
@@ -177,8 +190,8 @@ module _ (p s : List ℕ) (d : Device) (ps : Words p) (ss : Words s) (ds : Devic
   went-words : (x : Place) → PlaceWords x → DeviceWords (moved d (d .regs) x (d .count))
   went-words x xs = moved-words (d .regs) x (d .count) (ds .regs-length) (ds .regs) xs (ds .count)
 
-  handled-words : (h : Handler) → HandlerWords h → DeviceWords (handled d h)
-  unfolding handled
+  handled-words : (h : Handler) → HandlerWords h → DeviceWords (withHandler d h)
+  unfolding withHandler
   handled-words h hs = record { regs-length = ds .regs-length; regs = ds .regs; place = ds .place; count = ds .count; handler = hs }
 
   -- ---- the calls that make no store
@@ -196,7 +209,7 @@ module _ (p s : List ℕ) (d : Device) (ps : Words p) (ss : Words s) (ds : Devic
 
   post-words : (e x : ℕ) → e < 2 ^ 16 → x < 2 ^ 16 → OutWords (post p s d e x)
   unfolding post
-  post-words e x es xs = judged-words _ _ (record { write = tt; device = handled-words (Storing Next.Event e x) (es, xs) })
+  post-words e x es xs = judged-words _ _ (record { write = tt; device = handled-words (Storing 0 e x) (omega arith, es, xs) })
 
   -- ---- a step
 
@@ -237,10 +250,23 @@ module _ (p s : List ℕ) (d : Device) (ps : Words p) (ss : Words s) (ds : Devic
     onward-words {c} h =
         went-words (Free (c + 1)) (omega (arith, h .left, most-last v, early .control .count-in (h .phase), early .shaped .most-pairs))
 
+    handler-words : {c e x : ℕ} → HandlerWords (Storing c e x) → (o : Out) → HandlerMade p v d c e x o → OutWords o
+    handler-words {c = c} {e = e} {x = x} h o (record-made a s) = record { write = store-words _ s; device = handled-words _ (next, h .1, h .2) }
+      where
+        next : c + 1 < 2 ^ 16
+        next = omega (arith, a .inside, record-stores (v .records) (carried e x) (v .tail), carried-one e x)
+
+        store-words : (w : Write) → RecordStore (v .records) (v .tail) (carried e x) w → WriteWords w
+        store-words w (event-store n r l m) = carried-words e x (h .1) (h .2) r m .0
+        store-words w (datum-store n r l m) = carried-words e x (h .1) (h .2) r m .1
+    handler-words {c = c} {e = e} {x = x} h o (tail-made a) =
+        record {
+          write = omega (arith, forward-le (v .records) (v .tail) (length (carried e x)) (early .control .tail-in) (omega (arith, a .room)), ss 3);
+          device = handled-words Resting tt;
+        }
+
     made-words : (o : Out) → Made p v d o → OutWords o
-    made-words o (handler-event q a) = let h = subst HandlerWords q (ds .handler) in record { write = h .0; device = handled-words _ h }
-    made-words o (handler-data q a) = let h = subst HandlerWords q (ds .handler) in record { write = h .1; device = handled-words _ h }
-    made-words o (handler-tail q a) = record { write = after-words (v .tail) (early .control .tail-in); device = handled-words Resting tt }
+    made-words o (handler {c = c} {e = e} {x = x} q m) = handler-words (subst HandlerWords q (ds .handler)) o m
     made-words o (commit-copy h l m) = record { write = log-words _; device = onward-words h }
     made-words o (commit-task h one e) = record { write = ss 12; device = onward-words h }
     made-words o (commit-open h one e) = record { write = ss 13; device = onward-words h }

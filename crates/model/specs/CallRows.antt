@@ -11,10 +11,10 @@ use Rattle.model.specs.Control.{rules, blames}
 use Rattle.model.specs.Demand3.{isIn, mayMeet, recoverySteps, isCompletion}
 use Rattle.model.specs.Device.{Out, out, refuse, boot, cut, post, step}
 use Rattle.model.specs.Program.{newOpen}
-use Rattle.model.specs.Serial.{Serial, serial}
+use Rattle.model.specs.Serial.{Serial, given, serial}
 use Rattle.model.specs.Starred.{counting}
 use Rattle.model.specs.Store.{Record, view, waiting, Word, Phase, Task, Open, Count, Pending, PendingOpen, Head, Tail, Memory, Address, Value, Event, Datum, none, to, index, settled, formatted}
-use Rattle.model.specs.Types.{Answer, Body, Device, Ended, Free, Half, Next, Refusal, Resting, Run, Storing, Totals}
+use Rattle.model.specs.Types.{Answer, Body, Device, Ended, Free, Half, Refusal, Resting, Run, Storing, Totals}
 use Rattle.model.specs.ProgramRows.{stores}
 use Rattle.model.specs.Sample.{Row, _⇒_, at, cleared, closed, controls, device, eventCommit, offValue, onValue, opened, registers, sample, task1, taskCommit, twoPairs, withInstruction}
 use Rattle.model.specs.StateRows.{wrongOpen}
@@ -22,8 +22,8 @@ use Rattle.model.specs.StateRows.{wrongOpen}
 -- ---- What a step does: its one store, the device after it, its answer
 
 -- a handler at work for event 1 with data 66, and a body at an instruction
-abbrev handling : Next → Device
-handling n = device true registers (task1 2) 1 (Storing n 1 66)
+abbrev handling : ℕ → Device
+handling c = device true registers (task1 2) 1 (Storing c 1 66)
 
 -- a body begun, register 0 with the data of an event
 abbrev begins : Body → ℕ → Out
@@ -36,10 +36,10 @@ endsWith w x a = out (to w x) onValue a
 unfoldable pub outcomes : List (Row Out)
 outcomes =
     -- "event, data, then tail. The tail store accepts the event": the slot after 3 is 0; a handler precedes a commit
-    step sample (controls 0 1 8 0 0 0 1 3) (handling Next.Event) ⇒ out (to (Event 3) 1) (handling Next.Data) Answer.Stored
-    ∷ step sample (controls 0 1 8 0 0 0 1 3) (handling Next.Data) ⇒ out (to (Datum 3) 66) (handling Next.Tail) Answer.Stored
-    ∷ step sample (controls 0 1 8 0 0 0 1 3) (handling Next.Tail) ⇒ out (to Tail 0) (at (task1 2)) Answer.Accepted
-    ∷ step sample taskCommit (device true registers (Free 1) 1 (Storing Next.Tail 1 66)) ⇒ out (to Tail 2) (at (Free 1)) Answer.Accepted
+    step sample (controls 0 1 8 0 0 0 1 3) (handling 0) ⇒ out (to (Event 3) 1) (handling 1) Answer.Stored
+    ∷ step sample (controls 0 1 8 0 0 0 1 3) (handling 1) ⇒ out (to (Datum 3) 66) (handling 2) Answer.Stored
+    ∷ step sample (controls 0 1 8 0 0 0 1 3) (handling 2) ⇒ out (to Tail 0) (at (task1 2)) Answer.Accepted
+    ∷ step sample taskCommit (device true registers (Free 1) 1 (Storing 2 1 66)) ⇒ out (to Tail 2) (at (Free 1)) Answer.Accepted
     -- "then n copies, 9 from 12, 10 from 13, 8 becomes 0"
     ∷ step sample taskCommit (at (Free 0)) ⇒ stores (Memory 2) 777 (Free 1)
     ∷ step sample taskCommit (at (Free 1)) ⇒ stores (Memory 3) 888 (Free 2)
@@ -71,17 +71,17 @@ outcomes =
     ∷ step sample closed (at (Run (Body.Event 1) 1 1)) ⇒ stores Pending 0 (Run (Body.Event 1) 1 2)
     ∷ step sample closed (at (Run (Body.Event 1) 1 2)) ⇒ endsWith Phase 2 (Answer.Committed (Body.Event 1))
     -- "A post makes no store, sets the handler to work": "post then 8, 20, 21"
-    ∷ post sample opened (at (task1 2)) 1 66 ⇒ out none (handling Next.Event) Answer.Done
-    ∷ post sample taskCommit (at (Free 1)) 0 9 ⇒ out none (device true registers (Free 1) 1 (Storing Next.Event 0 9)) Answer.Done
+    ∷ post sample opened (at (task1 2)) 1 66 ⇒ out none (handling 0) Answer.Done
+    ∷ post sample taskCommit (at (Free 1)) 0 9 ⇒ out none (device true registers (Free 1) 1 (Storing 0 0 9)) Answer.Done
     ∷ post sample opened offValue 2 66 ⇒ refuse offValue Refusal.PowerOff
-    ∷ post sample opened (handling Next.Data) 2 66 ⇒ refuse (handling Next.Data) Refusal.NoEvent
-    ∷ post sample opened (handling Next.Data) 1 67 ⇒ refuse (handling Next.Data) Refusal.HandlerBusy
+    ∷ post sample opened (handling 1) 2 66 ⇒ refuse (handling 1) Refusal.NoEvent
+    ∷ post sample opened (handling 1) 1 67 ⇒ refuse (handling 1) Refusal.HandlerBusy
     ∷ post sample (controls 0 1 8 0 0 0 2 1) (at (task1 2)) 2 66 ⇒ refuse (at (task1 2)) Refusal.NoEvent
     ∷ post sample (controls 0 1 8 0 0 0 2 1) (at (task1 2)) 1 66 ⇒ refuse (at (task1 2)) Refusal.QueueFull
     ∷ post sample (controls 2 1 0 0 1 0 0 3) (at (Free 0)) 1 66 ⇒ refuse (at (Free 0)) Refusal.QueueFull
     -- "Boot makes no store and turns that value on"; "boot 1 to 7, 26"; "A cut refuses nothing"
     ∷ boot sample opened offValue ⇒ out none onValue Answer.Done
-    ∷ boot sample taskCommit (device false registers (task1 2) 1 (Storing Next.Tail 1 66)) ⇒ out none onValue Answer.Done
+    ∷ boot sample taskCommit (device false registers (task1 2) 1 (Storing 2 1 66)) ⇒ out none onValue Answer.Done
     ∷ boot sample opened onValue ⇒ refuse onValue Refusal.PowerOn
     ∷ boot sample wrongOpen onValue ⇒ refuse onValue (Refusal.Control 10)
     ∷ boot sample (controls 0 5 9 0 0 0 3 1) offValue ⇒ refuse offValue (Refusal.Control 9)
@@ -247,7 +247,7 @@ words control memory log ring = 0xC0A1 ∷ 6 ∷ 2 ∷ 3 ∷ 8 ∷ 16 ∷ 22 ∷
 
 -- event 0 is posted with data 50: a run accepts it in 3 steps, serves it in 9 with 8 stores, and ends task 1 in 13 with 10 stores
 abbrev runs : ℕ → Ran
-runs budget = run sample budget (formatted sample 2 3) (device true cleared (Free 0) 0 (Storing Next.Event 0 50)) (totals 0 0 0)
+runs budget = run sample budget (formatted sample 2 3) (device true cleared (Free 0) 0 (Storing 0 0 50)) (totals 0 0 0)
 
 abbrev eventAccepted : List ℕ
 eventAccepted = words (0 ∷ 1 ∷ 0 ∷ 0 ∷ 0 ∷ 0 ∷ 0 ∷ 1 ∷ []) (replicate 6 0) (replicate 4 0) (0 ∷ 50 ∷ replicate 6 0)
@@ -352,12 +352,15 @@ unfoldable pub shown : Option Serial → Shown
 shown Option.none = stopped
 shown (Option.some z) = reached (z .memory) (z .task) (z .openNumber) (z .records)
 
--- what the serial run makes of lines, and of a list of calls with the device's answers
+-- what the serial run makes of lines, with this much fuel, of another program, and of a list of calls with the device's answers
+abbrev serially : ℕ → List ℕ → List Line → Shown
+serially fuel p xs = shown (serial fuel (given p 2 3) xs)
+
 abbrev fromLines : List Line → Shown
-fromLines xs = shown (serial 4 sample xs)
+fromLines xs = serially 4 sample xs
 
 abbrev fromCalls : List Call → Shown
-fromCalls cs = shown (serial 99 sample (history sample (formatted sample 2 3) offValue cs))
+fromCalls cs = serially 99 sample (history sample (formatted sample 2 3) offValue cs)
 
 abbrev line : Call → Answer → List Line
 line c a = record { called = c; answered = a } ∷ []
@@ -404,20 +407,20 @@ serialRuns =
     ∷ fromLines (accepts 0 50 ++ commits (Body.Task 1) ++ commits (Body.Event 0)) ⇒ stopped
     -- "each body run .. ends, each address below M": three instructions of four; LOADX and SAVEX at word 6; JUMP 2 for ever, JUMP 4;
     -- DONE in a task, GO in an event
-    ∷ shown (serial 3 sample (commits (Body.Task 1))) ⇒ stopped
-    ∷ shown (serial 9 (set (withInstruction 0x0A31 0) 30 6) (commits (Body.Task 1))) ⇒ stopped
-    ∷ shown (serial 9 (set (withInstruction 0x0B31 0) 30 6) (commits (Body.Task 1))) ⇒ stopped
-    ∷ shown (serial 9 (withInstruction 0x0C00 2) (commits (Body.Task 1))) ⇒ stopped
-    ∷ shown (serial 9 (withInstruction 0x0C00 4) (commits (Body.Task 1))) ⇒ stopped
-    ∷ shown (serial 9 (set sample 35 0x1000) (commits (Body.Task 1))) ⇒ stopped
-    ∷ shown (serial 9 (set sample 45 0x0F00) (accepts 0 50 ++ commits (Body.Event 0))) ⇒ stopped
+    ∷ serially 3 sample (commits (Body.Task 1)) ⇒ stopped
+    ∷ serially 9 (set (withInstruction 0x0A31 0) 30 6) (commits (Body.Task 1)) ⇒ stopped
+    ∷ serially 9 (set (withInstruction 0x0B31 0) 30 6) (commits (Body.Task 1)) ⇒ stopped
+    ∷ serially 9 (withInstruction 0x0C00 2) (commits (Body.Task 1)) ⇒ stopped
+    ∷ serially 9 (withInstruction 0x0C00 4) (commits (Body.Task 1)) ⇒ stopped
+    ∷ serially 9 (set sample 35 0x1000) (commits (Body.Task 1)) ⇒ stopped
+    ∷ serially 9 (set sample 45 0x0F00) (accepts 0 50 ++ commits (Body.Event 0)) ⇒ stopped
     -- "instructions run from the first, on memory without a log": SAVEX 1 0 5, SAVE 2 5 and JUMP 3 for ADD;
     -- register 7 in the place of register 1; the counting program
-    ∷ shown (serial 4 (withInstruction 0x0B10 5) (commits (Body.Task 1))) ⇒ reached (0 ∷ 0 ∷ 0 ∷ 0 ∷ 9 ∷ 9 ∷ []) 2 8 []
-    ∷ shown (serial 4 (withInstruction 0x0920 5) (commits (Body.Task 1))) ⇒ reached afterTask1 2 8 []
-    ∷ shown (serial 4 (withInstruction 0x0C00 3) (commits (Body.Task 1))) ⇒ reached afterTask1 2 8 []
-    ∷ shown (serial 4 (set (set sample 29 0x0070) 31 0x0970) (commits (Body.Task 1))) ⇒ reached afterTask1 2 8 []
-    ∷ shown (serial 5 counting (commits (Body.Task 0) ++ commits (Body.Task 0))) ⇒ reached (2 ∷ 0 ∷ []) 0 0 []
+    ∷ serially 4 (withInstruction 0x0B10 5) (commits (Body.Task 1)) ⇒ reached (0 ∷ 0 ∷ 0 ∷ 0 ∷ 9 ∷ 9 ∷ []) 2 8 []
+    ∷ serially 4 (withInstruction 0x0920 5) (commits (Body.Task 1)) ⇒ reached afterTask1 2 8 []
+    ∷ serially 4 (withInstruction 0x0C00 3) (commits (Body.Task 1)) ⇒ reached afterTask1 2 8 []
+    ∷ serially 4 (set (set sample 29 0x0070) 31 0x0970) (commits (Body.Task 1)) ⇒ reached afterTask1 2 8 []
+    ∷ serially 5 counting (commits (Body.Task 0) ++ commits (Body.Task 0)) ⇒ reached (2 ∷ 0 ∷ []) 0 0 []
     -- "All else, cuts and refusals too, changes nothing": the device's own answers
     ∷ fromCalls (refilled ++ steps 18 ++ Cut ∷ Boot ∷ []) ⇒ reached (52 ∷ 0 ∷ 0 ∷ 0 ∷ 0 ∷ 51 ∷ []) 1 0 (holds 1 53 ∷ [])
     ∷ fromCalls (transaction ++ steps 17 ++ Post 1 51 ∷ Cut ∷ Step ∷ []) ⇒ reached afterTask1 3 8 (holds 0 50 ∷ [])

@@ -38,7 +38,7 @@ PlaceWords (Half b j) = BodyWords b × (j < 2 ^ 16)
 
 abbrev pub HandlerWords : Handler → Type 0
 HandlerWords Resting = Unit {0}
-HandlerWords (Storing n e x) = (e < 2 ^ 16) × (x < 2 ^ 16)
+HandlerWords (Storing c e x) = (c < 2 ^ 16) × (e < 2 ^ 16) × (x < 2 ^ 16)
 
 -- a device state that the types allow
 pub record DeviceWords (d : Device) : Type 0 where

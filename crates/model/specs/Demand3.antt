@@ -12,7 +12,7 @@ use Rattle.model.specs.Answer.{refusal}
 use Rattle.model.specs.Calls.{Call, Boot, Step, Cut, Post, Line, Now, call, history, afterCalls, countBy, isAccept, steps, recovered, recovery}
 use Rattle.model.specs.Device.{off}
 use Rattle.model.specs.Program.{entry}
-use Rattle.model.specs.Serial.{Serial, Walked, went, served, lost, walkBody, tell, serial, serialStart}
+use Rattle.model.specs.Serial.{Serial, Formatting, given, Walked, went, served, lost, walkBody, tell, serial, serialStart}
 use Rattle.model.specs.Store.{Store, Record, view, waiting, formatCheck, format}
 use Rattle.model.specs.Test.{pick, _or_}
 use Rattle.model.specs.Types.{Answer, Body, Checked}
@@ -102,10 +102,10 @@ nextAnswer p s cs c = call p (reached p s cs .store) (reached p s cs .device) c 
 abbrev pub stepsToRecover : List ℕ → List ℕ → List Call → ℕ
 stepsToRecover p s cs = recoverySteps (view (reached p s cs .store))
 
--- After any list of calls on a store s, with the serial state of the calls and their answers:
-pub record AsSerialRun (p s : List ℕ) (cs : List Call) : Type 0 where
+-- After any list of calls on a store s, formatted with program p, L l and Q q, with the serial state of the calls and their answers:
+pub record AsSerialRun (p : List ℕ) (l q : ℕ) (s : List ℕ) (cs : List Call) : Type 0 where
   pub state : Serial
-  pub ran : (fuel : ℕ) → length cs ≤ fuel → serial fuel p (history p s off cs) ≡ some state
+  pub ran : (fuel : ℕ) → length cs ≤ fuel → serial fuel (given p l q) (history p s off cs) ≡ some state
   pub recovers : (k : ℕ) → stepsToRecover p s cs ≤ k → Recovers p (reached p s cs .store) state k
   -- "Its records are the store's waiting ones (event, data), in order, before recovery too."
   pub waits : waiting (view (reached p s cs .store)) ≡ state .records
@@ -117,14 +117,14 @@ pub record AsSerialRun (p s : List ℕ) (cs : List Call) : Type 0 where
 
 abbrev pub Demand3 : Type 0
 Demand3 =
-    (p : List ℕ) (l q : ℕ) (s : List ℕ) → formatCheck p l q s ≡ Checked.Accepted → (cs : List Call) → AsSerialRun p (format p l q s) cs
+    (p : List ℕ) (l q : ℕ) (s : List ℕ) → formatCheck p l q s ≡ Checked.Accepted → (cs : List Call) → AsSerialRun p l q (format p l q s) cs
 
 -- ---- The serial run by itself
 
 -- It determines its state: whatever the fuel, if the run comes to an end, it comes to the same.
 abbrev pub SerialDetermined : Type 0
 SerialDetermined =
-    (f g : ℕ) (p : List ℕ) (y z : Serial) (xs : List Line) → serial f p xs ≡ some y → serial g p xs ≡ some z → y ≡ z
+    (f f′ : ℕ) (g : Formatting) (y z : Serial) (xs : List Line) → serial f g xs ≡ some y → serial f′ g xs ≡ some z → y ≡ z
 
 -- Each task is the one that the task before it named, the first the entry task: the tasks whose commit store was made, and
 -- behind them the current one, are the entry task and behind it the tasks that these named at GO.
@@ -158,16 +158,16 @@ unfoldable pub fromState : Option Serial → (Serial → List ℕ) → List ℕ
 fromState none f = []
 fromState (some z) f = f z
 
-unfoldable pub namedTasks : ℕ → List ℕ → Serial → List Line → List ℕ
-namedTasks fuel p z [] = []
-namedTasks fuel p z (x ∷ xs) =
-    namedBy fuel p (z .memory) (committedTask (x .answered))
-    ++ fromState (tell fuel p z (x .called) (x .answered)) (λ y. namedTasks fuel p y xs)
+unfoldable pub namedTasks : ℕ → Formatting → Serial → List Line → List ℕ
+namedTasks fuel g z [] = []
+namedTasks fuel g z (x ∷ xs) =
+    namedBy fuel (g .program) (z .memory) (committedTask (x .answered))
+    ++ fromState (tell fuel g z (x .called) (x .answered)) (λ y. namedTasks fuel g y xs)
 
 abbrev pub TasksFollow : Type 0
 TasksFollow =
-    (fuel : ℕ) (p : List ℕ) (xs : List Line) (z : Serial) → serial fuel p xs ≡ some z
-    → committedTasks xs ++ (z .task ∷ []) ≡ entry p ∷ namedTasks fuel p (serialStart p) xs
+    (fuel : ℕ) (g : Formatting) (xs : List Line) (z : Serial) → serial fuel g xs ≡ some z
+    → committedTasks xs ++ (z .task ∷ []) ≡ entry (g .program) ∷ namedTasks fuel g (serialStart g) xs
 
 -- ---- What a bench sees that makes the calls, recovery among them, and reads words and answers
 
@@ -180,10 +180,11 @@ unfoldable pub AllExpected : List Line → Type 0
 AllExpected [] = Unit {0}
 AllExpected (x ∷ xs) = Expected (x .called) (x .answered) × AllExpected xs
 
-pub record Observed (p s : List ℕ) (cs : List Call) : Type 0 where
+pub record Observed (p : List ℕ) (l q : ℕ) (s : List ℕ) (cs : List Call) : Type 0 where
   pub state : Serial
-  pub ran : serial (length cs) p (history p s off cs) ≡ some state
-  pub tasks : committedTasks (history p s off cs) ++ (state .task ∷ []) ≡ entry p ∷ namedTasks (length cs) p (serialStart p) (history p s off cs)
+  pub ran : serial (length cs) (given p l q) (history p s off cs) ≡ some state
+  pub tasks : committedTasks (history p s off cs) ++ (state .task ∷ [])
+      ≡ entry p ∷ namedTasks (length cs) (given p l q) (serialStart (given p l q)) (history p s off cs)
   pub answers : AllExpected (history p s off cs)
   -- "recovery .. is a cut, a boot, then steps while the phase isn't 0": so many, and then it has left what the serial run has
   pub goes-on : (m : ℕ) → m < stepsToRecover p s cs → view (recovering p s cs m) .phase ≢ 0
@@ -198,4 +199,4 @@ pub record Observed (p s : List ℕ) (cs : List Call) : Type 0 where
 
 abbrev pub ObservedByCalls : Type 0
 ObservedByCalls =
-    (p : List ℕ) (l q : ℕ) (s : List ℕ) → formatCheck p l q s ≡ Checked.Accepted → (cs : List Call) → Observed p (format p l q s) cs
+    (p : List ℕ) (l q : ℕ) (s : List ℕ) → formatCheck p l q s ≡ Checked.Accepted → (cs : List Call) → Observed p l q (format p l q s) cs

@@ -8,9 +8,9 @@ use lib.ListN.{length, getD, set, replicate}
 use Rattle.model.specs.Check.{contentsRule, rowsInside, rowUsed, instructionRule, check}
 use Rattle.model.specs.Control.{obey, obeyAll, openRule, rules, earlyRules}
 use Rattle.model.specs.Program.{events, memoryWords, instructions, transaction, number, effectAt, newOpen, word, reg}
-use Rattle.model.specs.Store.{Store, view, address, value, event, datum, Phase, Task, Open, Count, Pending, PendingOpen, Head, Tail, Memory, Address, Value, Event, Datum, Write, none, to, find, after, empty, full, logAt, queueAt, storeRule}
+use Rattle.model.specs.Store.{Store, view, address, value, event, datum, Phase, Task, Open, Count, Pending, PendingOpen, Head, Tail, Memory, Address, Value, Event, Datum, Write, none, to, Record, carried, find, after, empty, room, logAt, queueAt, storeRule}
 use Rattle.model.specs.Test.{pick, _and_, must, _then_}
-use Rattle.model.specs.Types.{Answer, Body, Checked, Device, Effect, Found, Free, Half, Handler, Next, Place, Refusal, Resting, Run, Storing}
+use Rattle.model.specs.Types.{Answer, Body, Checked, Device, Effect, Found, Free, Half, Handler, Place, Refusal, Resting, Run, Storing}
 
 -- ---- "Off is one fixed value of the device, all else 0. Boot makes no store and turns that value on."
 
@@ -27,8 +27,8 @@ turnedOn = fresh true
 unfoldable pub moved : Device → List ℕ → Place → ℕ → Device
 moved d r x l = record { on = d .on; regs = r; place = x; count = l; handler = d .handler }
 
-unfoldable pub handled : Device → Handler → Device
-handled d h = record { on = d .on; regs = d .regs; place = d .place; count = d .count; handler = h }
+unfoldable pub withHandler : Device → Handler → Device
+withHandler d h = record { on = d .on; regs = d .regs; place = d .place; count = d .count; handler = h }
 
 -- ---- The outcome of a call. "A refusal .. changes no word, state or total."
 
@@ -47,11 +47,11 @@ unfoldable pub judged : Checked → Device → Out → Out
 judged Checked.Accepted d o = o
 judged (Checked.Refused r) d o = refuse d r
 
--- Store number c of a row of stores, the last of which turns the device into the off value turned on and has its own answer.
-unfoldable pub storing : List Write → ℕ → Device → Answer → Out
-storing ws c d a =
+-- Store number c of a row of stores, after which the device is d. The last of them has its own device and answer.
+unfoldable pub storing : List Write → ℕ → Device → Device → Answer → Out
+storing ws c d ended a =
     let last = eqb (c + 1) (length ws) in
-    out (getD ws c none) (pick last turnedOn d) (pick last a Answer.Stored)
+    out (getD ws c none) (pick last ended d) (pick last a Answer.Stored)
 
 -- ---- The rows of stores that a commit makes
 -- "11 is n, 12 the next task, 13 the new open number, 8 becomes 1 (the commit store)"; n is the log count l
@@ -73,6 +73,15 @@ eventLastStores v = to Head (v .pending) ∷ to Phase 0 ∷ []
 unfoldable pub lastStores : Store → List Write
 lastStores v = pick (eqb (v .phase) 1) (taskLastStores v) (eventLastStores v)
 
+-- ---- The row of stores that a handler makes: "event, data, then tail", for each of its records in its slot, from slot x on
+
+unfoldable pub recordStores : ℕ → ℕ → List Record → List Write
+recordStores q x [] = to Tail x ∷ []
+recordStores q x (r ∷ rs) = to (Event x) (r .event) ∷ to (Datum x) (r .datum) ∷ recordStores q (after q x) rs
+
+abbrev pub handlerStores : Store → List Record → List Write
+handlerStores v rs = recordStores (v .records) (v .tail) rs
+
 -- ---- 25, what needs no row, instruction, log pair or record
 
 -- "in phase 0 a running body that isn't word 9's task, nor the event of a record at head with word 10 at 0"; "body .. out of
@@ -93,10 +102,18 @@ placeSound p v l (Free c) = pick (eqb (v .phase) 0) (eqb c 0) (ltb c (v .count +
 placeSound p v l (Run b j c) = eqb (v .phase) 0 and mayRun p v b and ltb c (endStores b)
 placeSound p v l (Half b j) = eqb (v .phase) 0 and mayRun p v b and ltb l (v .pairs)
 
--- "a handler at work with the queue full or its event not below E"
+-- every event is below E
+unfoldable pub knownEvents : List ℕ → List Record → Bool
+knownEvents p [] = true
+knownEvents p (r ∷ rs) = ltb (r .event) (events p) and knownEvents p rs
+
+-- "a handler at work with the queue full or its event not below E"; nor is it past its tail store
+unfoldable pub recordsSound : List ℕ → Store → ℕ → List Record → Bool
+recordsSound p v c rs = knownEvents p rs and leb (length rs) (room v) and ltb c (length (handlerStores v rs))
+
 unfoldable pub handlerSound : List ℕ → Store → Handler → Bool
 handlerSound p v Resting = true
-handlerSound p v (Storing n e x) = ltb e (events p) and not (full v)
+handlerSound p v (Storing c e x) = recordsSound p v c (carried e x)
 
 unfoldable pub isFresh : Place → Handler → Bool
 isFresh (Free c) Resting = eqb c 0
@@ -140,7 +157,7 @@ cut = out none off Answer.Done
 
 unfoldable pub atRest : Handler → Bool
 atRest Resting = true
-atRest (Storing n e x) = false
+atRest (Storing c e x) = false
 
 -- "post then 8, 20, 21"
 unfoldable pub postCheck : List ℕ → List ℕ → Device → ℕ → Checked
@@ -148,18 +165,17 @@ postCheck p s d e =
     look p s d
     then must (ltb e (events p)) Refusal.NoEvent
     then must (atRest (d .handler)) Refusal.HandlerBusy
-    then must (not (full (view s))) Refusal.QueueFull
+    then must (leb 1 (room (view s))) Refusal.QueueFull
 
 -- "A post makes no store, sets the handler to work"
 unfoldable pub post : List ℕ → List ℕ → Device → ℕ → ℕ → Out
-post p s d e x = judged (postCheck p s d e) d (out none (handled d (Storing Next.Event e x)) Answer.Done)
+post p s d e x = judged (postCheck p s d e) d (out none (withHandler d (Storing 0 e x)) Answer.Done)
 
--- ---- Step 1. "A handler at work makes its next store: event, data, then tail. The tail store accepts the event."
+-- ---- Step 1. "A handler at work makes its next store .. The tail store accepts the event": c of its stores are made
 
-unfoldable pub handlerStep : Store → Device → Next → ℕ → ℕ → Out
-handlerStep v d Next.Event e x = out (to (Event (v .tail)) e) (handled d (Storing Next.Data e x)) Answer.Stored
-handlerStep v d Next.Data e x = out (to (Datum (v .tail)) x) (handled d (Storing Next.Tail e x)) Answer.Stored
-handlerStep v d Next.Tail e x = out (to Tail (after (v .records) (v .tail))) (handled d Resting) Answer.Accepted
+unfoldable pub handlerStep : Store → Device → ℕ → ℕ → ℕ → Out
+handlerStep v d c e x =
+    storing (handlerStores v (carried e x)) c (withHandler d (Storing (c + 1) e x)) (withHandler d Resting) Answer.Accepted
 
 -- ---- Step 2. "A commit makes its next store", in phases 1 and 2: c stores are made after the commit store
 
@@ -171,7 +187,7 @@ unfoldable pub copyStep : List ℕ → Store → Device → ℕ → Out
 copyStep p v d c =
     let after = moved d (d .regs) (Free (c + 1)) (d .count) in
     pick (ltb c (v .count)) (judged (pairSound p v c) d (out (to (Memory (address v c)) (value v c)) after Answer.Stored))
-    (storing (lastStores v) (c - v .count) after Answer.Stored)
+    (storing (lastStores v) (c - v .count) after turnedOn Answer.Stored)
 
 -- ---- Step 3. "With no body running, one is chosen"
 
@@ -278,9 +294,9 @@ act p v d b j c (Effect.Read a x) =
 act p v d b j c (Effect.Write x y) =
     pick (ltb x (memoryWords p)) (saveStep v d b j x y (find (v .log) (d .count) x)) (refuse d Refusal.Address)
 act p v d b j c (Effect.EndTask k) =
-    storing (taskStores p (number p b) k (d .count)) c (moved d (d .regs) (Run b j (c + 1)) (d .count)) (Answer.Committed b)
+    storing (taskStores p (number p b) k (d .count)) c (moved d (d .regs) (Run b j (c + 1)) (d .count)) turnedOn (Answer.Committed b)
 act p v d b j c Effect.EndEvent =
-    storing (eventStores v (d .count)) c (moved d (d .regs) (Run b j (c + 1)) (d .count)) (Answer.Committed b)
+    storing (eventStores v (d .count)) c (moved d (d .regs) (Run b j (c + 1)) (d .count)) turnedOn (Answer.Committed b)
 act p v d b j c Effect.Unknown = refuse d Refusal.State
 
 -- the value of half a SAVE, "without looking again at address or log"
@@ -306,7 +322,7 @@ placeStep p v d (Half b j) =
 
 unfoldable pub nextStep : List ℕ → Store → Device → Handler → Out
 nextStep p v d Resting = placeStep p v d (d .place)
-nextStep p v d (Storing n e x) = handlerStep v d n e x
+nextStep p v d (Storing c e x) = handlerStep v d c e x
 
 unfoldable pub step : List ℕ → List ℕ → Device → Out
 step p s d = judged (look p s d) d (nextStep p (view s) d (d .handler))

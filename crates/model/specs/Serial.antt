@@ -1,5 +1,5 @@
 -- Document 01, "The serial run": what the bodies whose commit store was made do without cuts, log or store.
--- "The serial run has the program and reads the calls with their answers, never the store."
+-- "The serial run has the program and reads the calls with their answers, never the store": the program stands with what else formatting was given.
 -- A body that loops has no end, so a body is run for a number of instructions, the fuel; Claims.antt says that the number of
 -- calls suffices, and that more fuel changes nothing. The run stops, `none`, where one of the things claimed with it fails:
 -- "each body run is the answered one and ends, each address below M; at an event a record is there and the open number is 0."
@@ -8,10 +8,10 @@ use Prim.Native.Nat.{ℕ, zero, suc, _+_}
 use mathlib.Core.List.{List, [], _∷_, _++_}
 use mathlib.Core.Option.{Option, none, some}
 use lib.Dec.{ltb, eqb}
-use lib.ListN.{set, replicate}
-use Rattle.model.specs.Calls.{Call, Boot, Step, Cut, Post, Line}
+use lib.ListN.{length, set, replicate}
+use Rattle.model.specs.Calls.{Call, Boot, Step, Cut, Post, Line, acceptedEvents}
 use Rattle.model.specs.Program.{entry, memoryWords, transaction, instructions, number, effectAt, newOpen, word}
-use Rattle.model.specs.Store.{Record}
+use Rattle.model.specs.Store.{Record, carried}
 use Rattle.model.specs.Test.{pick, _and_}
 use Rattle.model.specs.Types.{Answer, Body, Effect}
 
@@ -20,18 +20,27 @@ pub record Serial : Type 0 where
   pub task : ℕ
   pub openNumber : ℕ
   pub records : List Record
-  -- what the latest post with the answer done carried; none before any
-  pub posted : Option Record
+  -- what the latest post with the answer done carried; nothing before any
+  pub posted : List Record
+
+-- What formatting was given: the serial run has this, and no more of the store.
+pub record Formatting : Type 0 where
+  pub program : List ℕ
+  pub pairs : ℕ
+  pub records : ℕ
+
+abbrev pub given : List ℕ → ℕ → ℕ → Formatting
+given p l q = record { program = p; pairs = l; records = q }
 
 -- "It starts with memory 0, the entry task as current task, open number 0 and no records."
-unfoldable pub serialStart : List ℕ → Serial
-serialStart p =
+unfoldable pub serialStart : Formatting → Serial
+serialStart g =
     record {
-      memory = replicate (memoryWords p) 0;
-      task = entry p;
+      memory = replicate (memoryWords (g .program)) 0;
+      task = entry (g .program);
       openNumber = 0;
       records = [];
-      posted = none;
+      posted = [];
     }
 
 -- ---- "instructions run from the first, on memory without a log, to DONE or to GO"
@@ -107,41 +116,40 @@ afterDone z (Post e x) =
       task = z .task;
       openNumber = z .openNumber;
       records = z .records;
-      posted = some (record { event = e; datum = x });
+      posted = carried e x;
     }
 
--- "The answer accepted adds what the latest post with the answer done carried."
-unfoldable pub withRecord : Serial → Record → Serial
-withRecord z x =
+-- "The answer accepted adds what the latest post with the answer done carried": as many records as the answer accepts events.
+unfoldable pub withRecords : Serial → List Record → Serial
+withRecords z rs =
     record {
       memory = z .memory;
       task = z .task;
       openNumber = z .openNumber;
-      records = z .records ++ x ∷ [];
+      records = z .records ++ rs;
       posted = z .posted;
     }
 
-unfoldable pub accept : Serial → Option Record → Option Serial
-accept z none = none
-accept z (some x) = some (withRecord z x)
+unfoldable pub accept : Serial → ℕ → Option Serial
+accept z n = pick (eqb (length (z .posted)) n) (some (withRecords z (z .posted))) none
 
 -- "All else, cuts and refusals too, changes nothing."
-unfoldable pub tell : ℕ → List ℕ → Serial → Call → Answer → Option Serial
-tell fuel p z c Answer.Done = some (afterDone z c)
-tell fuel p z c (Answer.Chosen b) = some z
-tell fuel p z c Answer.Worked = some z
-tell fuel p z c Answer.Stored = some z
-tell fuel p z c (Answer.Committed b) = runBody fuel p z b
-tell fuel p z c Answer.Accepted = accept z (z .posted)
-tell fuel p z c (Answer.Refused r) = some z
+unfoldable pub tell : ℕ → Formatting → Serial → Call → Answer → Option Serial
+tell fuel g z c Answer.Done = some (afterDone z c)
+tell fuel g z c (Answer.Chosen b) = some z
+tell fuel g z c Answer.Worked = some z
+tell fuel g z c Answer.Stored = some z
+tell fuel g z c (Answer.Committed b) = runBody fuel (g .program) z b
+tell fuel g z c Answer.Accepted = accept z (acceptedEvents Answer.Accepted)
+tell fuel g z c (Answer.Refused r) = some z
 
 unfoldable pub andThen : Option Serial → (Serial → Option Serial) → Option Serial
 andThen none f = none
 andThen (some z) f = f z
 
-unfoldable pub serialFrom : ℕ → List ℕ → Serial → List Line → Option Serial
-serialFrom fuel p z [] = some z
-serialFrom fuel p z (x ∷ xs) = andThen (tell fuel p z (x .called) (x .answered)) (λ y. serialFrom fuel p y xs)
+unfoldable pub serialFrom : ℕ → Formatting → Serial → List Line → Option Serial
+serialFrom fuel g z [] = some z
+serialFrom fuel g z (x ∷ xs) = andThen (tell fuel g z (x .called) (x .answered)) (λ y. serialFrom fuel g y xs)
 
-unfoldable pub serial : ℕ → List ℕ → List Line → Option Serial
-serial fuel p xs = serialFrom fuel p (serialStart p) xs
+unfoldable pub serial : ℕ → Formatting → List Line → Option Serial
+serial fuel g xs = serialFrom fuel g (serialStart g) xs

@@ -7,7 +7,7 @@ use Rattle.model.specs.Control.{Rule, broken, rules}
 use Rattle.model.specs.Device.{boot, post, step}
 use Rattle.model.specs.Store.{view, formatted}
 use Rattle.model.specs.Test.{pick}
-use Rattle.model.specs.Types.{Answer, Body, Device, Free, Half, Next, Place, Refusal, Resting, Run, Storing}
+use Rattle.model.specs.Types.{Answer, Body, Device, Free, Half, Place, Refusal, Resting, Run, Storing}
 use Rattle.model.specs.Sample.{Row, _⇒_, at, cleared, closed, controls, device, event1, eventCommit, offValue, onValue, opened, registers, sample, task1, taskCommit, twoPairs, withInstruction}
 
 -- ---- What boot, a step and a post meet in the program and in the store's contents (6)
@@ -217,9 +217,9 @@ states =
     ∷ looked closed (at (Half (Body.Event 0) 0)) ⇒ stepAlone
     ∷ looked closed (at (Half (Body.Event 1) 0)) ⇒ neither Answer.Stored
     -- "a handler at work with the queue full or its event not below E"
-    ∷ looked opened (device true registers (task1 0) 1 (Storing Next.Event 1 66)) ⇒ (Answer.Stored ∷ Answer.Refused Refusal.HandlerBusy ∷ [])
-    ∷ looked opened (device true registers (task1 0) 1 (Storing Next.Event 2 66)) ⇒ both Refusal.State
-    ∷ looked (controls 0 1 8 0 0 0 2 1) (device true registers (task1 0) 1 (Storing Next.Tail 1 66)) ⇒ both Refusal.State
+    ∷ looked opened (device true registers (task1 0) 1 (Storing 0 1 66)) ⇒ (Answer.Stored ∷ Answer.Refused Refusal.HandlerBusy ∷ [])
+    ∷ looked opened (device true registers (task1 0) 1 (Storing 0 2 66)) ⇒ both Refusal.State
+    ∷ looked (controls 0 1 8 0 0 0 2 1) (device true registers (task1 0) 1 (Storing 2 1 66)) ⇒ both Refusal.State
     -- "off unlike its fixed value"
     ∷ looked opened offValue ⇒ both Refusal.PowerOff
     ∷ looked opened (device false (set cleared 0 1) (Free 0) 0 Resting) ⇒ both Refusal.State
@@ -228,7 +228,7 @@ states =
     ∷ looked opened (device false cleared (task1 0) 0 Resting) ⇒ both Refusal.State
     ∷ looked opened (device false cleared (Half (Body.Task 1) 1) 0 Resting) ⇒ both Refusal.State
     ∷ looked opened (device false cleared (Free 0) 1 Resting) ⇒ both Refusal.State
-    ∷ looked opened (device false cleared (Free 0) 0 (Storing Next.Event 1 66)) ⇒ both Refusal.State
+    ∷ looked opened (device false cleared (Free 0) 0 (Storing 0 1 66)) ⇒ both Refusal.State
     -- "7, 25, 22": with two faults, the first
     ∷ looked (set opened 8 3) (at (Free 1)) ⇒ both (Refusal.Control 8)
     ∷ []

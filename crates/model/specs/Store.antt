@@ -125,7 +125,7 @@ findFrom log a j (suc k) = pick (eqb (word log (2 * j)) a) (Found.Pair j) (findF
 unfoldable pub find : List ℕ → ℕ → ℕ → Found
 find log n a = findFrom log a 0 n
 
--- ---- The ring: "Empty means head equals tail; full means the slot after tail is head."
+-- ---- The ring: "Empty means head equals tail; full means the slot after tail is head." Then there is room for no record.
 
 -- the slot after x, of the slots 0 to q
 unfoldable pub after : ℕ → ℕ → ℕ
@@ -133,9 +133,6 @@ after q x = pick (eqb x q) 0 (x + 1)
 
 abbrev pub empty : Store → Bool
 empty v = eqb (v .head) (v .tail)
-
-abbrev pub full : Store → Bool
-full v = eqb (after (v .records) (v .tail)) (v .head)
 
 -- "The waiting records run to tail from head, in phase 2 from word 12."
 unfoldable pub firstWaiting : Store → ℕ
@@ -145,9 +142,17 @@ firstWaiting v = pick (eqb (v .phase) 2) (v .pending) (v .head)
 unfoldable pub distance : ℕ → ℕ → ℕ → ℕ
 distance q h t = pick (leb h t) (t - h) (t + (q + 1) - h)
 
+-- how many records more the ring takes
+unfoldable pub room : Store → ℕ
+room v = v .records - distance (v .records) (v .head) (v .tail)
+
 pub record Record : Type 0 where
   pub event : ℕ
   pub datum : ℕ
+
+-- the records that a post of event e with data x carries
+unfoldable pub carried : ℕ → ℕ → List Record
+carried e x = record { event = e; datum = x } ∷ []
 
 unfoldable pub slot : List ℕ → ℕ → Record
 slot queue x = record { event = word queue (2 * x); datum = word queue (2 * x + 1) }

@@ -1,7 +1,6 @@
 -- The types of src/ by their names, with the constructors that no two of them share. Others are written behind their type,
 -- as `Answer.Refused`.
 pub use Rattle.model.specs.declared.Body.{Body}
-pub use Rattle.model.specs.declared.Next.{Next}
 pub use Rattle.model.specs.declared.Handler.{Handler}
 pub use Rattle.model.specs.declared.Handler.the-variants.{Resting, Storing}
 pub use Rattle.model.specs.declared.Place.{Place}

@@ -7,17 +7,10 @@ pub enum Body {
     Event(u16),
 }
 
-// A store that a handler makes next.
-pub enum Next {
-    Event,
-    Data,
-    Tail,
-}
-
-// The handler of an interrupt: at rest, or at work on an event with its data.
+// The handler of an interrupt: at rest, or at work: how many of its stores are made, and the event and data of its record.
 pub enum Handler {
     Resting,
-    Storing(Next, u16, u16),
+    Storing(u16, u16, u16),
 }
 
 // Where the device stands.
