@@ -5,6 +5,7 @@ use Rattle.model.proofs.Demand3.{demand3}
 use Rattle.model.proofs.Observed.{observed}
 use Rattle.model.proofs.Starred.{starred}
 use Rattle.model.proofs.Rows.{rows}
+use Rattle.model.proofs.RingLaws.{full-is-no-room}
 use Rattle.model.proofs.SerialLaws.{serial-determined, tasks-follow}
 use Rattle.model.proofs.CallLaws.{run-is-steps, totals-are-counts, recovery-by-calls}
 use Rattle.model.proofs.Refused.{refused-changes-nothing}
@@ -13,7 +14,7 @@ use Rattle.model.proofs.Stores.{store-is-told}
 use Rattle.model.proofs.Repeats.{refusal-stays}
 use Rattle.model.proofs.Words.{words-stay-words, format-stays-words}
 use Rattle.model.proofs.LookStays.{look-stays}
-use Rattle.model.specs.Claims.{RefusedChangesNothing, WordsStayWords, FormatStaysWords, RefusalStays, PlaceIsBroken, RunIsSteps, TotalsAreCounts, RecoveryByCalls, LookStays, StoreIsTold}
+use Rattle.model.specs.Claims.{RefusedChangesNothing, WordsStayWords, FormatStaysWords, RefusalStays, PlaceIsBroken, RunIsSteps, TotalsAreCounts, RecoveryByCalls, LookStays, StoreIsTold, FullIsNoRoom}
 use Rattle.model.specs.Demand3.{Demand3, SerialDetermined, TasksFollow, ObservedByCalls}
 use Rattle.model.specs.Rows.{Rows}
 use Rattle.model.specs.Starred.{Starred}
@@ -31,5 +32,5 @@ pub of-runs : RunIsSteps × TotalsAreCounts × RecoveryByCalls
 of-runs = (run-is-steps, totals-are-counts, recovery-by-calls)
 
 -- of one call, for all words and device states
-pub of-calls : RefusedChangesNothing × StoreIsTold × PlaceIsBroken × RefusalStays × WordsStayWords × FormatStaysWords × LookStays
-of-calls = (refused-changes-nothing, store-is-told, place-is-broken, refusal-stays, words-stay-words, format-stays-words, look-stays)
+pub of-calls : RefusedChangesNothing × StoreIsTold × FullIsNoRoom × PlaceIsBroken × RefusalStays × WordsStayWords × FormatStaysWords × LookStays
+of-calls = (refused-changes-nothing, store-is-told, full-is-no-room, place-is-broken, refusal-stays, words-stay-words, format-stays-words, look-stays)

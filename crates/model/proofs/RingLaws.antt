@@ -12,10 +12,11 @@ use lib.Seq.{getD-set-other, getD-set-same}
 use borrow.Author.Tests.{ltb-true, leb-true, leb-false, eqb-true, eqb-false, le-leb, lt-ltb}
 use Rattle.model.proofs.FirstStores.{First}
 use Rattle.model.proofs.TestLaws.{pick-case, pick-true, pick-false, clash, and-true, and-left, and-right, or-true-left}
+use Rattle.model.specs.Claims.{FullIsNoRoom}
 use Rattle.model.specs.Control.{between}
 use Rattle.model.specs.Device.{recordStores, knownEvents}
 use Rattle.model.specs.Program.{word, events}
-use Rattle.model.specs.Store.{after, distance, slot, recordsFrom, Record, carried, Phase, Task, Open, Count, Pending, PendingOpen, Head, Tail, Memory, Address, Value, Event, Datum, Write, none, to}
+use Rattle.model.specs.Store.{after, distance, room, slot, recordsFrom, Record, carried, Phase, Task, Open, Count, Pending, PendingOpen, Head, Tail, Memory, Address, Value, Event, Datum, Write, none, to}
 use Rattle.model.specs.Test.{pick, _and_, _or_}
 
 -- ---- what the definitions say, in plain arithmetic
@@ -120,6 +121,18 @@ forward-distance q h t l m =
     go n y (inl d) (inr f) = omega arith
     go n y (inr d) (inl f) = omega arith
     go n y (inr d) (inr f) = omega arith
+
+-- "full means the slot after tail is head"
+pub full-is-no-room : FullIsNoRoom
+unfolding room
+full-is-no-room v l m = go (after (v .records) (v .tail)) (distance (v .records) (v .head) (v .tail)) (after-is _ _) (distance-is _ _ _ l)
+  where
+    go : (a n : ℕ) → After (v .records) (v .tail) a → Distance (v .records) (v .head) (v .tail) n
+        → (v .records - n ≡ 0 → a ≡ v .head) × (a ≡ v .head → v .records - n ≡ 0)
+    go a n (inl s) (inl d) = (λ e. omega arith, λ e. omega arith)
+    go a n (inl s) (inr d) = (λ e. omega arith, λ e. omega arith)
+    go a n (inr s) (inl d) = (λ e. omega arith, λ e. omega arith)
+    go a n (inr s) (inr d) = (λ e. omega arith, λ e. omega arith)
 
 -- ---- with room for i records behind tail
 

@@ -13,7 +13,7 @@ use Rattle.model.specs.Device.{Out, out, refuse, boot, cut, post, step}
 use Rattle.model.specs.Program.{newOpen}
 use Rattle.model.specs.Serial.{Serial, given, serial}
 use Rattle.model.specs.Starred.{counting}
-use Rattle.model.specs.Store.{Record, view, waiting, Word, Phase, Task, Open, Count, Pending, PendingOpen, Head, Tail, Memory, Address, Value, Event, Datum, none, to, index, settled, formatted}
+use Rattle.model.specs.Store.{Record, view, room, waiting, Word, Phase, Task, Open, Count, Pending, PendingOpen, Head, Tail, Memory, Address, Value, Event, Datum, none, to, index, settled, formatted}
 use Rattle.model.specs.Types.{Answer, Body, Device, Ended, Free, Half, Refusal, Resting, Run, Storing, Totals}
 use Rattle.model.specs.ProgramRows.{stores}
 use Rattle.model.specs.Sample.{Row, _⇒_, at, cleared, closed, controls, device, eventCommit, offValue, onValue, opened, registers, sample, task1, taskCommit, twoPairs, withInstruction}
@@ -102,6 +102,21 @@ placesOfWords =
     ∷ map (index closed) (Event 0 ∷ Datum 0 ∷ Event 3 ∷ Datum 3 ∷ []) ⇒ (26 ∷ 27 ∷ 32 ∷ 33 ∷ [])
     ∷ settled closed (to (Value 1) 9) ⇒ set closed 25 9
     ∷ settled closed none ⇒ closed
+    ∷ []
+
+-- how many records more the ring of four slots takes, by head and tail
+abbrev roomBetween : ℕ → ℕ → ℕ
+roomBetween h t = room (view (controls 0 1 8 0 0 0 h t))
+
+unfoldable pub rooms : List (Row ℕ)
+rooms =
+    roomBetween 0 0 ⇒ 3
+    ∷ roomBetween 3 3 ⇒ 3
+    ∷ roomBetween 0 1 ⇒ 2
+    ∷ roomBetween 3 0 ⇒ 2
+    ∷ roomBetween 3 1 ⇒ 1
+    ∷ roomBetween 0 3 ⇒ 0
+    ∷ roomBetween 2 1 ⇒ 0
     ∷ []
 
 -- ---- Lists of calls, on a store freshly formatted with L 2 and Q 3, the device off at first

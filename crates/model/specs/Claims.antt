@@ -10,7 +10,7 @@ use Rattle.model.specs.Calls.{Call, Boot, Step, Cut, Post, call, history
 use Rattle.model.specs.Control.{rules, blames}
 use Rattle.model.specs.Device.{off, look, step}
 use Rattle.model.specs.Program.{word}
-use Rattle.model.specs.Store.{view, Word, index, to, settled, format}
+use Rattle.model.specs.Store.{Store, view, Word, index, to, settled, after, room, format}
 use Rattle.model.specs.Types.{Answer, Body, Checked, Device, Ended, Free, Half, Handler, Place, Refusal, Resting, Run, Storing, Totals}
 
 -- "A refusal .. changes no word, state or total."
@@ -66,6 +66,12 @@ WordsStayWords =
 
 abbrev pub FormatStaysWords : Type 0
 FormatStaysWords = (p : List ℕ) (l q : ℕ) (s : List ℕ) → Words p → Words s → Words (format p l q s)
+
+-- "full means the slot after tail is head": there is room for no record exactly then
+abbrev pub FullIsNoRoom : Type 0
+FullIsNoRoom =
+    (v : Store) → v .head ≤ v .records → v .tail ≤ v .records
+    → (room v ≡ 0 → after (v .records) (v .tail) ≡ v .head) × (after (v .records) (v .tail) ≡ v .head → room v ≡ 0)
 
 -- "After 23 or 24 every step repeats that refusal until a cut, save for handler steps."
 pub data Stays : Refusal → Type 0 where

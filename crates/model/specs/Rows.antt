@@ -1,7 +1,7 @@
 -- The worked rows, gathered: programs, stores and device states written out, and beside each what document 01 says comes of it. They hold the
 -- definitions where no theorem would notice another meaning: which operand is subtracted, which field must be 0, which place a refusal
 -- names. proofs/Rows.antt has the theorem, in which the checker computes every table.
-use Rattle.model.specs.CallRows.{countings, counts, memories, numbers, openNumbers, outcomes, placesOfWords, recoveries, runRows, schedules, serialRuns, tests, waitingRecords}
+use Rattle.model.specs.CallRows.{countings, counts, memories, numbers, openNumbers, outcomes, placesOfWords, recoveries, rooms, runRows, schedules, serialRuns, tests, waitingRecords}
 use Rattle.model.specs.ProgramRows.{fields, formats, formattedStores, meanings, opcodes, programs}
 use Rattle.model.specs.Sample.{Holds}
 use Rattle.model.specs.StateRows.{contents, controlWords, states, uses}
@@ -31,6 +31,8 @@ pub record Rows : Type 0 where
   pub calls-do : Holds outcomes
   -- "Contents first. Words 0 to 7 .."
   pub words-lie : Holds placesOfWords
+  -- "full means the slot after tail is head"
+  pub room-left : Holds rooms
   -- "transactions are sequences of tasks closed to events"; "full means the slot after tail is head"
   pub calls-answer : Holds schedules
   pub numbers-open : Holds openNumbers

@@ -220,6 +220,9 @@ states =
     ∷ looked opened (device true registers (task1 0) 1 (Storing 0 1 66)) ⇒ (Answer.Stored ∷ Answer.Refused Refusal.HandlerBusy ∷ [])
     ∷ looked opened (device true registers (task1 0) 1 (Storing 0 2 66)) ⇒ both Refusal.State
     ∷ looked (controls 0 1 8 0 0 0 2 1) (device true registers (task1 0) 1 (Storing 2 1 66)) ⇒ both Refusal.State
+    -- all of a handler's stores are made, and it is at work still
+    ∷ looked opened (device true registers (task1 0) 1 (Storing 2 1 66)) ⇒ (Answer.Accepted ∷ Answer.Refused Refusal.HandlerBusy ∷ [])
+    ∷ looked opened (device true registers (task1 0) 1 (Storing 3 1 66)) ⇒ both Refusal.State
     -- "off unlike its fixed value"
     ∷ looked opened offValue ⇒ both Refusal.PowerOff
     ∷ looked opened (device false (set cleared 0 1) (Free 0) 0 Resting) ⇒ both Refusal.State
