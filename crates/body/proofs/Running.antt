@@ -8,7 +8,7 @@ use native.Mathlib.Omega.{arith}
 use borrow.Author.Tests.{lt-ltb, le-ltb}
 use lib.Dec.{ltb}
 use Rattle.model.proofs.TestLaws.{then-first, then-rest, impossible}
-use Rattle.model.proofs.Early.{MayRun, Stands}
+use Rattle.model.specs.Accepted.{MayRun, Stands, HasBody, Looked}
 use Rattle.model.specs.Check.{rowsInside, rowUsed, instructionRule}
 use Rattle.model.specs.Device.{endStores, recordSound, headSound, namedRow, openSound, headIs, saves, placeFits, bodySound, Out, refuse, judged, act, saveRest, placeStep}
 use Rattle.model.specs.Program.{word, events, memoryWords, instructions, number, effectAt}
@@ -21,9 +21,7 @@ use Rattle.model.specs.declared.Effect.{Effect}
 use Rattle.model.specs.declared.Place.{Place}
 use Rattle.model.specs.declared.Place.the-variants.{Free, Run, Half}
 use Rattle.model.specs.declared.Refusal.{Refusal}
-use Rattle.program.proofs.Accepted.{inside-given, used-given}
-use Rattle.program.specs.Accepted.{HasBody}
-use Rattle.device.specs.Looked.{Looked}
+use Rattle.model.proofs.ProgramLaws.{inside-passed, used-passed}
 use Rattle.body.specs.Running.{Running, does, fetched, bodyAt, instructionAt}
 use Rattle.body.specs.declared.Fetched.{Fetched}
 
@@ -47,12 +45,12 @@ module _ (p s : List ℕ) (d : Device) (h : Looked p s d) where
       record {
         contents = h .contents;
         shaped = h .shaped;
-        body = omega (arith, h .early .control .task-in);
+        body = omega (arith, h .control .task-in);
         phase = z;
-        task = h .early .control .task-in;
-        head = h .early .control .head-in;
+        task = h .control .task-in;
+        head = h .control .head-in;
         endsTask = λ _. refl;
-        endsEvent = λ l. absurd (omega (arith, h .early .control .task-in));
+        endsEvent = λ l. absurd (omega (arith, h .control .task-in));
       }
   may-run (Body.Event e) m z =
       record {
@@ -60,14 +58,14 @@ module _ (p s : List ℕ) (d : Device) (h : Looked p s d) where
         shaped = h .shaped;
         body = omega (arith, m .0);
         phase = z;
-        task = h .early .control .task-in;
-        head = h .early .control .head-in;
+        task = h .control .task-in;
+        head = h .control .head-in;
         endsTask = λ l. absurd (omega arith);
         endsEvent = λ _. refl;
       }
 
   stands : {x : Place} → d .place ≡ x → Stands p (view s) (d .count) x
-  stands e = rw e at (h .early .place)
+  stands e = rw e at (h .place)
 
   pub running : (b : Body) (j n : ℕ) → d .place ≡ Run b j n → Running p s b
   running b j n e = let m = stands e in may-run b (m .1) (m .0)
@@ -150,8 +148,8 @@ module _ (p : List ℕ) (v : Store) (r : List ℕ) (b : Body) (j : ℕ) where
 pub row-given : (p s : List ℕ) (b : Body) → Running p s b → rowChecks p (view s) b ≡ Checked.Accepted → HasBody p (number p b)
 row-given p s b h e =
     let rest = then-rest _ _ e in
-    used-given p (number p b)
-    (record { rows = inside-given p (h .contents) (then-first _ _ rest); body = h .body })
+    used-passed p (number p b)
+    (record { rows = inside-passed p (h .contents) (then-first _ _ rest); body = h .body })
     (then-rest _ _ rest)
 
 -- ---- from the checks to what is fetched, and back

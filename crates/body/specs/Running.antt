@@ -12,10 +12,8 @@ use Rattle.model.specs.declared.Checked.{Checked}
 use Rattle.model.specs.declared.Effect.{Effect}
 use Rattle.model.specs.declared.Place.{Place}
 use Rattle.model.specs.declared.Place.the-variants.{Free, Run, Half}
-use Rattle.program.specs.Accepted.{Contents, HasInstruction}
-use Rattle.effects.specs.Legal.{LegalEffect}
+use Rattle.model.specs.Accepted.{Contents, HasInstruction, LegalEffect, ShapedFor}
 use Rattle.body.specs.declared.Fetched.{Fetched}
-use Rattle.store.specs.Shaped.{ShapedFor}
 
 -- body b may run: there is such a body, word 9's task and word 14's slot are there
 pub record Running (p s : List ℕ) (b : Body) : Type 0 where

@@ -8,10 +8,7 @@ ghost use Rattle.model.specs.Device.{endStores, recordSound, headSound, namedRo
 ghost use Rattle.model.specs.Program.{word, tasks, bodies, number, effectAt, newOpen};
 ghost use Rattle.model.specs.Store.{view, find};
 ghost use Rattle.model.specs.Test.{must, _then_};
-ghost use Rattle.program.specs.Accepted.{Contents, RowsInside, HasBody, HasInstruction};
-ghost use Rattle.effects.specs.Legal.{LegalEffect};
-ghost use Rattle.store.specs.Shaped.{Shaped, ShapedFor};
-ghost use Rattle.device.specs.Looked.{Looked};
+ghost use Rattle.model.specs.Accepted.{Contents, RowsInside, HasBody, HasInstruction, LegalEffect, Shaped, ShapedFor, Looked};
 ghost use Rattle.body.specs.Running.{Running, Fetches, does, fetched, bodyAt, instructionAt};
 ghost use Rattle.device.specs.Turn.{device, after, result};
 use device::Core;

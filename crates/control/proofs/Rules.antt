@@ -13,7 +13,7 @@ use Rattle.model.specs.Control.{Rule, broken, obey, obeyAll, upTo, blames}
 use Rattle.model.specs.Test.{_and_, _or_, must, _then_}
 use Rattle.model.specs.declared.Checked.{Checked}
 use Rattle.model.specs.declared.Refusal.{Refusal}
-use Rattle.store.proofs.Checks.{then-assoc, then-accepted}
+use Rattle.model.proofs.TestLaws.{then-assoc, then-accepted}
 
 -- ---- one rule: it isn't asked, it is kept, or it is broken
 

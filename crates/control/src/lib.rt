@@ -14,8 +14,7 @@ ghost use Rattle.model.specs.Control.{obey, obeyAll, upTo, inPhase, committing,
 ghost use Rattle.model.specs.Program.{word, tasks, transaction};
 ghost use Rattle.model.specs.Store.{view};
 ghost use Rattle.model.specs.Test.{_or_, _then_};
-ghost use Rattle.program.specs.Accepted.{Contents, RowsInside};
-ghost use Rattle.store.specs.Shaped.{Shaped, ShapedFor};
+ghost use Rattle.model.specs.Accepted.{Contents, RowsInside, Shaped, ShapedFor};
 
 // "8 at most 2"
 fn phase_rule(store: &[u16]) -> Checked

@@ -17,14 +17,11 @@ ghost use Prim.Native.Nat.{ℕ};
 ghost use lib.ListN.{length};
 ghost use mathlib.Core.List.{List};
 ghost use mathlib.Core.Path.{_≡_};
-ghost use Rattle.model.proofs.Early.{Controlled};
+ghost use Rattle.model.specs.Accepted.{Controlled, Contents, Looked, Shaped};
 ghost use Rattle.model.specs.Device.{lastStores, mayRun, endStores, placeSound, handlerSound, isFresh, zeros, deviceSound, look, turnedOn, out, judged, handled, bootCheck, boot, cut, postCheck, post};
 ghost use Rattle.model.specs.Store.{view, none};
-ghost use Rattle.program.specs.Accepted.{Contents};
 ghost use Rattle.device.specs.Agree.{Performs};
-ghost use Rattle.device.specs.Looked.{Looked};
 ghost use Rattle.device.specs.Turn.{device, afterCall, result};
-ghost use Rattle.store.specs.Shaped.{Shaped};
 
 // How many stores follow the copies of a commit.
 pub fn last_stores(s: &[u16]) -> u16

@@ -4,10 +4,9 @@ use mathlib.Core.List.{List}
 use mathlib.Core.Path.{_≡_, refl, ap, subst, _∙_}
 use Prim.Native.Nat.{ℕ}
 use Rattle.exports.specs.Exported.{OnDevice}
-use Rattle.model.proofs.TestLaws.{clash}
+use Rattle.model.proofs.TestLaws.{clash, passed, failed}
 use Rattle.model.specs.Test.{pick}
 use Rattle.model.specs.declared.Device.{Device}
-use Rattle.store.proofs.Checks.{passed, failed}
 use Rattle.words.specs.Words.{deviceOf, isState, stateOf, known, unknown}
 use Rattle.words.specs.declared.Read.{Read}
 

@@ -11,11 +11,11 @@ use native.Mathlib.Omega.{arith}
 use borrow.Author.Tests.{ltb-false, le-leb, le-ltb, lt-ltb, eq-eqb, not-false}
 use lib.Dec.{eqb}
 use Rattle.model.proofs.DeviceLaws.{by-record, by-pair, by-body, Why, looked, met, boot-why, post-why, why}
-use Rattle.model.proofs.Early.{Early, MayRun}
 use Rattle.model.proofs.Kept.{first-head}
 use Rattle.model.proofs.Numbers.{Low, low-contents, low-store, low-inside, low-used, low-check, low-body}
 use Rattle.model.proofs.RingLaws.{between-self}
 use Rattle.model.proofs.TestLaws.{clash, same-or, and-true, or-true-left, or-true-right, Refuses, refuses-accepted, refuses-must, refuses-then, impossible}
+use Rattle.model.specs.Accepted.{MayRun, Looked}
 use Rattle.model.specs.Answer.{refusal}
 use Rattle.model.specs.Calls.{Boot, Step, Cut, Post, call}
 use Rattle.model.specs.Claims.{PlaceIsBroken}
@@ -176,7 +176,7 @@ module _ (p s : List ℕ) (d : Device) where
       refuses-then _ _ blamed-look
       (refuses-then _ _ (blamed-other rs _ _ refl) (refuses-then _ _ (blamed-other rs _ _ refl) (blamed-other rs _ _ refl)))
 
-  module _ (early : Early p s d) (z : v .phase ≡ 0) where
+  module _ (early : Looked p s d) (z : v .phase ≡ 0) where
     blamed-head : (b : Body) → MayRun p v b → Blamed rs (headSound p v b)
     unfolding headSound recordSound recordRule
     blamed-head (Body.Task t) m = refuses-accepted

@@ -6,15 +6,15 @@ use mathlib.Core.Logic.{_⊎_, inl, inr, _≢_}
 use mathlib.Core.Bool.{Bool, true, false, not}
 use mathlib.Core.List.{List, [], _∷_, _++_}
 use native.Mathlib.Omega.{arith}
-use borrow.Author.Tests.{lt-ltb, le-ltb, le-leb, eq-eqb, ne-eqb, ltb-true}
+use borrow.Author.Tests.{lt-ltb, le-ltb, le-leb, eq-eqb, ne-eqb}
 use lib.Dec.{ltb, leb, eqb}
 use lib.ListN.{length}
 use Rattle.model.proofs.Invariant.{Handles, HeldAt, StillAt, CopyingAt, MineAt, EndingAt, HalfSaved, BodyAt, Placed, Resumes, On}
 use Rattle.model.proofs.Kept.{known-waiting, first-head, first-pending, lasting-in, task-last-is, event-last-is}
 use Rattle.model.proofs.LogLaws.{addr}
-use Rattle.model.proofs.ProgramLaws.{Leads, Sound}
 use Rattle.model.proofs.RingLaws.{Between, between-is, between-first, known-passes}
 use Rattle.model.proofs.TestLaws.{pick-case, pick-true, pick-false, below-or, and-true, or-true-left, or-true-right, not-false, must-true, then-passed, then-first, then-rest}
+use Rattle.model.specs.Accepted.{LegalEffect, Sound}
 use Rattle.model.specs.Control.{Rule, obey, obeyAll, upTo, phaseRule, taskRule, openRule, openServing, countRule, pendingTaskRule, headRule, tailRule, pendingHeadRule, pendingOpenRule, addressRule, between, recordRule, controlRules, rules, earlyRules}
 use Rattle.model.specs.Device.{taskStores, eventStores, mayRun, endStores, placeSound, recordsSound, handlerSound, deviceSound, recordSound, headSound, namedRow, openSound, headIs, ends, saves, placeFits, bodySound}
 use Rattle.model.specs.Program.{tasks, events, memoryWords, instructions, transaction, number, effectAt}
@@ -229,17 +229,17 @@ module _ (p : List ℕ) (v : Store) (d : Device) (z : Serial) (k : ℕ) (i : On 
   ends-four b c Effect.EndEvent t = omega (arith, t .0)
   ends-four b c Effect.Unknown t = absurd t
 
-  ends-three : (b : Body) (e j c : ℕ) (f : Effect) → Leads p (tasks p + e) j f → EndingAt p v d b c f → c < 3
+  ends-three : (b : Body) (e j c : ℕ) (f : Effect) → LegalEffect p (tasks p + e) j f → EndingAt p v d b c f → c < 3
   unfolding eventStores
   ends-three b e j c (Effect.Compute a x) l t = omega arith
   ends-three b e j c (Effect.Jump a) l t = omega arith
   ends-three b e j c (Effect.Read a x) l t = omega arith
   ends-three b e j c (Effect.Write x y) l t = omega arith
-  ends-three b e j c (Effect.EndTask a) l t = let s : tasks p + e < tasks p = ltb-true _ _ (l .0) in absurd (omega arith)
+  ends-three b e j c (Effect.EndTask a) l t = absurd (omega (arith, l .1))
   ends-three b e j c Effect.EndEvent l t = t .0
   ends-three b e j c Effect.Unknown l t = absurd t
 
-  ends-in : (b : Body) (j c : ℕ) (f : Effect) → Leads p (number p b) j f → EndingAt p v d b c f → c < endStores b
+  ends-in : (b : Body) (j c : ℕ) (f : Effect) → LegalEffect p (number p b) j f → EndingAt p v d b c f → c < endStores b
   unfolding endStores number
   ends-in (Body.Task t) j c f l s = ends-four (Body.Task t) c f s
   ends-in (Body.Event e) j c f l s = ends-three (Body.Event e) e j c f l s
@@ -267,7 +267,7 @@ module _ (p : List ℕ) (v : Store) (d : Device) (z : Serial) (k : ℕ) (i : On 
   place-sound sound (Run b j c) ((s, (x, m, r)), e) =
       and-true (eq-eqb _ _ (s .phase-is))
       (and-true (may-run b x m (r .body-in))
-      (lt-ltb _ _ (ends-in b j c (effectAt p (number p b) j (d .regs)) (sound .leads (number p b) j (d .regs) (r .body-in) (r .place-in)) e)))
+      (lt-ltb _ _ (ends-in b j c (effectAt p (number p b) j (d .regs)) (sound .legal (number p b) j (d .regs) (r .body-in) (r .place-in)) e)))
   place-sound sound (Half b j) ((s, (x, m, r)), e) =
       and-true (eq-eqb _ _ (s .phase-is)) (and-true (may-run b x m (r .body-in)) (lt-ltb _ _ (half-in (d .count) (effectAt p (number p b) j (d .regs)) e)))
 
@@ -304,13 +304,13 @@ module _ (p : List ℕ) (v : Store) (d : Device) (z : Serial) (k : ℕ) (i : On 
   head-is (Body.Task t) x m = refl
   head-is (Body.Event e) x m = eq-eqb _ _ (m .1 .1 .0)
 
-  named-row : Sound p → (n j : ℕ) (f : Effect) → Leads p n j f → namedRow p f ≡ Checked.Accepted
+  named-row : Sound p → (n j : ℕ) (f : Effect) → LegalEffect p n j f → namedRow p f ≡ Checked.Accepted
   unfolding namedRow
   named-row sound n j (Effect.Compute a x) l = refl
   named-row sound n j (Effect.Jump a) l = refl
   named-row sound n j (Effect.Read a x) l = refl
   named-row sound n j (Effect.Write x y) l = refl
-  named-row sound n j (Effect.EndTask a) l = sound .row a (omega (arith, l .1))
+  named-row sound n j (Effect.EndTask a) l = sound .row a (omega (arith, l .0))
   named-row sound n j Effect.EndEvent l = refl
   named-row sound n j Effect.Unknown l = refl
 
@@ -326,7 +326,7 @@ module _ (p : List ℕ) (v : Store) (d : Device) (z : Serial) (k : ℕ) (i : On 
       (then-passed
       (pick-true _ _ there
       ∙ then-passed (sound .rule n j (r .body-in) (r .place-in))
-      (named-row sound n j _ (sound .leads n j (d .regs) (r .body-in) (r .place-in))))
+      (named-row sound n j _ (sound .legal n j (d .regs) (r .body-in) (r .place-in))))
       (then-passed (open-sound b s) (must-true _ (and-true there (and-true (head-is b x m) fits)))))))
 
   pub run-fits : (b : Body) (j c : ℕ) (f : Effect) → EndingAt p v d b c f → placeFits (Run b j c) f ≡ true

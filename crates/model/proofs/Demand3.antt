@@ -9,10 +9,10 @@ use native.Mathlib.Omega.{arith}
 use lib.ListN.{length}
 use Rattle.model.proofs.Fresh.{format-passed, fresh-words}
 use Rattle.model.proofs.KeptWords.{InvWords, call-kept, view-at}
-use Rattle.model.proofs.ProgramLaws.{Sound}
 use Rattle.model.proofs.Recovery.{recovers, waiting-is}
 use Rattle.model.proofs.SerialLaws.{runs-body, serial-balance}
 use Rattle.model.proofs.StoreLaws.{viewAt}
+use Rattle.model.specs.Accepted.{Sound}
 use Rattle.model.specs.Calls.{Call, Step, call, history, afterCalls}
 use Rattle.model.specs.Demand3.{AsSerialRun, Demand3}
 use Rattle.model.specs.Device.{off}

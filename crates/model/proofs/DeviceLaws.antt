@@ -10,15 +10,16 @@ use mathlib.Core.List.{List}
 use native.Mathlib.Omega.{arith}
 use borrow.Author.Tests.{ltb-true, ltb-false, eqb-true, eqb-false, lt-ltb, le-ltb, eq-eqb, ne-eqb}
 use lib.ListN.{length, set}
-use Rattle.model.proofs.Early.{Early, MayRun, Stands, Attends, look-passed, body-passed}
 use Rattle.model.proofs.FirstStores.{storing-goes, storing-ends}
-use Rattle.model.proofs.ProgramLaws.{Leads, instruction-leads}
+use Rattle.model.proofs.ProgramLaws.{instruction-leads}
 use Rattle.model.proofs.RingLaws.{forward, RecordStore, record-store, tail-store, record-stores}
+use Rattle.model.proofs.Passed.{look-passed, body-passed}
 use Rattle.model.proofs.TestLaws.{pick-case, pick-true, pick-false, clash, same-or, below-or}
+use Rattle.model.specs.Accepted.{LegalEffect, MayRun, Stands, Attends, Looked}
 use Rattle.model.specs.Calls.{unlessRefused, isRefusal}
 use Rattle.model.specs.Device.{Out, out, refuse, judged, turnedOn, moved, withHandler, storing, recordStores, taskStores, eventStores, taskLastStores, eventLastStores, lastStores, endStores, look, bootCheck, boot, postCheck, post, handlerStep, pairSound, copyStep, begun, recordSound, chooseStep, saves, placeFits, bodySound, shown, saveStep, act, saveRest, placeStep, nextStep, step}
-use Rattle.model.specs.Program.{tasks, events, memoryWords, transaction, number, effectAt, newOpen}
-use Rattle.model.specs.Store.{Store, view, address, value, event, datum, empty, carried, after, find, logAt, queueAt, Phase, Task, Open, Count, Pending, PendingOpen, Head, Tail, Memory, Address, Value, Event, Datum, Write, none, to}
+use Rattle.model.specs.Program.{events, memoryWords, transaction, number, effectAt, newOpen}
+use Rattle.model.specs.Store.{Store, view, address, value, event, datum, empty, carried, after, find, logAt, queueAt, Phase, Task, Open, Count, Pending, PendingOpen, Head, Tail, Memory, Address, Value, Event, Write, none, to}
 use Rattle.model.specs.Test.{pick, _and_, must}
 use Rattle.model.specs.Types.{Answer, Body, Checked, Device, Effect, Found, Free, Half, Handler, Place, Refusal, Resting, Run, Storing}
 
@@ -184,7 +185,7 @@ pub record Acts (p : List ℕ) (v : Store) (d : Device) (x : Place) (b : Body) (
   pub stands : Stands p v (d .count) x
   pub does : effectAt p (number p b) j (d .regs) ≡ f
   pub sound : bodySound p v x b j f ≡ Checked.Accepted
-  pub leads : Leads p (number p b) j f
+  pub legal : LegalEffect p (number p b) j f
 
 -- at an instruction, c stores of the body's end made
 abbrev pub RunsAt : List ℕ → Store → Device → Body → ℕ → ℕ → Effect → Type 0
@@ -286,15 +287,15 @@ pub data Meets (p : List ℕ) (v : Store) (d : Device) : Refusal → Type 0 wher
 
 pub data Why (p s : List ℕ) (d : Device) : Refusal → Type 0 where
   looked : {r : Refusal} → look p s d ≡ Checked.Refused r → Why p s d r
-  met : {r : Refusal} → Early p s d → d .handler ≡ Resting → Meets p (view s) d r → Why p s d r
+  met : {r : Refusal} → Looked p s d → d .handler ≡ Resting → Meets p (view s) d r → Why p s d r
 
 -- ---- every step is refused so, or does one of these
 
 pub data Outcome (p s : List ℕ) (d : Device) : Out → Type 0 where
   refused : {r : Refusal} → Why p s d r → Outcome p s d (refuse d r)
-  made : {o : Out} → Early p s d → Made p (view s) d o → isRefusal (o .answer) ≡ false → Outcome p s d o
+  made : {o : Out} → Looked p s d → Made p (view s) d o → isRefusal (o .answer) ≡ false → Outcome p s d o
 
-module _ (p s : List ℕ) (d : Device) (early : Early p s d) where
+module _ (p s : List ℕ) (d : Device) (early : Looked p s d) where
   abbrev v : Store
   v = view s
 
@@ -375,10 +376,10 @@ module _ (p s : List ℕ) (d : Device) (early : Early p s d) where
       pick-case Is (λ q. save-outcome b j c x y h (ltb-true _ _ q) (find (v .log) (d .count) x) refl)
       (λ q. refused (met early (h .rests) (save-above h (ltb-false _ _ q))))
   act-outcome (Body.Task t) j c (Effect.EndTask k) h = go-outcome t j k c (h .stands .2) h
-  act-outcome (Body.Event e) j c (Effect.EndTask k) h = clash (h .leads .0) (le-ltb (tasks p + e) (tasks p) (omega arith))
-  act-outcome (Body.Task t) j c Effect.EndEvent h = clash (lt-ltb t (tasks p) (omega (arith, h .stands .1, early .control .task-in))) (h .leads)
+  act-outcome (Body.Event e) j c (Effect.EndTask k) h = absurd (omega (arith, h .legal .1))
+  act-outcome (Body.Task t) j c Effect.EndEvent h = absurd (omega (arith, h .legal, h .stands .1, early .control .task-in))
   act-outcome (Body.Event e) j c Effect.EndEvent h = done-outcome e j c (h .stands .2) h
-  act-outcome b j c Effect.Unknown h = absurd (h .leads)
+  act-outcome b j c Effect.Unknown h = absurd (h .legal)
 
   -- "half a SAVE without a SAVE" is refused before
   rest-outcome : (b : Body) (j : ℕ) (f : Effect) → Acts p v d (Half b j) b j f → placeFits (Half b j) f ≡ true → Is (saveRest d b j f)
@@ -396,7 +397,7 @@ module _ (p s : List ℕ) (d : Device) (early : Early p s d) where
         → Acts p v d x b j (effectAt p (number p b) j (d .regs))
     acts x b j q h e =
         let is = body-passed p v x b j _ e in
-        record { rests = rests; place = q; stands = h; does = refl; sound = e; leads = instruction-leads p (number p b) j (d .regs) (is .there) (is .rule) }
+        record { rests = rests; place = q; stands = h; does = refl; sound = e; legal = instruction-leads p (number p b) j (d .regs) (is .there) (is .rule) }
 
     place-outcome : (x : Place) → d .place ≡ x → Stands p v (d .count) x → Is (placeStep p v d x)
     unfolding placeStep

@@ -7,7 +7,7 @@ use native.Mathlib.Omega.{arith}
 use borrow.Author.Tests.{eq-eqb, ne-eqb}
 use lib.ListN.{length, getD}
 use Rattle.model.proofs.TestLaws.{pick-true, pick-false}
-use Rattle.model.specs.Device.{Out, out, storing}
+use Rattle.model.specs.Device.{out, storing}
 use Rattle.model.specs.Store.{Write, none}
 use Rattle.model.specs.Types.{Answer, Device}
 

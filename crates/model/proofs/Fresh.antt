@@ -1,7 +1,7 @@
 -- A freshly formatted store keeps the invariant, with the device off and the serial run at its start. Assumes nothing.
 use Prim.Native.Nat.{ℕ, zero, suc, _-_, _≤_}
 use mathlib.Core.Path.{_≡_, refl, sym, ap, _∙_}
-use mathlib.Core.Logic.{inl, inr}
+use mathlib.Core.Logic.{inl}
 use mathlib.Core.Bool.{true}
 use mathlib.Core.List.{List, [], _∷_}
 use native.Mathlib.Nat.{not-suc-le-zero, suc-sub-suc, sub-zero, zero-sub}
@@ -12,9 +12,10 @@ use lib.ListN.{length, take, drop, replicate, length-replicate}
 use Rattle.model.proofs.Invariant.{Inv, Waiting}
 use Rattle.model.proofs.Kept.{first-head}
 use Rattle.model.proofs.KeptWords.{InvWords}
-use Rattle.model.proofs.ProgramLaws.{Sound, check-passed}
+use Rattle.model.proofs.ProgramLaws.{check-passed}
 use Rattle.model.proofs.StoreLaws.{viewAt, Sized}
 use Rattle.model.proofs.TestLaws.{must-passed, must-true, then-passed, then-first, then-rest}
+use Rattle.model.specs.Accepted.{Sound}
 use Rattle.model.specs.Device.{off, fresh}
 use Rattle.model.specs.Program.{word, memoryWords}
 use Rattle.model.specs.Serial.{given, serialStart}
@@ -100,7 +101,7 @@ module _ (p : List ℕ) (sound : Sound p) (l q : ℕ) (sizes : sizesRule l q ≡
       (record {
         held =
             record {
-              tasked = record { task-in = sound .contents .entry-is; open-in = inl refl };
+              tasked = record { task-in = sound .rows .contents .entry-is; open-in = inl refl };
               head-in = omega (arith, behind 4);
               waits = rw (first-head v 0 refl refl, behind 4, behind 5) no-record;
             };

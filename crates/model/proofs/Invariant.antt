@@ -1,15 +1,16 @@
 -- What holds of store, device and serial run after every call: of a device that is off (`Off`), of one that is on (`On`). Each predicate is
 -- a record over just the parts that it speaks of, so that a proof of it stands as it is after a store to another part. "The first c
 -- stores of this list are made" is one predicate, `First`, for every row of stores: a commit's and a handler's. Assumes nothing.
-use Prim.Native.Nat.{ℕ, zero, suc, _+_, _-_, _*_, _≤_, _<_, min}
+use Prim.Native.Nat.{ℕ, _+_, _-_, _*_, _≤_, _<_, min}
 use mathlib.Core.Path.{_≡_}
 use mathlib.Core.Logic.{_⊎_, _≢_}
 use mathlib.Core.Bool.{true}
-use mathlib.Core.List.{List, [], _∷_}
+use mathlib.Core.List.{List, _∷_}
 use lib.ListN.{length, replicate}
 use Rattle.model.proofs.FirstStores.{First}
 use Rattle.model.proofs.LogLaws.{addr, overlay, Distinct}
-use Rattle.model.proofs.RingLaws.{Known, RecordsMade}
+use Rattle.model.proofs.RingLaws.{RecordsMade}
+use Rattle.model.specs.Accepted.{Known}
 use Rattle.model.specs.Device.{off, recordStores, taskStores, eventStores, taskLastStores, eventLastStores}
 use Rattle.model.specs.Program.{word, tasks, events, memoryWords, instructions, transaction, number, effectAt}
 use Rattle.model.specs.Serial.{Serial, walk}

@@ -4,7 +4,7 @@ use Prim.Native.Nat.{ℕ, zero, suc, _+_, _-_, _*_, _≤_, _<_, min}
 use mathlib.Core.Path.{_≡_, refl, sym, ap, subst, _∙_}
 use mathlib.Core.Logic.{_⊎_, inl, inr, ⊎-elim, _≢_}
 use mathlib.Core.Bool.{true, false}
-use mathlib.Core.List.{List, [], _∷_, _++_}
+use mathlib.Core.List.{List, _++_}
 use mathlib.Core.Option.{some}
 use native.Mathlib.Numerals.{add-one}
 use native.Mathlib.Omega.{arith}
@@ -14,11 +14,12 @@ use borrow.Author.Tests.{lt-ltb, le-ltb, eq-eqb}
 use Rattle.model.proofs.FirstStores.{First, storing-goes, storing-ends}
 use Rattle.model.proofs.Invariant.{Controls, controls, Has, Lengths, Waiting, AtWork, Handles, HeldAt, Lasting, Copying, CopyingAt, TaskCommitAt, EventCommitAt, CommitAt, MineAt, Running, Placed, On, Inv}
 use Rattle.model.proofs.LogLaws.{overlay, overlay-suc}
-use Rattle.model.proofs.RingLaws.{Known, Between, known-between, forward, forward-le, distance-some, distance-head, forward-distance, distance-forward, tail-apart, slot-apart, records-append, records-same, known-append, RecordStore, event-store, datum-store, record-store, tail-store, record-stores, records-made, queueAfter, slot-stays, next-made}
+use Rattle.model.proofs.RingLaws.{Between, known-between, forward, forward-le, distance-some, distance-head, forward-distance, distance-forward, tail-apart, slot-apart, records-append, records-same, known-append, RecordStore, event-store, datum-store, record-store, tail-store, record-stores, records-made, queueAfter, slot-stays, next-made}
 use Rattle.model.proofs.StoreLaws.{apply, requeued, retasked, Inside}
 use Rattle.model.proofs.TestLaws.{pick-true, pick-false, below-or, must-true}
 use Rattle.model.specs.Demand3.{Expected}
 use Rattle.model.specs.Calls.{Call, Step, acceptedEvents}
+use Rattle.model.specs.Accepted.{Known}
 use Rattle.model.specs.Device.{Out, out, refuse, judged, fresh, withHandler, moved, recordStores, handlerStep, storing, taskStores, eventStores, taskLastStores, eventLastStores, lastStores, pairSound, copyStep}
 use Rattle.model.specs.Program.{word, tasks, events, memoryWords}
 use Rattle.model.specs.Serial.{Serial, given, tell, withRecords, accept}

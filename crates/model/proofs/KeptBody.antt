@@ -7,16 +7,16 @@ use mathlib.Core.List.{List, _∷_}
 use native.Mathlib.Nat.{zero-add, add-suc, suc-add}
 use native.Mathlib.Numerals.{add-one}
 use native.Mathlib.Omega.{arith}
-use borrow.Author.Tests.{lt-ltb, eqb-true, eqb-false, eq-eqb, ltb-true, ltb-false, not-true}
+use borrow.Author.Tests.{lt-ltb, eqb-true, eqb-false, eq-eqb, ltb-true, not-true}
 use lib.ListN.{length, set, replicate}
 use lib.Seq.{getD-set-other, getD-set-same}
 use Rattle.model.proofs.Invariant.{Lengths, Waiting, StillAt, Copying, MineAt, Running, EndingAt, HalfSaved, On, Inv}
 use Rattle.model.proofs.Kept.{Kept, refused-kept, stored-kept, copies-left, running-later, known-waiting, first-head, first-pending}
 use Rattle.model.proofs.LogLaws.{addr, overlay, overlay-zero, overlay-other, overlay-elsewhere, overlay-pair, overlay-overwrite, overlay-append, Distinct, find-pair, find-nothing}
-use Rattle.model.proofs.ProgramLaws.{Leads, Sound}
-use Rattle.model.proofs.RingLaws.{Known, after-le, between-first, records-head}
+use Rattle.model.proofs.RingLaws.{after-le, between-first, records-head}
 use Rattle.model.proofs.StoreLaws.{apply, relogged, recommitted, Inside}
 use Rattle.model.proofs.TestLaws.{pick-case, pick-true, below-or, and-true, and-left, and-right, must-true}
+use Rattle.model.specs.Accepted.{Known, LegalEffect, Sound}
 use Rattle.model.specs.Answer.{refusal}
 use Rattle.model.specs.Calls.{Step}
 use Rattle.model.specs.Demand3.{isIn, mayMeet}
@@ -28,7 +28,7 @@ use Rattle.model.specs.Test.{pick, _or_}
 use Rattle.model.specs.Types.{Answer, Body, Checked, Device, Effect, Found, Half, Refusal, Run}
 
 -- no store of a body's end is made
-ending-none : (p : List ℕ) (v : Store) (d : Device) (b : Body) (i j : ℕ) (f : Effect) → Leads p i j f → EndingAt p v d b 0 f
+ending-none : (p : List ℕ) (v : Store) (d : Device) (b : Body) (i j : ℕ) (f : Effect) → LegalEffect p i j f → EndingAt p v d b 0 f
 unfolding taskStores eventStores
 ending-none p v d b i j (Effect.Compute a x) h = refl
 ending-none p v d b i j (Effect.Jump k) h = refl
@@ -56,7 +56,7 @@ module _ (p : List ℕ) (sound : Sound p) (v : Store) (lengths : Lengths p v) (d
         count-in = s;
         placed = (
           (still, (x, mine, h)),
-          ending-none p (relogged v log) (moved d r (Run b j 0) l) b (number p b) j (effectAt p (number p b) j r) (sound .leads (number p b) j r (h .body-in) (h .place-in)),
+          ending-none p (relogged v log) (moved d r (Run b j 0) l) b (number p b) j (effectAt p (number p b) j r) (sound .legal (number p b) j r (h .body-in) (h .place-in)),
         );
       })
 
@@ -229,7 +229,7 @@ module _ (p : List ℕ) (sound : Sound p) (v : Store) (lengths : Lengths p v) (d
       pick-case (λ (o : Out). Kept p v z k Step o) (λ s. half-saved y w e below (find-nothing (v .log) (d .count) y q) (ltb-true _ _ s))
       (λ s. refused-kept p v d z k Step Refusal.LogFull refl (inr i))
 
-  pub rest-kept : (f : Effect) → effectAt p n j (d .regs) ≡ f → Leads p n j f → HalfSaved p (v .log) (v .pairs) (d .count) f → Kept p v z k Step (saveRest d b j f)
+  pub rest-kept : (f : Effect) → effectAt p n j (d .regs) ≡ f → LegalEffect p n j f → HalfSaved p (v .log) (v .pairs) (d .count) f → Kept p v z k Step (saveRest d b j f)
   unfolding saveRest tell apply advance
   rest-kept (Effect.Compute a y) e leads t = absurd t
   rest-kept (Effect.Jump a) e leads t = absurd t
@@ -433,25 +433,25 @@ task-last : (p : List ℕ) (sound : Sound p) (v : Store) (lengths : Lengths p v)
     (i : On p v d z k) (still : StillAt v z) (b : Body) (j x : ℕ)
     (mine : MineAt v x b)
     (h : Running p (v .memory) (v .log) (z .memory) k b x j (d .regs) (d .count)) (a : ℕ)
-    → effectAt p (number p b) j (d .regs) ≡ Effect.EndTask a → Leads p (number p b) j (Effect.EndTask a) → v .count ≡ d .count → v .pending ≡ a
+    → effectAt p (number p b) j (d .regs) ≡ Effect.EndTask a → LegalEffect p (number p b) j (Effect.EndTask a) → v .count ≡ d .count → v .pending ≡ a
     → v .pendingOpen ≡ newOpen (transaction p (number p b)) (transaction p a)
     → Kept p v z k Step (out (to Phase 1) (fresh true) (Answer.Committed b))
 unfolding number
 task-last p sound v lengths d z k i still (Body.Task t) j x mine h a e leads count pending pendingOpen =
-    task-commits p sound v lengths d z k i still t j x mine h a e (leads .1) count pending pendingOpen
+    task-commits p sound v lengths d z k i still t j x mine h a e (leads .0) count pending pendingOpen
 task-last p sound v lengths d z k i still (Body.Event n) j x mine h a e leads count pending pendingOpen =
-    let l : tasks p + n < tasks p = ltb-true _ _ (leads .0) in absurd (omega arith)
+    absurd (omega (arith, leads .1))
 
 event-last : (p : List ℕ) (sound : Sound p) (v : Store) (lengths : Lengths p v) (d : Device) (z : Serial) (k : ℕ)
     (i : On p v d z k) (still : StillAt v z) (b : Body) (j x : ℕ)
     (mine : MineAt v x b)
     (h : Running p (v .memory) (v .log) (z .memory) k b x j (d .regs) (d .count))
-    → effectAt p (number p b) j (d .regs) ≡ Effect.EndEvent → Leads p (number p b) j Effect.EndEvent → v .count ≡ d .count
+    → effectAt p (number p b) j (d .regs) ≡ Effect.EndEvent → LegalEffect p (number p b) j Effect.EndEvent → v .count ≡ d .count
     → v .pending ≡ after (v .records) (v .head)
     → Kept p v z k Step (out (to Phase 2) (fresh true) (Answer.Committed b))
 unfolding number
 event-last p sound v lengths d z k i still (Body.Task t) j x mine h e leads count pending =
-    let l : tasks p ≤ t = ltb-false _ _ leads in absurd (omega (arith, mine .0, still .task-is, i .held .tasked .task-in))
+    absurd (omega (arith, leads, mine .0, still .task-is, i .held .tasked .task-in))
 event-last p sound v lengths d z k i still (Body.Event n) j x mine h e leads count pending =
     event-commits p sound v lengths d z k i still n j x mine h e count pending
 
@@ -459,7 +459,7 @@ module _ (p : List ℕ) (sound : Sound p) (v : Store) (lengths : Lengths p v) (d
     (i : On p v d z k) (still : StillAt v z) (b : Body) (j x : ℕ)
     (mine : MineAt v x b)
     (h : Running p (v .memory) (v .log) (z .memory) k b x j (d .regs) (d .count)) where
-  task-end-kept : (a : ℕ) → effectAt p (number p b) j (d .regs) ≡ Effect.EndTask a → Leads p (number p b) j (Effect.EndTask a) → (c : ℕ)
+  task-end-kept : (a : ℕ) → effectAt p (number p b) j (d .regs) ≡ Effect.EndTask a → LegalEffect p (number p b) j (Effect.EndTask a) → (c : ℕ)
       → EndingAt p v d b c (Effect.EndTask a)
       → Kept p v z k Step (storing (taskStores p (number p b) a (d .count)) c (moved d (d .regs) (Run b j (c + 1)) (d .count)) (fresh true) (Answer.Committed b))
   unfolding storing pick taskStores eventStores apply
@@ -476,7 +476,7 @@ module _ (p : List ℕ) (sound : Sound p) (v : Store) (lengths : Lengths p v) (d
       task-last p sound v lengths d z k i still b j x mine h a e leads count pending open′
   task-end-kept a e leads (suc (suc (suc (suc c)))) (l, made) = absurd (omega arith)
 
-  event-end-kept : effectAt p (number p b) j (d .regs) ≡ Effect.EndEvent → Leads p (number p b) j Effect.EndEvent → (c : ℕ)
+  event-end-kept : effectAt p (number p b) j (d .regs) ≡ Effect.EndEvent → LegalEffect p (number p b) j Effect.EndEvent → (c : ℕ)
       → EndingAt p v d b c Effect.EndEvent
       → Kept p v z k Step (storing (eventStores v (d .count)) c (moved d (d .regs) (Run b j (c + 1)) (d .count)) (fresh true) (Answer.Committed b))
   unfolding storing pick taskStores eventStores apply
@@ -489,15 +489,15 @@ module _ (p : List ℕ) (sound : Sound p) (v : Store) (lengths : Lengths p v) (d
   event-end-kept e leads (suc (suc zero)) (l, (count, (pending, _))) = event-last p sound v lengths d z k i still b j x mine h e leads count pending
   event-end-kept e leads (suc (suc (suc c))) (l, made) = absurd (omega arith)
 
-  pub act-kept : (c : ℕ) (f : Effect) → effectAt p (number p b) j (d .regs) ≡ f → Leads p (number p b) j f → EndingAt p v d b c f → Kept p v z k Step (act p v d b j c f)
+  pub act-kept : (c : ℕ) (f : Effect) → effectAt p (number p b) j (d .regs) ≡ f → LegalEffect p (number p b) j f → EndingAt p v d b c f → Kept p v z k Step (act p v d b j c f)
   unfolding act advance refusal isIn mayMeet _or_
-  act-kept c (Effect.Compute a y) e leads t = works p sound v lengths d z k i still b j x mine h (Effect.Compute a y) e (j + 1) (set (d .regs) a y) leads (λ g. refl)
+  act-kept c (Effect.Compute a y) e leads t = works p sound v lengths d z k i still b j x mine h (Effect.Compute a y) e (j + 1) (set (d .regs) a y) (leads .1) (λ g. refl)
   act-kept c (Effect.Jump a) e leads t = works p sound v lengths d z k i still b j x mine h (Effect.Jump a) e a (d .regs) leads (λ g. refl)
   act-kept c (Effect.Read a y) e leads t =
       pick-case (λ (o : Out). Kept p v z k Step o)
       (λ s.
       let below : y < length (v .memory) = omega (arith, ltb-true y (memoryWords p) s, lengths .memory-length) in
-      works p sound v lengths d z k i still b j x mine h (Effect.Read a y) e (j + 1) _ leads
+      works p sound v lengths d z k i still b j x mine h (Effect.Read a y) e (j + 1) _ (leads .1)
       (λ g. pick-true _ _ s ∙ ap (λ (m : ℕ). walk g p (number p b) (j + 1) (set (d .regs) a m) (overlay (v .memory) (v .log) (d .count))) (sym (shown-is v (d .count) y (h .distinct) below))))
       (λ s. refused-kept p v d z k Step Refusal.Address refl (inr i))
   act-kept c (Effect.Write y w) e leads t =

@@ -1,7 +1,7 @@
 -- Boot, step, post and cut keep the invariant, over the parts of a store. Assumes nothing.
 use Prim.Native.Nat.{ℕ, suc, _≤_, _<_, min}
 use mathlib.Core.Path.{_≡_, refl, sym, ap, _∙_}
-use mathlib.Core.Logic.{_⊎_, inl, inr, ⊎-elim, _≢_}
+use mathlib.Core.Logic.{_⊎_, inl, inr, ⊎-elim}
 use mathlib.Core.List.{List}
 use native.Mathlib.Omega.{arith}
 use lib.Dec.{eqb}
@@ -10,9 +10,9 @@ use Rattle.model.proofs.Invariant.{Lengths, Handles, HeldAt, CopyingAt,
 use Rattle.model.proofs.Kept.{Kept, placed-requeued, handler-kept, copies-left, commit-kept}
 use Rattle.model.proofs.KeptBody.{choose-kept, act-kept, rest-kept}
 use Rattle.model.proofs.LogLaws.{overlay, overlay-zero, overlay-again}
-use Rattle.model.proofs.ProgramLaws.{Sound}
 use Rattle.model.proofs.StoreLaws.{apply}
 use Rattle.model.proofs.TestLaws.{pick-true, pick-false}
+use Rattle.model.specs.Accepted.{Sound}
 use Rattle.model.specs.Calls.{Boot, Step, Cut, Post}
 use Rattle.model.specs.Device.{out, judged, fresh, off, turnedOn, withHandler, recordStores, taskLastStores, eventLastStores, placeStep, nextStep}
 use Rattle.model.specs.Program.{number, effectAt, events}
@@ -35,11 +35,11 @@ module _ (p : List ℕ) (sound : Sound p) (v : Store) (lengths : Lengths p v) (d
   place-kept rest (Run b j c) ((s, (x, m, r)), e) =
       let f = effectAt p (number p b) j (d .regs) in
       rw (body-sound p v d z k i sound (Run b j c) b j (s, (x, m, r)) (run-fits p v d z k i b j c f e))
-      (act-kept p sound v lengths d z k i s b j x m r c f refl (sound .leads (number p b) j (d .regs) (r .body-in) (r .place-in)) e)
+      (act-kept p sound v lengths d z k i s b j x m r c f refl (sound .legal (number p b) j (d .regs) (r .body-in) (r .place-in)) e)
   place-kept rest (Half b j) ((s, (x, m, r)), e) =
       let f = effectAt p (number p b) j (d .regs) in
       rw (body-sound p v d z k i sound (Half b j) b j (s, (x, m, r)) (half-fits p v d z k i b j (d .count) f e))
-      (rest-kept p sound v lengths d z k i s b j x m r f refl (sound .leads (number p b) j (d .regs) (r .body-in) (r .place-in)) e)
+      (rest-kept p sound v lengths d z k i s b j x m r f refl (sound .legal (number p b) j (d .regs) (r .body-in) (r .place-in)) e)
 
   pub next-kept : (h : Handler) → d .handler ≡ h → Handles p (v .queue) (v .records) (v .head) (v .tail) (z .posted) h → Kept p v z k Step (nextStep p v d h)
   unfolding nextStep

@@ -2,7 +2,7 @@
 -- Assumes nothing.
 use Prim.Native.Nat.{ℕ, suc, _≤_, _<_}
 use mathlib.Core.Path.{_≡_, refl, sym, ap, _∙_}
-use mathlib.Core.Logic.{inl, inr, _≢_}
+use mathlib.Core.Logic.{inl, inr}
 use mathlib.Core.Bool.{Bool, true, false, not}
 use mathlib.Core.List.{List}
 use mathlib.Core.Option.{some}
@@ -12,9 +12,9 @@ use Rattle.model.proofs.Checks.{rules-obeyed, early-obeyed, device-soun
 use Rattle.model.proofs.Invariant.{Lengths, On, Inv}
 use Rattle.model.proofs.Kept.{Kept, refused-kept, InsideOf}
 use Rattle.model.proofs.KeptCalls.{held-of, resumes-of, turned-off-kept, turned-on-kept, next-kept, posted-kept}
-use Rattle.model.proofs.ProgramLaws.{Sound}
 use Rattle.model.proofs.StoreLaws.{viewAt, apply, Sized, view-is, view-settled, settled-sized, lengths-are, rule-kept}
 use Rattle.model.proofs.TestLaws.{clash, must-true, then-skip}
+use Rattle.model.specs.Accepted.{Sound}
 use Rattle.model.specs.Answer.{refusal}
 use Rattle.model.specs.Calls.{Call, Boot, Step, Cut, Post, call}
 use Rattle.model.specs.Demand3.{isIn, mayMeet, Expected}

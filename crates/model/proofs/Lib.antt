@@ -14,6 +14,7 @@ pub mod SerialLaws
 pub mod Fresh
 pub mod Recovery
 pub mod Demand3
+pub mod Passed
 pub mod Early
 pub mod DeviceLaws
 pub mod LookStays

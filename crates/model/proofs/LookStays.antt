@@ -1,5 +1,5 @@
 -- The early checks of a step pass again after a step that answered chosen, worked, stored or accepted, whatever the words and the
--- device state. What they ask of store and device is `Fit` (Early); first how the stores of a step change it, then a line for each
+-- device state. What they ask of store and device is `Fit` (Looked); first how the stores of a step change it, then a line for each
 -- case of a step (`Made` of DeviceLaws). A commit store isn't among them: its answer is committed. Assumes nothing.
 use Prim.Native.Nat.{ℕ, _+_, _≤_, _<_}
 use mathlib.Core.Path.{_≡_, refl, sym, subst, _∙_}
@@ -9,13 +9,15 @@ use mathlib.Core.List.{List}
 use native.Mathlib.Omega.{arith}
 use lib.ListN.{length}
 use Rattle.model.proofs.DeviceLaws.{atPlace, task-lasts, event-lasts, least-last, Commits, Made, record-made, tail-made, handler, commit-copy, commit-task, commit-open, commit-head, commit-phase, chosen-event, chosen-task, computed, jumped, loaded, overwritten, half-saved, saved, go-count, go-pending, go-open, go-phase, done-count, done-pending, done-phase, Outcome, refused, made, outcome}
-use Rattle.model.proofs.Early.{ControlledBy, control-still, MayRunBy, MayRun, StandsBy, Stands, Attends, Fit, Early, early-fit, look-passes}
+use Rattle.model.proofs.Early.{control-still, Fit, early-fit, look-passes}
+use Rattle.model.proofs.Passed.{sized}
 use Rattle.model.proofs.Kept.{InsideOf}
 use Rattle.model.proofs.LogLaws.{find-pair}
 use Rattle.model.proofs.RingLaws.{forward, forward-le, tail-apart, event-store, datum-store, slot-in, carried-one}
 use Rattle.model.proofs.StoreLaws.{parts, apply, view-after, rule-kept}
 use Rattle.model.proofs.TestLaws.{clash, then-first, then-rest}
 use Rattle.model.specs.Device.{Out, fresh, moved, withHandler, taskLastStores, eventLastStores, lastStores, endStores, look, begun, step}
+use Rattle.model.specs.Accepted.{ControlledBy, MayRunBy, MayRun, StandsBy, Stands, Attends, Looked}
 use Rattle.model.specs.Program.{tasks, memoryWords, word}
 use Rattle.model.specs.Store.{Store, view, carried, after, distance, Write, none, to, settled}
 use Rattle.model.specs.Types.{Body, Checked, Device, Free, Half, Handler, Place, Resting, Run}
@@ -176,12 +178,12 @@ module _ (p : List ℕ) (v : Store) (d : Device) (fit : Fit p v d) where
 -- ---- a step
 
 module _ (p s : List ℕ) (d : Device) where
-  look-after : Early p s d → (w : Write) (e : Device) → InsideOf p (view s) w → Fit p (apply (view s) w) e → look p (settled s w) e ≡ Checked.Accepted
+  look-after : Looked p s d → (w : Write) (e : Device) → InsideOf p (view s) w → Fit p (apply (view s) w) e → look p (settled s w) e ≡ Checked.Accepted
   unfolding look settled apply
   look-after early none e inside fit = look-passes p s e (then-first _ _ (early .passed)) (then-first _ _ (then-rest _ _ (early .passed))) fit
   look-after early (to w x) e inside fit =
       look-passes p (settled s (to w x)) e (then-first _ _ (early .passed)) (rule-kept p s w x ∙ then-first _ _ (then-rest _ _ (early .passed)))
-      (subst (λ (u : Store). Fit p u e) (sym (view-after (memoryWords p) (word s 2) (word s 3) s (early .shaped .sized) w x inside)) fit)
+      (subst (λ (u : Store). Fit p u e) (sym (view-after (memoryWords p) (word s 2) (word s 3) s (sized (early .shaped)) w x inside)) fit)
 
   stays : (o : Out) → Outcome p s d o → soundAfter (o .answer) ≡ true → look p (settled s (o .write)) (o .device) ≡ Checked.Accepted
   unfolding soundAfter

@@ -1,4 +1,5 @@
--- What an accepted program check gives: the sizes, each row, each instruction, and where an instruction leads. Assumes nothing.
+-- What an accepted program check gives, by the names of specs/Accepted.antt: the sizes, each row, each instruction's effect. Demand 3
+-- rests on these. Assumes nothing.
 use Prim.Native.Nat.{ℕ, zero, suc, _+_, _-_, _*_, _≤_, _<_}
 use mathlib.Core.Path.{_≡_, refl, sym, ap, _∙_}
 use mathlib.Core.Bool.{Bool, true, false}
@@ -6,49 +7,72 @@ use mathlib.Core.List.{List, [], _∷_}
 use native.Mathlib.Nat.{not-suc-le-zero, add-zero, add-suc, suc-add, zero-add}
 use native.Mathlib.Omega.{arith}
 use lib.Dec.{ltb, eqb}
-use lib.ListN.{length, getD}
-use borrow.Author.Tests.{ltb-true, leb-true, eqb-true, eq-eqb, le-leb, eqb-false}
-use Rattle.model.proofs.TestLaws.{pick-case, pick-true, clash, and-left, and-right, must-true, must-passed, then-passed, then-first, then-rest, each-passed}
+use lib.ListN.{getD}
+use borrow.Author.Tests.{ltb-true, ltb-false, leb-true, eqb-true, eq-eqb, le-leb, eqb-false}
+use Rattle.model.proofs.TestLaws.{pick-case, pick-true, clash, and-left, and-right, must-true, must-passed, must-then, then-passed, then-first, then-rest, each-passed}
+use Rattle.model.specs.Accepted.{Contents, RowsInside, HasRow, UsableRow, HasBody, Bodies, LegalEffect, Sound}
 use Rattle.model.specs.Check.{contentsRule, rowsInside, limits, due, rowRule, rows, rowUsed, fieldsFit, lastFits, instructionRule, bodyRule, check}
-use Rattle.model.specs.Program.{tasks, events, memoryWords, entry, total, bodies, start, instructions, firstBody, opcode, fieldA, fieldB, code, operand, Bounds, boundsTable, bounds, mayBeLast, instructionTable, decode, effect, effectAt, less, reg}
+use Rattle.model.specs.Program.{tasks, memoryWords, total, bodies, start, instructions, firstBody, opcode, fieldA, fieldB, code, operand, Bounds, boundsTable, bounds, mayBeLast, instructionTable, decode, effect, effectAt, less, reg}
 use Rattle.model.specs.Test.{pick}
-use Rattle.model.specs.Types.{Checked, Instruction, Effect}
+use Rattle.model.specs.Types.{Checked, Instruction}
 
 -- ---- the table of contents
 
-pub record Contents (p : List ℕ) : Type 0 where
-  pub six : 6 ≤ length p
-  pub length-is : length p ≡ total p
-  pub some-task : 1 ≤ tasks p
-  pub most-tasks : tasks p ≤ 32
-  pub most-events : events p ≤ 16
-  pub some-memory : 1 ≤ memoryWords p
-  pub most-memory : memoryWords p ≤ 1024
-  pub entry-is : entry p < tasks p
-
 pub contents-passed : (p : List ℕ) → contentsRule p ≡ Checked.Accepted → Contents p
 unfolding contentsRule
-contents-passed p e0 =
-    let e1 = then-rest _ _ e0 in
-    let e2 = then-rest _ _ e1 in
-    let e3 = then-rest _ _ e2 in
-    let e4 = then-rest _ _ e3 in
-    let e5 = then-rest _ _ e4 in
-    let e6 = then-rest _ _ e5 in
-    let e7 = then-rest _ _ e6 in
-    let e8 = then-rest _ _ e7 in
+contents-passed p e =
+    let (six, e1) = must-then _ _ _ e in
+    let (whole, e2) = must-then _ _ _ e1 in
+    let (mark, e3) = must-then _ _ _ e2 in
+    let (some-task, e4) = must-then _ _ _ e3 in
+    let (most-tasks, e5) = must-then _ _ _ e4 in
+    let (most-events, e6) = must-then _ _ _ e5 in
+    let (some-memory, e7) = must-then _ _ _ e6 in
+    let (most-memory, e8) = must-then _ _ _ e7 in
     record {
-      six = leb-true _ _ (must-passed _ _ (then-first _ _ e0));
-      length-is = eqb-true _ _ (must-passed _ _ (then-first _ _ e1));
-      some-task = leb-true _ _ (must-passed _ _ (then-first _ _ e3));
-      most-tasks = leb-true _ _ (must-passed _ _ (then-first _ _ e4));
-      most-events = leb-true _ _ (must-passed _ _ (then-first _ _ e5));
-      some-memory = leb-true _ _ (must-passed _ _ (then-first _ _ e6));
-      most-memory = leb-true _ _ (must-passed _ _ (then-first _ _ e7));
+      six = leb-true _ _ six;
+      length-is = eqb-true _ _ whole;
+      some-task = leb-true _ _ some-task;
+      most-tasks = leb-true _ _ most-tasks;
+      most-events = leb-true _ _ most-events;
+      some-memory = leb-true _ _ some-memory;
+      most-memory = leb-true _ _ most-memory;
       entry-is = ltb-true _ _ (must-passed _ _ e8);
     }
 
--- ---- the rows
+-- ---- a row
+
+pub inside-passed : (p : List ℕ) → Contents p → rowsInside p ≡ Checked.Accepted → RowsInside p
+unfolding rowsInside
+inside-passed p c e =
+    let fits : firstBody p ≤ total p = leb-true _ _ (must-passed _ _ e) in
+    record { contents = c; inside = omega arith }
+
+pub row-passed : (p : List ℕ) (i : ℕ) → rowUsed p i ≡ Checked.Accepted → UsableRow p i
+unfolding rowUsed limits
+row-passed p i e =
+    let (some, l1) = must-then _ _ _ (then-first _ _ e) in
+    let (most, l2) = must-then _ _ _ l1 in
+    let (behind, e1) = must-then _ _ _ (then-rest _ _ e) in
+    record {
+      some-instruction = leb-true _ _ some;
+      most-instructions = leb-true _ _ most;
+      behind = leb-true _ _ behind;
+      inside = leb-true _ _ (must-passed _ _ e1);
+    }
+
+pub used-passed : (p : List ℕ) (i : ℕ) → HasRow p i → rowUsed p i ≡ Checked.Accepted → HasBody p i
+used-passed p i h e = record { row = h; usable = row-passed p i e }
+
+-- ---- the rows together: each body starts where it is due, so it ends where the next is due, at most at the total
+
+pub due-first : (p : List ℕ) {i : ℕ} → i ≡ 0 → due p i ≡ firstBody p
+unfolding due
+due-first p e = rw e
+
+pub due-next : (p : List ℕ) (j : ℕ) {i : ℕ} → i ≡ suc j → due p i ≡ start p j + 2 * instructions p j
+unfolding due
+due-next p j e = rw e
 
 module _ (p : List ℕ) (passed : rows p ≡ Checked.Accepted) where
   row-is : (i : ℕ) → i < bodies p → rowRule p i ≡ Checked.Accepted
@@ -59,39 +83,38 @@ module _ (p : List ℕ) (passed : rows p ≡ Checked.Accepted) where
   unfolding rowRule
   start-due i h = eqb-true _ _ (must-passed _ _ (then-first _ _ (row-is i h)))
 
-  due-suc : (i : ℕ) → i < bodies p → due p i + 2 * instructions p i ≡ due p (suc i)
-  unfolding due
-  due-suc i h = ap (λ (x : ℕ). x + 2 * instructions p i) (sym (start-due i h))
-
   ends-at-total : due p (bodies p) ≡ total p
   unfolding rows
   ends-at-total = eqb-true _ _ (must-passed _ _ (then-rest _ _ (then-rest _ _ passed)))
 
-  due-first : (i : ℕ) → i ≤ bodies p → firstBody p ≤ due p i
-  due-first zero h = let e : due p zero ≡ firstBody p = unfold due in refl in omega arith
-  due-first (suc i) h = omega (arith, due-first i (omega arith), due-suc i h)
+  due-behind : (i : ℕ) → i ≤ bodies p → firstBody p ≤ due p i
+  due-behind zero h = omega (arith, due-first p {i = 0} refl)
+  due-behind (suc i) h = omega (arith, due-behind i (omega arith), start-due i h, due-next p i {i = suc i} refl)
 
-  due-last : (k i : ℕ) → i + k ≡ bodies p → due p i ≤ total p
-  due-last zero i e = omega (arith, ends-at-total, ap (due p) (sym (add-zero i) ∙ e))
-  due-last (suc k) i e = omega (arith, due-suc i (omega arith), due-last k (suc i) (omega arith))
-
-  limits-passed : (i : ℕ) → i < bodies p → limits p i ≡ Checked.Accepted
-  unfolding rowRule
-  limits-passed i h = then-rest _ _ (row-is i h)
+  -- with k bodies from i on
+  due-inside : (k i : ℕ) → i + k ≡ bodies p → due p i ≤ total p
+  due-inside zero i e = omega (arith, ends-at-total, ap (due p) (sym (add-zero i) ∙ e))
+  due-inside (suc k) i e = omega (arith, due-inside k (suc i) (omega arith), start-due i (omega arith), due-next p i {i = suc i} refl)
 
   row-used : (i : ℕ) → i < bodies p → rowUsed p i ≡ Checked.Accepted
-  unfolding rowUsed
+  unfolding rowRule rowUsed
   row-used i h =
-      let lo : firstBody p ≤ start p i = omega (arith, due-first i (omega arith), start-due i h) in
+      let lo : firstBody p ≤ start p i = omega (arith, due-behind i (omega arith), start-due i h) in
       let hi : start p i + 2 * instructions p i ≤ total p =
-      omega (arith, start-due i h, due-suc i h, due-last (bodies p - suc i) (suc i) (omega arith)) in
-      then-passed (limits-passed i h) (then-passed (must-true _ (le-leb _ _ lo)) (must-true _ (le-leb _ _ hi)))
+      omega (arith, due-next p i {i = suc i} refl, due-inside (bodies p - suc i) (suc i) (omega arith)) in
+      then-passed (then-rest _ _ (row-is i h)) (then-passed (must-true _ (le-leb _ _ lo)) (must-true _ (le-leb _ _ hi)))
+
+pub rows-passed : (p : List ℕ) → Contents p → rows p ≡ Checked.Accepted → Bodies p
+unfolding rows
+rows-passed p c e =
+    let inside = inside-passed p c (then-first _ _ e) in
+    record { rows = inside; body = λ i h. used-passed p i (record { rows = inside; body = h }) (row-used p e i h) }
 
 -- ---- the instructions
 
 -- Two tables of one length, read at one place: what holds of each row, and of the defaults past the end, holds of what is read.
 module _ {A B : Type 0} (P : ℕ → A → B → Type 0) where
-  abbrev Rows : ℕ → List A → List B → Type 0
+  abbrev pub Rows : ℕ → List A → List B → Type 0
   Rows i [] [] = Unit {0}
   Rows i [] (y ∷ ys) = ⊥
   Rows i (x ∷ xs) [] = ⊥
@@ -104,20 +127,28 @@ module _ {A B : Type 0} (P : ℕ → A → B → Type 0) where
   in-tables zero i (x ∷ xs) (y ∷ ys) d e rs past = rw add-zero (rs .0)
   in-tables (suc n) i (x ∷ xs) (y ∷ ys) d e rs past = rw (add-suc i n, ← suc-add i n) (in-tables n (suc i) xs ys d e (rs .1) past)
 
--- Where an instruction of body i at place j leads, if it keeps its rule: inside the body, to a task, or to the end of the body's
--- own kind.
-abbrev pub Leads : List ℕ → ℕ → ℕ → Effect → Type 0
-Leads p i j (Effect.Compute a x) = j + 1 < instructions p i
-Leads p i j (Effect.Jump k) = k < instructions p i
-Leads p i j (Effect.Read a x) = j + 1 < instructions p i
-Leads p i j (Effect.Write x y) = j + 1 < instructions p i
-Leads p i j (Effect.EndTask k) = (ltb i (tasks p) ≡ true) × (k < tasks p)
-Leads p i j Effect.EndEvent = ltb i (tasks p) ≡ false
-Leads p i j Effect.Unknown = ⊥
+-- one row, and the rows after it
+infixr 20 _&_
+pub _&_ : {X Y : Type 0} → X → Y → X × Y
+_&_ x y = (x, y)
+
+-- The opcode table: what holds of each opcode's instruction under its bounds holds of every opcode's; past the table no field will do.
+module _ (p : List ℕ) (i a b k : ℕ) (P : ℕ → Instruction → Type 0) where
+  abbrev pub Fits : ℕ → Bounds → Instruction → Type 0
+  Fits op f x = a < f .a → b < f .b → k < f .k → P op x
+
+  pub by-opcode : Rows Fits 0 (boundsTable (memoryWords p) (tasks p) (instructions p i) (ltb i (tasks p))) (instructionTable a b k)
+      → (op : ℕ) → Fits op (bounds (memoryWords p) (tasks p) (instructions p i) (ltb i (tasks p)) op) (decode op a b k)
+  unfolding bounds decode
+  by-opcode rs op =
+      rw (zero-add op)
+      at (in-tables Fits op 0 (boundsTable (memoryWords p) (tasks p) (instructions p i) (ltb i (tasks p))) (instructionTable a b k) (record { a = 0; b = 0; k = 0 }) Instruction.Unknown rs
+      (λ m x y z. absurd (not-suc-le-zero x)))
 
 module _ (p : List ℕ) (i j a b k : ℕ) (r : List ℕ) (h : j < instructions p i) where
-  abbrev Row : ℕ → Bounds → Instruction → Type 0
-  Row op f x = a < f .a → b < f .b → k < f .k → (j + 1 ≡ instructions p i → mayBeLast op ≡ true) → Leads p i j (effect x r j)
+  -- an instruction that isn't the last of its body, if its opcode may not be
+  abbrev Leads : ℕ → Instruction → Type 0
+  Leads op x = (j + 1 ≡ instructions p i → mayBeLast op ≡ true) → LegalEffect p i j (effect x r j)
 
   inner : (op : ℕ) → mayBeLast op ≡ false → (j + 1 ≡ instructions p i → mayBeLast op ≡ true) → j + 1 < instructions p i
   inner op e l = go (eqb (j + 1) (instructions p i)) refl
@@ -129,75 +160,40 @@ module _ (p : List ℕ) (i j a b k : ℕ) (r : List ℕ) (h : j < instructions p
   either : (t : Bool) → k < instructions p i → j + 1 < instructions p i → pick t k (j + 1) < instructions p i
   either t x y = pick-case (λ (n : ℕ). n < instructions p i) (λ _. x) (λ _. y)
 
-  by-task : (m c : ℕ) (t : Bool) → c < pick t m 0 → (t ≡ true) × (c < m)
+  by-task : (t : Bool) → ltb i (tasks p) ≡ t → k < pick t (tasks p) 0 → (k < tasks p) × (i < tasks p)
   unfolding pick
-  by-task m c true l = (refl, l)
-  by-task m c false l = absurd (not-suc-le-zero l)
+  by-task true e l = (l, ltb-true _ _ e)
+  by-task false e l = absurd (not-suc-le-zero l)
 
-  by-event : (c : ℕ) (t : Bool) → c < pick t 0 1 → t ≡ false
+  by-event : (t : Bool) → ltb i (tasks p) ≡ t → k < pick t 0 1 → tasks p ≤ i
   unfolding pick
-  by-event c true l = absurd (not-suc-le-zero l)
-  by-event c false l = refl
+  by-event true e l = absurd (not-suc-le-zero l)
+  by-event false e l = ltb-false _ _ e
 
-  leads : (op : ℕ) → Row op (bounds (memoryWords p) (tasks p) (instructions p i) (ltb i (tasks p)) op) (decode op a b k)
-  unfolding bounds decode effect mayBeLast pick
-  leads op =
-      rw (zero-add op)
-      at (in-tables Row op 0 (boundsTable (memoryWords p) (tasks p) (instructions p i) (ltb i (tasks p))) (instructionTable a b k) (record { a = 0; b = 0; k = 0 }) Instruction.Unknown (
-        (λ x y z l. inner 0 refl l),
-        (
-          (λ x y z l. inner 1 refl l),
-          (
-            (λ x y z l. inner 2 refl l),
-            (
-              (λ x y z l. inner 3 refl l),
-              (
-                (λ x y z l. inner 4 refl l),
-                (
-                  (λ x y z l. inner 5 refl l),
-                  (
-                    (λ x y z l. inner 6 refl l),
-                    (
-                      (λ x y z l. inner 7 refl l),
-                      (
-                        (λ x y z l. inner 8 refl l),
-                        (
-                          (λ x y z l. inner 9 refl l),
-                          (
-                            (λ x y z l. inner 10 refl l),
-                            (
-                              (λ x y z l. inner 11 refl l),
-                              (
-                                (λ x y z l. z),
-                                (
-                                  (λ x y z l. either (eqb (reg r a) 0) z (inner 13 refl l)),
-                                  (
-                                    (λ x y z l. either (less (reg r a) (reg r b)) z (inner 14 refl l)),
-                                    (
-                                      (λ x y z l. by-task _ k _ z),
-                                      (
-                                        (λ x y z l. by-event k _ z),
-                                        tt,
-                                      ),
-                                    ),
-                                  ),
-                                ),
-                              ),
-                            ),
-                          ),
-                        ),
-                      ),
-                    ),
-                  ),
-                ),
-              ),
-            ),
-          ),
-        ),
-      )
-      (λ m x y z l. absurd (not-suc-le-zero x)))
+  leads : (op : ℕ) → Fits p i a b k Leads op (bounds (memoryWords p) (tasks p) (instructions p i) (ltb i (tasks p)) op) (decode op a b k)
+  unfolding effect mayBeLast pick
+  leads =
+      by-opcode p i a b k Leads
+      ((λ x y z l. (x, inner 0 refl l))  -- SET
+      & (λ x y z l. (x, inner 1 refl l))  -- MOV
+      & (λ x y z l. (x, inner 2 refl l))  -- ADD
+      & (λ x y z l. (x, inner 3 refl l))  -- SUB
+      & (λ x y z l. (x, inner 4 refl l))  -- AND
+      & (λ x y z l. (x, inner 5 refl l))  -- OR
+      & (λ x y z l. (x, inner 6 refl l))  -- XOR
+      & (λ x y z l. (x, inner 7 refl l))  -- SHR
+      & (λ x y z l. (x, inner 8 refl l))  -- LOAD
+      & (λ x y z l. inner 9 refl l)  -- SAVE
+      & (λ x y z l. (x, inner 10 refl l))  -- LOADX
+      & (λ x y z l. inner 11 refl l)  -- SAVEX
+      & (λ x y z l. z)  -- JUMP
+      & (λ x y z l. either (eqb (reg r a) 0) z (inner 13 refl l))  -- JZ
+      & (λ x y z l. either (less (reg r a) (reg r b)) z (inner 14 refl l))  -- JLT
+      & (λ x y z l. by-task _ refl z)  -- GO
+      & (λ x y z l. by-event _ refl z)  -- DONE
+      & tt)
 
-pub instruction-leads : (p : List ℕ) (i j : ℕ) (r : List ℕ) → j < instructions p i → instructionRule p i j ≡ Checked.Accepted → Leads p i j (effectAt p i j r)
+pub instruction-leads : (p : List ℕ) (i j : ℕ) (r : List ℕ) → j < instructions p i → instructionRule p i j ≡ Checked.Accepted → LegalEffect p i j (effectAt p i j r)
 unfolding instructionRule effectAt fieldsFit lastFits
 instruction-leads p i j r h e =
     let w = code p i j in
@@ -208,32 +204,22 @@ instruction-leads p i j r h e =
 
 -- ---- a program that passes the check
 
-pub record Sound (p : List ℕ) : Type 0 where
-  pub passed : check p ≡ Checked.Accepted
-  pub head : contentsRule p ≡ Checked.Accepted
-  pub contents : Contents p
-  pub inside : rowsInside p ≡ Checked.Accepted
-  pub row : (i : ℕ) → i < bodies p → rowUsed p i ≡ Checked.Accepted
-  pub some-instruction : (i : ℕ) → i < bodies p → 0 < instructions p i
-  pub rule : (i j : ℕ) → i < bodies p → j < instructions p i → instructionRule p i j ≡ Checked.Accepted
-  pub leads : (i j : ℕ) (r : List ℕ) → i < bodies p → j < instructions p i → Leads p i j (effectAt p i j r)
-
 pub check-passed : (p : List ℕ) → check p ≡ Checked.Accepted → Sound p
-unfolding check rows bodyRule limits
+unfolding check rows bodyRule
 check-passed p e =
     let c = then-first _ _ e in
     let rs = then-first _ _ (then-rest _ _ e) in
     let body : (i : ℕ) → i < bodies p → bodyRule p i ≡ Checked.Accepted =
     λ i h. rw zero-add at (each-passed (bodyRule p) 0 (bodies p) i (then-rest _ _ (then-rest _ _ e)) h) in
-    let ins : (i j : ℕ) → i < bodies p → j < instructions p i → instructionRule p i j ≡ Checked.Accepted =
+    let rule : (i j : ℕ) → i < bodies p → j < instructions p i → instructionRule p i j ≡ Checked.Accepted =
     λ i j h l. rw zero-add at (each-passed (instructionRule p i) 0 (instructions p i) j (body i h) l) in
     record {
       passed = e;
       head = c;
-      contents = contents-passed p c;
       inside = then-first _ _ rs;
+      rows = inside-passed p (contents-passed p c) (then-first _ _ rs);
       row = row-used p rs;
-      some-instruction = λ i h. leb-true _ _ (must-passed _ _ (then-first _ _ (limits-passed p rs i h)));
-      rule = ins;
-      leads = λ i j r h l. instruction-leads p i j r l (ins i j h l);
+      some-instruction = λ i h. row-passed p i (row-used p rs i h) .some-instruction;
+      rule = rule;
+      legal = λ i j r h l. instruction-leads p i j r l (rule i j h l);
     }

@@ -15,9 +15,9 @@ use Rattle.model.proofs.Invariant.{StillAt, Placed, Resumes, On, Inv}
 use Rattle.model.proofs.Kept.{lasting-in, task-last-is, event-last-is, Remaining, Turn, turn}
 use Rattle.model.proofs.KeptWords.{InvWords, KeptWords, when-on, step-kept, view-at, look-is, boot-is}
 use Rattle.model.proofs.KeptCalls.{held-of, resumes-of, off-inv, on-inv}
-use Rattle.model.proofs.ProgramLaws.{Sound}
 use Rattle.model.proofs.StoreLaws.{viewAt}
 use Rattle.model.proofs.TestLaws.{pick-true, pick-false, must-true}
+use Rattle.model.specs.Accepted.{Sound}
 use Rattle.model.specs.Calls.{Step, unlessRefused, recovered, refused, finish, recovery}
 use Rattle.model.specs.Demand3.{Left, recoverySteps, Recovers}
 use Rattle.model.specs.Device.{Out, out, judged, fresh, off, turnedOn, taskLastStores, eventLastStores, lastStores, boot, cut, copyStep, placeStep, nextStep, step}

@@ -10,12 +10,14 @@ use native.Mathlib.Omega.{arith}
 use lib.Dec.{leb, eqb}
 use lib.ListN.{length}
 use Rattle.model.proofs.DeviceLaws.{judged-case, step-refused, step-goes, step-acts, load-refused, save-refused, save-full, HandlerMade, record-made, tail-made, handler-made, RunsAt, Meets, by-record, by-pair, by-body, load-above, save-above, log-full, Why, looked, met, why}
-use Rattle.model.proofs.Early.{Early, MayRun, look-passed, look-rests}
+use Rattle.model.proofs.Early.{look-rests}
+use Rattle.model.proofs.Passed.{look-passed, sized}
 use Rattle.model.proofs.LookStays.{look-stays}
 use Rattle.model.proofs.Numbers.{Low, low-contents, low-store, low-inside, low-used, low-body}
 use Rattle.model.proofs.RingLaws.{forward, distance-some, slot-apart, RecordStore, event-store, datum-store, slot-in, queueAfter, slot-stays}
 use Rattle.model.proofs.StoreLaws.{apply, requeued, Inside, view-after}
 use Rattle.model.proofs.TestLaws.{clash, must-passed, then-rest, Refuses, refuses-accepted, refuses-must, refuses-then}
+use Rattle.model.specs.Accepted.{Looked, MayRun}
 use Rattle.model.specs.Answer.{refusal}
 use Rattle.model.specs.Calls.{Call, Boot, Step, Cut, Post, call, afterCalls}
 use Rattle.model.specs.Claims.{Stays, address, logFull, uncut, RefusalStays, soundAfter}
@@ -131,10 +133,10 @@ module _ (p s : List ℕ) (d : Device) (r : Refusal) (w : Stays r) (k : Stuck p 
   abbrev After : Out → Type 0
   After o = Stuck p (settled s (o .write)) (o .device) r
 
-  meets : Early p s (withHandler d Resting) × Meets p v (withHandler d Resting) r
+  meets : Looked p s (withHandler d Resting) × Meets p v (withHandler d Resting) r
   meets = by-why (why p s (withHandler d Resting) r k .0)
     where
-      by-why : Why p s (withHandler d Resting) r → Early p s (withHandler d Resting) × Meets p v (withHandler d Resting) r
+      by-why : Why p s (withHandler d Resting) r → Looked p s (withHandler d Resting) × Meets p v (withHandler d Resting) r
       by-why (looked f) = absurd (other-look p s (withHandler d Resting) .with-such r f w)
       by-why (met early rests m) = (early, m)
 
@@ -148,7 +150,7 @@ module _ (p s : List ℕ) (d : Device) (r : Refusal) (w : Stays r) (k : Stuck p 
       let looks = look-stays p s d (ap (λ (o : Out). soundAfter (o .answer)) is ∙ sound) in
       again p v queue t same s′ (withHandler d Resting) refl
       (look-rests p s′ (withHandler d h) (subst (λ (o : Out). look p (settled s (o .write)) (o .device) ≡ Checked.Accepted) is looks))
-      (view-after (memoryWords p) (v .pairs) (v .records) s (meets .0 .shaped .sized) x y inside ∙ parts) r w (meets .1)
+      (view-after (memoryWords p) (v .pairs) (v .records) s (sized (meets .0 .shaped)) x y inside ∙ parts) r w (meets .1)
 
   -- the record at head, if one waits, isn't where the handler stores
   head-stays : (rs : List Record) (w : Write) → RecordStore (v .records) (v .tail) rs w → length rs ≤ v .records - distance (v .records) (v .head) (v .tail)

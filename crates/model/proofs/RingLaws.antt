@@ -12,6 +12,7 @@ use lib.Seq.{getD-set-other, getD-set-same}
 use borrow.Author.Tests.{ltb-true, leb-true, leb-false, eqb-true, eqb-false, le-leb, lt-ltb}
 use Rattle.model.proofs.FirstStores.{First}
 use Rattle.model.proofs.TestLaws.{pick-case, pick-true, pick-false, clash, and-true, and-left, and-right, or-true-left}
+use Rattle.model.specs.Accepted.{Known}
 use Rattle.model.specs.Claims.{FullIsNoRoom}
 use Rattle.model.specs.Control.{between}
 use Rattle.model.specs.Device.{recordStores, knownEvents}
@@ -199,10 +200,6 @@ records-same queue other q (suc n) h f =
     λ i. f 0 (omega arith) i ∷ rest i
 
 -- every event is below E
-abbrev pub Known : List ℕ → List Record → Type 0
-Known p [] = Unit {0}
-Known p (r ∷ rs) = (r .event < events p) × Known p rs
-
 pub known-append : (p : List ℕ) (rs ss : List Record) → Known p rs → Known p ss → Known p (rs ++ ss)
 known-append p [] ss k l = l
 known-append p (r ∷ rs) ss (a, k) l = (a, known-append p rs ss k l)

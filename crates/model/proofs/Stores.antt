@@ -1,15 +1,16 @@
 -- What a step stores: its answer tells whether a store was made, and the word lies inside the store. A line for each case of a step
 -- (DeviceLaws). Assumes nothing.
-use Prim.Native.Nat.{ℕ, _+_, _*_, _≤_, _<_}
+use Prim.Native.Nat.{ℕ, _≤_, _<_}
 use mathlib.Core.List.{List}
-use mathlib.Core.Path.{_≡_, refl, sym, subst}
+use mathlib.Core.Path.{_≡_, refl, subst}
 use native.Mathlib.Omega.{arith}
 use lib.ListN.{length}
 use Rattle.model.proofs.DeviceLaws.{Made, record-made, tail-made, handler, commit-copy, commit-task, commit-open, commit-head, commit-phase, chosen-event, chosen-task, computed, jumped, loaded, overwritten, half-saved, saved, go-count, go-pending, go-open, go-phase, done-count, done-pending, done-phase, Outcome, refused, made, outcome}
-use Rattle.model.proofs.Early.{Early}
+use Rattle.model.proofs.Passed.{sized}
 use Rattle.model.proofs.LogLaws.{find-pair}
 use Rattle.model.proofs.RingLaws.{event-store, datum-store, slot-in}
 use Rattle.model.proofs.StoreLaws.{Sized, Inside}
+use Rattle.model.specs.Accepted.{Looked}
 use Rattle.model.specs.Calls.{isStore}
 use Rattle.model.specs.Claims.{tellsStore, StoreIsTold}
 use Rattle.model.specs.Device.{Out, step}
@@ -42,11 +43,11 @@ Falls p s (to w x) = (index s w < length s) × (length s ≤ 1234)
 abbrev Fine : List ℕ → List ℕ → Out → Type 0
 Fine p s o = (isStore (o .write) ≡ tellsStore (o .answer)) × Falls p s (o .write)
 
-module _ (p s : List ℕ) (d : Device) (early : Early p s d) where
+module _ (p s : List ℕ) (d : Device) (early : Looked p s d) where
   falls : (w : Word) → Inside (memoryWords p) (word s 2) (word s 3) w → (index s w < length s) × (length s ≤ 1234)
   falls w h = (
-    inside-index (memoryWords p) (word s 2) (word s 3) s (early .shaped .sized) w h,
-    omega (arith, early .shaped .sized .length-is, early .contents .most-memory, early .shaped .most-pairs, early .shaped .most-records),
+    inside-index (memoryWords p) (word s 2) (word s 3) s (sized (early .shaped)) w h,
+    omega (arith, early .shaped .shaped .length-is, early .shaped .shaped .most-memory, early .shaped .shaped .sizes .most-pairs, early .shaped .shaped .sizes .most-records),
   )
 
   made-fine : (o : Out) → Made p (view s) d o → Fine p s o

@@ -1,11 +1,14 @@
--- Laws of the choices and checks of specs/Test.antt, and of the Bool tests that they are made of. Assumes nothing.
-use Prim.Native.Nat.{ℕ, zero, suc, _+_, _≤_, _<_}
-use mathlib.Core.Path.{_≡_, refl, subst}
+-- Laws of the choices and checks of specs/Test.antt, and of the Bool tests that they are made of: what an accepted check says of its
+-- parts, and what a function answers that makes the checks one by one. Assumes nothing.
+use Prim.Native.Nat.{ℕ, zero, suc, _+_, _-_, _≤_, _<_}
+use mathlib.Core.Path.{_≡_, refl, sym, subst, ap, _∙_}
 use mathlib.Core.Logic.{_≢_}
 use mathlib.Core.Bool.{Bool, true, false, not}
 use lib.Dec.{eqb, ltb}
-use borrow.Author.Tests.{eqb-true, eqb-false, ltb-true, ltb-false}
+use borrow.Author.Tests.{eqb-true, eqb-false, ltb-true, ltb-false, lt-ltb, le-ltb, le-leb, lt-leb, eq-eqb, ne-eqb}
+use borrow.Author.Tests.{not-true as of-not-true, not-false as of-not-false}
 use native.Mathlib.Nat.{not-suc-le-zero, le-of-suc-le-suc, add-zero, add-suc, suc-add}
+use native.Mathlib.Numerals.{add-one}
 use native.Mathlib.Omega.{arith}
 use Rattle.model.specs.Test.{pick, _and_, _or_, must, _then_, each}
 use Rattle.model.specs.Types.{Checked, Refusal}
@@ -75,7 +78,7 @@ below-or {X = X} a b f g = go (ltb a b) refl
     go true e = f (ltb-true _ _ e)
     go false e = g (ltb-false _ _ e)
 
--- ---- checks
+-- ---- an accepted check
 
 pub must-true : {b : Bool} (r : Refusal) → b ≡ true → must b r ≡ Checked.Accepted
 unfolding must
@@ -104,6 +107,10 @@ unfolding _then_
 then-rest Checked.Accepted b e = e
 then-rest (Checked.Refused r) b e = impossible (cc)
 
+-- a check that starts with a test
+pub must-then : (b : Bool) (r : Refusal) (y : Checked) → (must b r then y) ≡ Checked.Accepted → (b ≡ true) × (y ≡ Checked.Accepted)
+must-then b r y e = (must-passed b r (then-first (must b r) y e), then-rest (must b r) y e)
+
 pub each-passed : (f : ℕ → Checked) (i k j : ℕ) → each f i k ≡ Checked.Accepted → j < k → f (i + j) ≡ Checked.Accepted
 unfolding each
 each-passed f i zero j e h = absurd (not-suc-le-zero h)
@@ -111,6 +118,83 @@ each-passed f i (suc k) zero e h = rw add-zero (then-first _ _ e)
 each-passed f i (suc k) (suc j) e h =
     let r : f (suc i + j) ≡ Checked.Accepted = each-passed f (suc i) k j (then-rest _ _ e) (le-of-suc-le-suc h) in
     rw (add-suc i j, ← suc-add i j) r
+
+-- ---- checks in a row
+
+pub then-assoc : (a b c : Checked) → ((a then b) then c) ≡ (a then (b then c))
+unfolding _then_
+then-assoc Checked.Accepted b c = refl
+then-assoc (Checked.Refused r) b c = refl
+
+pub then-accepted : (a : Checked) → (a then Checked.Accepted) ≡ a
+unfolding _then_
+then-accepted Checked.Accepted = refl
+then-accepted (Checked.Refused r) = refl
+
+-- ---- a function that makes the checks
+
+-- from the facts that its tests leave to the tests of its definition
+pub ruleset tests = (lt-ltb, le-ltb, le-leb, lt-leb, eq-eqb, ne-eqb)
+
+-- a test t made by another function, which answered r, where the branch is on `not r`
+pub passed : {r t : Bool} → r ≡ t → not r ≡ false → t ≡ true
+passed {r} e h = sym e ∙ of-not-false r h
+
+pub failed : {r t : Bool} → r ≡ t → not r ≡ true → t ≡ false
+failed {r} e h = sym e ∙ of-not-true r h
+
+-- its answer r, with what it gives where it accepts
+pub answered : {P : Type 0} {x r : Checked} → (x ≡ Checked.Accepted → P) → r ≡ x → (r ≡ x) × (r ≡ Checked.Accepted → P)
+answered law e = (e, λ a. law (sym e ∙ a))
+
+-- a test at the end of a row, and one with more to come
+pub must-refuses : {b : Bool} (r : Refusal) → b ≡ false → Checked.Refused r ≡ must b r
+unfolding must
+must-refuses r e = rw e
+
+pub must-accepts : {b : Bool} (r : Refusal) → b ≡ true → Checked.Accepted ≡ must b r
+must-accepts r e = sym (must-true r e)
+
+pub must-stop : {b : Bool} (r : Refusal) (y : Checked) → b ≡ false → Checked.Refused r ≡ (must b r then y)
+unfolding must _then_
+must-stop r y e = rw e
+
+pub must-go : {b : Bool} (r : Refusal) (y : Checked) → b ≡ true → y ≡ (must b r then y)
+must-go r y e = sym (then-skip y (must-true r e))
+
+-- a check x with more to come, of which the answer is r
+pub then-stop : (x y : Checked) {r : Checked} {g : Refusal} → r ≡ x → r ≡ Checked.Refused g → r ≡ (x then y)
+unfolding _then_
+then-stop x y h t = rw (← h, t)
+
+pub then-go : (x y : Checked) {r : Checked} → r ≡ x → r ≡ Checked.Accepted → y ≡ (x then y)
+then-go x y h t = sym (then-skip y (sym h ∙ t))
+
+-- answers joined one by one, g after f and x, for the checks in a row: the last one, one before others, and the first
+pub last : {g x a c : Checked} (f : Checked) → g ≡ (f then x) → x ≡ a → (f then a) ≡ c → g ≡ c
+last f e h k = e ∙ rw h k
+
+pub next : {g x a c : Checked} (f b : Checked) → g ≡ (f then x) → x ≡ a → (f then (a then b)) ≡ c → (g then b) ≡ c
+next {g} {x} {a} {c} f b e h k = rw (e, then-assoc f x b, h) k
+
+pub begin : {x a : Checked} (b : Checked) → x ≡ a → (x then b) ≡ (a then b)
+begin b h = ap (λ (z : Checked). z then b) h
+
+-- a loop through `each` that has come to check i of n
+module _ (f : ℕ → Checked) (n i : ℕ) where
+  pub each-none : n ≤ i → Checked.Accepted ≡ each f i (n - i)
+  unfolding each
+  each-none h = let e : n - i ≡ 0 = omega arith in rw e
+
+  each-suc : i < n → each f i (n - i) ≡ (f i then each f (i + 1) (n - (i + 1)))
+  unfolding each
+  each-suc h = let e : n - i ≡ suc (n - (i + 1)) = omega arith in rw (e, add-one i)
+
+  pub each-stop : {r : Checked} {g : Refusal} → i < n → r ≡ f i → r ≡ Checked.Refused g → r ≡ each f i (n - i)
+  each-stop h a t = rw (each-suc h) (then-stop _ _ a t)
+
+  pub each-go : {r : Checked} → i < n → r ≡ f i → r ≡ Checked.Accepted → each f (i + 1) (n - (i + 1)) ≡ each f i (n - i)
+  each-go h a t = rw (each-suc h) (then-go _ _ a t)
 
 -- ---- what a check refuses with
 

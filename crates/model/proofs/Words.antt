@@ -14,11 +14,11 @@ use lib.ListN.{length, getD, take, drop, set, replicate, length-set}
 use lib.Seq.{getD-drop}
 use lib.Signed.{shrZ}
 use Rattle.model.proofs.DeviceLaws.{judged-case, atPlace, most-last, Commits, Acts, RunsAt, HandlerMade, record-made, tail-made, Made, handler, commit-copy, commit-task, commit-open, commit-head, commit-phase, chosen-event, chosen-task, computed, jumped, loaded, overwritten, half-saved, saved, go-count, go-pending, go-open, go-phase, done-count, done-pending, done-phase, Outcome, refused, made, outcome}
-use Rattle.model.proofs.Early.{Early, body-passed}
 use Rattle.model.proofs.Fresh.{format-passed}
-use Rattle.model.proofs.ProgramLaws.{Sound}
 use Rattle.model.proofs.RingLaws.{after-le, forward-le, Member, here, there, RecordStore, event-store, datum-store, carried-one, record-stores}
+use Rattle.model.proofs.Passed.{body-passed}
 use Rattle.model.proofs.TestLaws.{pick-case, and-left, and-right}
+use Rattle.model.specs.Accepted.{Looked, Sound}
 use Rattle.model.specs.Calls.{Call, Boot, Step, Cut, Post, call}
 use Rattle.model.specs.Claims.{Words, BodyWords, PlaceWords, HandlerWords, DeviceWords, CallWords, WordsStayWords, FormatStaysWords}
 use Rattle.model.specs.Device.{Out, judged, fresh, moved, withHandler, boot, cut, post, begun, shown, step}
@@ -242,13 +242,13 @@ module _ (p s : List ℕ) (d : Device) (ps : Words p) (ss : Words s) (ds : Devic
   end-words : {b : Body} {j c : ℕ} {f : Effect} → RunsAt p v d b j c f → (n : ℕ) → n < 2 ^ 16 → DeviceWords (atPlace d (Run b j n))
   end-words {b} {j} h n l = let xs = acts-words h .0 in went-words (Run b j n) (xs .0, (xs .1 .0, l))
 
-  module _ (early : Early p s d) where
+  module _ (early : Looked p s d) where
     after-words : (x : ℕ) → x ≤ v .records → after (v .records) x < 2 ^ 16
     after-words x l = omega (arith, after-le (v .records) x l, ss 3)
 
     onward-words : {c : ℕ} → Commits v d c → DeviceWords (atPlace d (Free (c + 1)))
     onward-words {c} h =
-        went-words (Free (c + 1)) (omega (arith, h .left, most-last v, early .control .count-in (h .phase), early .shaped .most-pairs))
+        went-words (Free (c + 1)) (omega (arith, h .left, most-last v, early .control .count-in (h .phase), early .shaped .shaped .sizes .most-pairs))
 
     handler-words : {c e x : ℕ} → HandlerWords (Storing c e x) → (o : Out) → HandlerMade p v d c e x o → OutWords o
     handler-words {c = c} {e = e} {x = x} h o (record-made a s) = record { write = store-words _ s; device = handled-words _ (next, h .1, h .2) }
@@ -281,7 +281,7 @@ module _ (p s : List ℕ) (d : Device) (ps : Words p) (ss : Words s) (ds : Devic
     made-words o (half-saved h l e k) = let w = acts-words h in record { write = omega (arith, ps 3); device = went-words _ (w .0 .0, w .0 .1 .0) }
     made-words o (saved h) =
         let w = acts-words h in
-        record { write = w .2; device = moved-words _ _ _ (ds .regs-length) (ds .regs) (w .0 .0, (w .1, omega arith)) (omega (arith, h .stands .2, early .shaped .most-pairs)) }
+        record { write = w .2; device = moved-words _ _ _ (ds .regs-length) (ds .regs) (w .0 .0, (w .1, omega arith)) (omega (arith, h .stands .2, early .shaped .shaped .sizes .most-pairs)) }
     made-words o (go-count h) = record { write = ds .count; device = end-words h 1 (omega arith) }
     made-words o (go-pending h) = record { write = acts-words h .2; device = end-words h 2 (omega arith) }
     made-words o (go-open {t = t} {k = k} h) = record { write = open-words t k; device = end-words h 3 (omega arith) }
@@ -321,7 +321,7 @@ unfolding formatted storeContents storeMark sizesRule
 formatted-words p sound l q sizes ps i =
     let most-pairs : l ≤ 64 = leb-true _ _ (and-left _ _ (and-right _ _ sizes)) in
     let most-records : q ≤ 32 = leb-true _ _ (and-right _ _ (and-right _ _ (and-right _ _ sizes))) in
-    let most-memory : memoryWords p ≤ 1024 = sound .contents .most-memory in
+    let most-memory : memoryWords p ≤ 1024 = sound .rows .contents .most-memory in
     let zeros = zeros-below (storeLength (memoryWords p) l q - 10) in
     every-at (λ x. x < 2 ^ 16) (formatted p l q) i 0 (
       omega arith,

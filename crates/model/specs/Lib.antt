@@ -5,6 +5,7 @@ pub mod Check
 pub mod Store
 pub mod Control
 pub mod Device
+pub mod Accepted
 pub mod Answer
 pub mod Calls
 pub mod Serial

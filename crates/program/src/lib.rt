@@ -3,7 +3,7 @@
 // Each contract cites the definition of crates/model that it equals.
 ghost use mathlib.Core.Path.{_≡_};
 ghost use Rattle.model.specs.Check.{contentsRule, check};
-ghost use Rattle.program.specs.Accepted.{Contents, WellFormed};
+ghost use Rattle.model.specs.Accepted.{Contents, Sound};
 use model::Checked;
 use model::Refusal;
 
@@ -51,7 +51,7 @@ pub fn contents(p: &[u16]) -> Checked
 // The program check: refusals 1 to 5, in this order.
 pub fn check(p: &[u16]) -> Checked
     ensures { λ r. ⌜ r ≡ check (now (p .entry)) ⌝ }
-    ensures given { λ r. ⌜ (r ≡ Checked.Accepted → WellFormed (now (p .entry))) ⌝ }
+    ensures given { λ r. ⌜ (r ≡ Checked.Accepted → Sound (now (p .entry))) ⌝ }
 {
     let a = contents(p);
     let Checked::Accepted = a else {

@@ -5,7 +5,7 @@ ghost use lib.Dec.{ltb};
 ghost use Rattle.model.specs.Check.{rowsInside, limits, due, rowRule, rows, rowUsed};
 ghost use Rattle.model.specs.Program.{bodies, firstBody, start, instructions, transaction};
 ghost use Rattle.model.specs.Test.{pick, each};
-ghost use Rattle.program.specs.Accepted.{Contents, RowsInside, HasRow, HasBody, Bodies};
+ghost use Rattle.model.specs.Accepted.{Contents, RowsInside, HasRow, HasBody, Bodies};
 use model::Checked;
 use model::Refusal;
 

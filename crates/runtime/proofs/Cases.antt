@@ -6,9 +6,8 @@ use mathlib.Core.Path.{_≡_}
 use mathlib.Core.List.{List}
 use native.Mathlib.Omega.{arith}
 use lib.ListN.{length}
-use Rattle.device.specs.Looked.{Looked}
+use Rattle.model.specs.Accepted.{Looked, Stands}
 use Rattle.model.proofs.DeviceLaws.{task-lasts, event-lasts}
-use Rattle.model.proofs.Early.{Stands}
 use Rattle.model.specs.Device.{lastStores}
 use Rattle.model.specs.Program.{word}
 use Rattle.model.specs.Store.{view}
@@ -17,10 +16,10 @@ use Rattle.model.specs.declared.Place.{Place}
 
 module _ (p s : List ℕ) (d : Device) (h : Looked p s d) (n : ℕ) (e : d .place ≡ Place.Free n) (ne : word s 8 ≡ 0 → ⊥) where
   pub copies-fit : word s 11 ≤ word s 2
-  copies-fit = h .early .control .count-in ne
+  copies-fit = h .control .count-in ne
 
   left : n < word s 11 + length (lastStores (view s))
-  left = let stands : Stands p (view s) (d .count) (Place.Free n) = rw e at (h .early .place) in stands .1 ne
+  left = let stands : Stands p (view s) (d .count) (Place.Free n) = rw e at (h .place) in stands .1 ne
 
   pub task-left : word s 8 ≡ 1 → n < word s 11 + 3
   task-left q = omega (arith, left, task-lasts (view s) q)

@@ -1,4 +1,2 @@
 -- The laws that belong to no one function.
-pub mod Checks
-pub mod Accepted
 pub mod Parts

@@ -1,2 +1,1 @@
-pub mod Shaped
 pub mod Written

@@ -4,8 +4,7 @@ use model::Refusal;
 ghost use mathlib.Core.Path.{_≡_};
 ghost use Prim.Native.Nat.{_≤_};
 ghost use Rattle.model.specs.Store.{logAt, queueAt, storeLength, sizesRule, storeRule};
-ghost use Rattle.program.specs.Accepted.{Contents};
-ghost use Rattle.store.specs.Shaped.{Sizes, ShapedFor};
+ghost use Rattle.model.specs.Accepted.{Contents, Sizes, ShapedFor};
 
 pub const MARK: u16 = 0xC0A1;
 

@@ -9,8 +9,7 @@ ghost use mathlib.Core.Path.{_≡_};
 ghost use lib.ListN.{length, replicate};
 ghost use Rattle.model.specs.Program.{memoryWords};
 ghost use Rattle.model.specs.Store.{storeLength, formatted, formatCheck, format};
-ghost use Rattle.program.specs.Accepted.{Contents};
-ghost use Rattle.store.specs.Shaped.{Sizes};
+ghost use Rattle.model.specs.Accepted.{Contents, Sizes};
 
 // All words become 0.
 fn clear(store: &mut [u16])

@@ -8,7 +8,7 @@ ghost use Prim.Native.Nat.{ℕ, _+_, _*_, _<_, _≤_};
 ghost use lib.ListN.{length, set};
 ghost use Rattle.model.specs.Program.{word};
 ghost use Rattle.model.specs.Store.{view, address, value, to, Address, Value, find};
-ghost use Rattle.store.specs.Shaped.{Shaped};
+ghost use Rattle.model.specs.Accepted.{Shaped};
 ghost use Rattle.store.specs.Written.{Written};
 
 // The first of the log's first n pairs with address a.

@@ -5,7 +5,7 @@ ghost use mathlib.Core.Path.{_≡_};
 ghost use Prim.Native.Nat.{_<_};
 ghost use Rattle.model.specs.Program.{word};
 ghost use Rattle.model.specs.Store.{view, to, Memory};
-ghost use Rattle.store.specs.Shaped.{Shaped};
+ghost use Rattle.model.specs.Accepted.{Shaped};
 ghost use Rattle.store.specs.Written.{Written};
 
 pub fn read(store: &[u16], a: u16) -> u16

@@ -6,7 +6,7 @@ ghost use Prim.Native.Nat.{_≤_};
 ghost use Rattle.model.specs.Control.{between};
 ghost use Rattle.model.specs.Program.{word};
 ghost use Rattle.model.specs.Store.{view, event, datum, to, Event, Datum, after, empty, full, firstWaiting};
-ghost use Rattle.store.specs.Shaped.{Shaped};
+ghost use Rattle.model.specs.Accepted.{Shaped};
 ghost use Rattle.store.specs.Written.{Written};
 
 pub fn event(store: &[u16], x: u16) -> u16

@@ -4,7 +4,7 @@ use Rattle.model.specs.Store.{view, settled, storedWord}
 use Rattle.device.specs.Turn.{device}
 use Rattle.body.specs.Running.{bodyAt, instructionAt}
 use Rattle.body.proofs.Running.{running, stores-left, pair-left, there-unfit, there-acts, there-saves}
-use Rattle.store.proofs.Checks.{passed, failed}
+use Rattle.model.proofs.TestLaws.{passed, failed}
 use borrow.Author.Needs.{needs}
 use Rattle.body.proofs.done.Statement.{statement}
 use Rattle.body.proofs.done.Tie as tie
@@ -30,7 +30,7 @@ returns c = rw (there-unfit (c .before .before .before .before .before .before .
 
 act-requires : tie.Need-act-requires
 unfolding bodyAt instructionAt
-act-requires c κs = (running (c .before .before .before .before .before .before .before .before .before .args .p .now) (c .before .before .before .before .before .before .before .before .before .args .s .now) _ (c .before .before .before .before .before .before .before .before .before .pre .0) _ _ _ (c .before .before .before .before .before .place .given .1), (rw (c .before .before .before .before .before .place .given .1) at (c .before .before .before .before .before .before .before .before .before .pre .1 .1 .1), (c .before .before .before .before .before .before .before .before .before .pre .0 .early .count-in, stores-left (c .before .before .before .before .before .before .before .before .before .args .p .now) (c .before .before .before .before .before .before .before .before .before .args .s .now) _ (c .before .before .before .before .before .before .before .before .before .pre .0) _ _ _ (c .before .before .before .before .before .place .given .1))))
+act-requires c κs = (running (c .before .before .before .before .before .before .before .before .before .args .p .now) (c .before .before .before .before .before .before .before .before .before .args .s .now) _ (c .before .before .before .before .before .before .before .before .before .pre .0) _ _ _ (c .before .before .before .before .before .place .given .1), (rw (c .before .before .before .before .before .place .given .1) at (c .before .before .before .before .before .before .before .before .before .pre .1 .1 .1), (c .before .before .before .before .before .before .before .before .before .pre .0 .count-in, stores-left (c .before .before .before .before .before .before .before .before .before .args .p .now) (c .before .before .before .before .before .before .before .before .before .args .s .now) _ (c .before .before .before .before .before .before .before .before .before .pre .0) _ _ _ (c .before .before .before .before .before .place .given .1))))
 
 enum-known-place-2 : tie.Need-enum-known-place-2
 enum-known-place-2 c = search needs

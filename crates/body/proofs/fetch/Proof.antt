@@ -3,7 +3,7 @@ use mathlib.Core.Path.{sym, _∙_, subst}
 use borrow.Author.Tests.{lt-ltb, le-ltb}
 use Rattle.model.specs.Program.{number}
 use Rattle.model.specs.Store.{view}
-use Rattle.effects.specs.Legal.{LegalEffect}
+use Rattle.model.specs.Accepted.{LegalEffect}
 use Rattle.body.proofs.Running.{fetched-row, gone-open, gone, fetched-code, fetched-last, does-stop, does-go, does-same, does-refused, does-accepted, never}
 use borrow.Author.Needs.{needs}
 use Rattle.body.proofs.fetch.Statement.{statement}

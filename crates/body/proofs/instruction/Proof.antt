@@ -1,7 +1,7 @@
 -- `instruction` meets its contract: an accepted rule makes the effect legal, so that a named task has a row. Assumes nothing.
 use mathlib.Core.Path.{sym, _∙_, subst}
-use Rattle.program.proofs.Checks.{then-stop, then-go}
-use Rattle.effects.specs.Legal.{LegalEffect}
+use Rattle.model.proofs.TestLaws.{then-stop, then-go}
+use Rattle.model.specs.Accepted.{LegalEffect}
 use Rattle.body.proofs.Running.{does-stop, does-go, does-same, never}
 use borrow.Author.Needs.{needs}
 use Rattle.body.proofs.instruction.Statement.{statement}

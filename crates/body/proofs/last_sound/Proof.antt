@@ -1,7 +1,6 @@
 -- `last_sound` meets its contract: the first refusal counts. Assumes nothing.
 use Rattle.model.specs.Test.{must}
-use Rattle.program.proofs.Checks.{then-stop, then-go}
-use Rattle.store.proofs.Checks.{passed, failed}
+use Rattle.model.proofs.TestLaws.{then-stop, then-go, passed, failed}
 use borrow.Author.Needs.{needs}
 use Rattle.body.proofs.last_sound.Statement.{statement}
 use Rattle.body.proofs.last_sound.Tie as tie

@@ -1,7 +1,7 @@
 -- `new_open` meets its contract. Assumes nothing.
 use Rattle.model.specs.Program.{newOpen}
 use Rattle.model.specs.Test.{pick}
-use Rattle.program.proofs.Checks.{tests}
+use Rattle.model.proofs.TestLaws.{tests}
 use Rattle.body.proofs.new_open.Statement.{statement}
 use Rattle.body.proofs.new_open.Tie as tie
 

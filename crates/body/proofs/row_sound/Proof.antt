@@ -1,6 +1,6 @@
 -- `row_sound` meets its contract: the first refusal counts. Assumes nothing.
 use mathlib.Core.Path.{_∙_}
-use Rattle.program.proofs.Checks.{answered, then-stop, then-go}
+use Rattle.model.proofs.TestLaws.{answered, then-stop, then-go}
 use Rattle.body.proofs.Running.{row-given}
 use borrow.Author.Needs.{needs}
 use Rattle.body.proofs.row_sound.Statement.{statement}

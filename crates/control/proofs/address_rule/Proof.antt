@@ -7,7 +7,7 @@ use borrow.Author.Tests.{le-ltb, lt-ltb, le-leb, lt-leb}
 use Rattle.model.specs.Control.{addressRule, countRule}
 use Rattle.model.specs.Store.{view}
 use Rattle.model.specs.Test.{_and_}
-use Rattle.store.proofs.Checks.{passed, failed}
+use Rattle.model.proofs.TestLaws.{passed, failed}
 use Rattle.control.proofs.Rules.{unasked, refused, obeyed}
 use Rattle.control.proofs.address_rule.Statement.{statement}
 use Rattle.control.proofs.address_rule.Tie as tie

@@ -2,7 +2,7 @@
 use borrow.Author.Needs.{needs}
 use Rattle.model.specs.Control.{obey, openServing, countRule, pendingTaskRule, pendingHeadRule}
 use Rattle.model.specs.Test.{must, _and_, _or_, _then_}
-use Rattle.store.proofs.Checks.{last, next, begin}
+use Rattle.model.proofs.TestLaws.{last, next, begin}
 use Rattle.control.proofs.commit_rules.Statement.{statement}
 use Rattle.control.proofs.commit_rules.Tie as tie
 

@@ -2,8 +2,7 @@
 use borrow.Author.Needs.{needs}
 use Rattle.model.specs.Control.{obey, countRule}
 use Rattle.model.specs.Test.{must, _and_}
-use Rattle.program.proofs.Checks.{tests}
-use Rattle.store.proofs.Checks.{passed, failed}
+use Rattle.model.proofs.TestLaws.{tests, passed, failed}
 use Rattle.control.proofs.count_rule.Statement.{statement}
 use Rattle.control.proofs.count_rule.Tie as tie
 

@@ -2,8 +2,7 @@
 use mathlib.Core.Path.{_∙_}
 use borrow.Author.Needs.{needs}
 use Rattle.model.specs.Control.{earlyRules, obeyAll}
-use Rattle.program.proofs.Checks.{then-stop, then-go}
-use Rattle.store.proofs.Checks.{last, begin}
+use Rattle.model.proofs.TestLaws.{then-stop, then-go, last, begin}
 use Rattle.control.proofs.Rules.{grouped}
 use Rattle.control.proofs.early.Statement.{statement}
 use Rattle.control.proofs.early.Tie as tie

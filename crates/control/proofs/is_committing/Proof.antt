@@ -1,7 +1,7 @@
 -- `store::control::is_committing` meets its contract: its tests are those of an `or`. Assumes nothing.
 use borrow.Author.Needs.{needs}
 use Rattle.model.specs.Test.{_or_}
-use Rattle.program.proofs.Checks.{tests}
+use Rattle.model.proofs.TestLaws.{tests}
 use Rattle.control.proofs.is_committing.Statement.{statement}
 use Rattle.control.proofs.is_committing.Tie as tie
 

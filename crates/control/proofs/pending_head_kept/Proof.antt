@@ -3,7 +3,7 @@ use mathlib.Core.Path.{sym}
 use borrow.Author.Needs.{needs}
 use Rattle.model.specs.Control.{pendingHeadRule}
 use Rattle.model.specs.Test.{_and_, _or_}
-use Rattle.program.proofs.Checks.{tests}
+use Rattle.model.proofs.TestLaws.{tests}
 use Rattle.control.proofs.pending_head_kept.Statement.{statement}
 use Rattle.control.proofs.pending_head_kept.Tie as tie
 

@@ -3,8 +3,7 @@ use borrow.Author.Needs.{needs}
 use borrow.Author.Tests.{le-leb, eq-eqb}
 use Rattle.model.specs.Control.{obey, pendingHeadRule, headRule, tailRule}
 use Rattle.model.specs.Test.{must, _and_}
-use Rattle.program.proofs.Checks.{tests}
-use Rattle.store.proofs.Checks.{passed, failed}
+use Rattle.model.proofs.TestLaws.{tests, passed, failed}
 use Rattle.control.proofs.pending_head_rule.Statement.{statement}
 use Rattle.control.proofs.pending_head_rule.Tie as tie
 

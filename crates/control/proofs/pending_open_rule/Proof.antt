@@ -5,7 +5,7 @@ use borrow.Author.Tests.{le-ltb, lt-ltb, eq-eqb, ne-eqb}
 use Rattle.model.specs.Control.{pendingOpenRule, pendingTaskRule}
 use Rattle.model.specs.Store.{view}
 use Rattle.model.specs.Test.{_and_}
-use Rattle.store.proofs.Checks.{passed, failed}
+use Rattle.model.proofs.TestLaws.{passed, failed}
 use Rattle.control.proofs.Rules.{unasked, refused, obeyed}
 use Rattle.control.proofs.pending_open_rule.Statement.{statement}
 use Rattle.control.proofs.pending_open_rule.Tie as tie

@@ -6,7 +6,7 @@ use borrow.Author.Needs.{needs}
 use borrow.Author.Tests.{le-ltb, lt-ltb}
 use Rattle.model.specs.Control.{recordRule}
 use Rattle.model.specs.Store.{view}
-use Rattle.store.proofs.Checks.{passed, failed}
+use Rattle.model.proofs.TestLaws.{passed, failed}
 use Rattle.control.proofs.Rules.{unasked, refused, obeyed}
 use Rattle.control.proofs.record_rule.Statement.{statement}
 use Rattle.control.proofs.record_rule.Tie as tie

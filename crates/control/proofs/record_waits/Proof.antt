@@ -4,8 +4,7 @@ use borrow.Author.Needs.{needs}
 use borrow.Author.Tests.{le-leb}
 use Rattle.model.specs.Control.{recordRule, phaseRule, headRule, tailRule}
 use Rattle.model.specs.Test.{_and_}
-use Rattle.program.proofs.Checks.{tests}
-use Rattle.store.proofs.Checks.{passed, failed}
+use Rattle.model.proofs.TestLaws.{tests, passed, failed}
 use Rattle.control.proofs.record_waits.Statement.{statement}
 use Rattle.control.proofs.record_waits.Tie as tie
 

@@ -1,7 +1,7 @@
 -- `store::control::start_kept` meets its contract: its tests are those of an `or`. Assumes nothing.
 use borrow.Author.Needs.{needs}
 use Rattle.model.specs.Test.{_or_}
-use Rattle.program.proofs.Checks.{tests}
+use Rattle.model.proofs.TestLaws.{tests}
 use Rattle.control.proofs.start_kept.Statement.{statement}
 use Rattle.control.proofs.start_kept.Tie as tie
 

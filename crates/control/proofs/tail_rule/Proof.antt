@@ -2,7 +2,7 @@
 use borrow.Author.Needs.{needs}
 use Rattle.model.specs.Control.{obey, tailRule}
 use Rattle.model.specs.Test.{must, _and_}
-use Rattle.program.proofs.Checks.{tests}
+use Rattle.model.proofs.TestLaws.{tests}
 use Rattle.control.proofs.tail_rule.Statement.{statement}
 use Rattle.control.proofs.tail_rule.Tie as tie
 

@@ -6,7 +6,7 @@ use borrow.Author.Needs.{needs}
 use Rattle.model.specs.Control.{controlRules, obeyAll, upTo, addressRule, recordRule, rules}
 use Rattle.model.specs.Program.{word}
 use Rattle.model.specs.Store.{view}
-use Rattle.store.proofs.Checks.{last, next, begin}
+use Rattle.model.proofs.TestLaws.{last, next, begin}
 use Rattle.control.proofs.Rules.{obeyAll-append}
 use Rattle.control.proofs.whole.Statement.{statement}
 use Rattle.control.proofs.whole.Tie as tie

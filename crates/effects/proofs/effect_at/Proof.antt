@@ -4,8 +4,7 @@ use mathlib.Core.Path.{_≡_, sym, subst}
 use borrow.Author.Needs.{needs}
 use denote.Ref.{now}
 use Rattle.model.specs.Program.{effectAt}
-use Rattle.effects.specs.Legal.{LegalEffect}
-use Rattle.effects.proofs.Legal.{effect-given}
+use Rattle.model.specs.Accepted.{LegalEffect}
 use Rattle.effects.proofs.effect_at.Statement.{statement}
 use Rattle.effects.proofs.effect_at.Tie as tie
 
@@ -29,7 +28,7 @@ returns c =
     let a = c .before .before .before .args in (
       answer c,
       subst (LegalEffect (now (a .p)) (a .i) (a .j)) (sym (answer c))
-          (effect-given (now (a .p)) (a .i) (a .j) (now (a .r)) (c .before .before .before .pre .1)),
+          (c .before .before .before .pre .1 .effect (now (a .r))),
     )
 
 pub effect-at-spec : {M : Type 1} → statement M

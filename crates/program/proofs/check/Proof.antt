@@ -3,8 +3,8 @@
 use mathlib.Core.Path.{_∙_}
 use borrow.Author.Needs.{needs}
 use Rattle.model.specs.Check.{check}
-use Rattle.program.proofs.Accepted.{check-given}
-use Rattle.program.proofs.Checks.{answered, then-stop, then-go}
+use Rattle.model.proofs.ProgramLaws.{check-passed}
+use Rattle.model.proofs.TestLaws.{answered, then-stop, then-go}
 use Rattle.program.proofs.check.Statement.{statement}
 use Rattle.program.proofs.check.Tie as tie
 
@@ -21,7 +21,7 @@ returns : tie.Need-returns
 unfolding check
 returns c =
     let contents = c .before .before .contents in
-    answered (check-given _) (then-stop _ _ (contents .ensures .0) (c .enum-told2 .given .1))
+    answered (check-passed _) (then-stop _ _ (contents .ensures .0) (c .enum-told2 .given .1))
 
 rows-requires : tie.Need-rows-requires
 rows-requires c κs = c .before .before .contents .ensures .1 (c .enum-told .given .1)
@@ -38,7 +38,7 @@ returns-2 c =
     let contents = c .before .before .before .before .before .contents in
     let enum-told = c .before .before .before .enum-told in
     let rows = c .before .before .rows in
-    answered (check-given _)
+    answered (check-passed _)
     (then-stop _ _ (rows .ensures .0) (c .enum-told4 .given .1) ∙ then-go _ _ (contents .ensures .0) (enum-told .given .1))
 
 bodies-requires : tie.Need-bodies-requires
@@ -51,7 +51,7 @@ returns-3 c =
     let enum-told = c .before .before .before .before .enum-told in
     let rows = c .before .before .before .rows in
     let enum-told3 = c .before .enum-told3 in
-    answered (check-given _)
+    answered (check-passed _)
     (c .bodies .ensures ∙ then-go _ _ (rows .ensures .0) (enum-told3 .given .1)
     ∙ then-go _ _ (contents .ensures .0) (enum-told .given .1))
 

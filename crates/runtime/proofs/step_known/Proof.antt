@@ -1,7 +1,7 @@
 -- `run::step_known` meets its contract: the early checks, then the step. Assumes nothing.
 use mathlib.Core.Path.{sym, ap, _∙_}
 use denote.Ref.{now}
-use Rattle.device.proofs.Looked.{looked}
+use Rattle.model.proofs.Passed.{look-passed}
 use Rattle.device.specs.Turn.{device, after, result}
 use Rattle.device.specs.declared.Turn.{Turn}
 use Rattle.model.proofs.DeviceLaws.{step-goes, step-refused}
@@ -18,7 +18,7 @@ enum-told : tie.Need-enum-told
 enum-told c = search needs
 
 next-step-requires : tie.Need-next-step-requires
-next-step-requires c κs = looked _ _ _ (sym (c .before .before .before .before .look-unless .ensures) ∙ c .before .before .enum-told .given .1)
+next-step-requires c κs = look-passed _ _ _ (sym (c .before .before .before .before .look-unless .ensures) ∙ c .before .before .enum-told .given .1)
 
 enum-known-found : tie.Need-enum-known-found
 enum-known-found c = search needs

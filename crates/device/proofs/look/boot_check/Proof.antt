@@ -3,8 +3,7 @@
 use mathlib.Core.Bool.{not}
 use mathlib.Core.Path.{ap, _∙_}
 use Rattle.model.specs.Device.{bootCheck}
-use Rattle.program.proofs.Checks.{then-stop, then-go}
-use Rattle.device.proofs.Checks.{must-refuses, must-accepts}
+use Rattle.model.proofs.TestLaws.{then-stop, then-go, must-refuses, must-accepts}
 use borrow.Author.Needs.{needs}
 use Rattle.device.proofs.look.boot_check.Statement.{statement}
 use Rattle.device.proofs.look.boot_check.Tie as tie

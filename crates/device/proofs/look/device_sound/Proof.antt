@@ -2,7 +2,7 @@
 use borrow.Author.Tests.{le-leb, lt-leb, eq-eqb, ne-eqb}
 use Rattle.model.specs.Device.{deviceSound}
 use Rattle.model.specs.Test.{pick, _and_}
-use Rattle.store.proofs.Checks.{passed, failed}
+use Rattle.model.proofs.TestLaws.{passed, failed}
 use borrow.Author.Needs.{needs}
 use Rattle.device.proofs.look.device_sound.Statement.{statement}
 use Rattle.device.proofs.look.device_sound.Tie as tie

@@ -3,8 +3,8 @@ use mathlib.Core.Path.{ap, _∙_}
 use borrow.Author.Needs.{needs}
 use Rattle.model.specs.Device.{look}
 use Rattle.model.specs.declared.Device.{Device}
-use Rattle.program.proofs.Checks.{answered}
-use Rattle.device.proofs.Looked.{looked}
+use Rattle.model.proofs.TestLaws.{answered}
+use Rattle.model.proofs.Passed.{look-passed}
 use Rattle.device.proofs.look.look_at.Statement.{statement}
 use Rattle.device.proofs.look.look_at.Tie as tie
 
@@ -16,7 +16,7 @@ look-requires c κs = search needs
 
 returns : tie.Need-returns
 returns c =
-    answered (looked (c .before .before .before .before .before .before .args .p .now) (c .before .before .before .before .before .before .args .s .now) (c .before .before .before .before .before .before .args .d))
+    answered (look-passed (c .before .before .before .before .before .before .args .p .now) (c .before .before .before .before .before .before .args .s .now) (c .before .before .before .before .before .before .args .d))
     (c .look .ensures .0 ∙ ap (λ (d : Device). look (c .before .before .before .before .before .before .args .p .now) (c .before .before .before .before .before .before .args .s .now) d) (c .before .core-of .ensures))
 
 pub look-at-spec : {M : Type 1} → statement M

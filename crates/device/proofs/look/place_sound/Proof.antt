@@ -6,7 +6,7 @@ use Rattle.model.proofs.DeviceLaws.{most-last}
 use Rattle.model.specs.Device.{placeSound}
 use Rattle.model.specs.Store.{view}
 use Rattle.model.specs.Test.{pick, _and_}
-use Rattle.store.proofs.Checks.{passed, failed}
+use Rattle.model.proofs.TestLaws.{passed, failed}
 use borrow.Author.Needs.{needs}
 use Rattle.device.proofs.look.place_sound.Statement.{statement}
 use Rattle.device.proofs.look.place_sound.Tie as tie

@@ -6,8 +6,7 @@ use native.Mathlib.Omega.{arith}
 use borrow.Author.Needs.{needs}
 use borrow.Author.Tests.{lt-ltb, le-ltb}
 use Rattle.model.specs.Device.{atRest, postCheck}
-use Rattle.program.proofs.Checks.{then-stop, then-go}
-use Rattle.device.proofs.Checks.{must-refuses, must-accepts, must-stop, must-go}
+use Rattle.model.proofs.TestLaws.{then-stop, then-go, must-refuses, must-accepts, must-stop, must-go}
 use Rattle.device.proofs.look.post_check.Statement.{statement}
 use Rattle.device.proofs.look.post_check.Tie as tie
 
@@ -42,7 +41,7 @@ unfolding postCheck atRest
 returns-3 c = must-stop _ _ (simp (c .enum-told4 .given .1)) ∙ must-go _ _ (lt-ltb _ _ (c .before .before .if1 .left)) ∙ then-go _ _ (c .before .before .before .before .before .before .look-at .ensures .0) (c .before .before .before .before .enum-told .given .1)
 
 is-full-requires : tie.Need-is-full-requires
-is-full-requires c κs = let l = c .before .before .before .before .before .before .look-at .ensures .1 (c .before .before .before .before .enum-told .given .1) in (l .shaped .shaped, l .early .control .tail-in)
+is-full-requires c κs = let l = c .before .before .before .before .before .before .look-at .ensures .1 (c .before .before .before .before .enum-told .given .1) in (l .shaped .shaped, l .control .tail-in)
 
 returns-4 : tie.Need-returns-4
 unfolding postCheck atRest

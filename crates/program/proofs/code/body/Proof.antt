@@ -9,7 +9,7 @@ use denote.Ref.{now}
 use Rattle.model.specs.Check.{instructionRule, bodyRule}
 use Rattle.model.specs.Program.{instructions}
 use Rattle.model.specs.Test.{each}
-use Rattle.program.proofs.Checks.{each-none, each-stop, each-go}
+use Rattle.model.proofs.TestLaws.{each-none, each-stop, each-go}
 use Rattle.program.proofs.code.body.Statement.{statement}
 use Rattle.program.proofs.code.body.Tie as tie
 

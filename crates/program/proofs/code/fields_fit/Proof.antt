@@ -2,7 +2,7 @@
 use borrow.Author.Needs.{needs}
 use Rattle.model.specs.Check.{fieldsFit}
 use Rattle.model.specs.Test.{_and_}
-use Rattle.program.proofs.Checks.{tests}
+use Rattle.model.proofs.TestLaws.{tests}
 use Rattle.program.proofs.code.fields_fit.Statement.{statement}
 use Rattle.program.proofs.code.fields_fit.Tie as tie
 

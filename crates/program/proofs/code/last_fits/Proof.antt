@@ -2,7 +2,7 @@
 use borrow.Author.Needs.{needs}
 use Rattle.model.specs.Check.{lastFits}
 use Rattle.model.specs.Test.{pick}
-use Rattle.program.proofs.Checks.{tests}
+use Rattle.model.proofs.TestLaws.{tests}
 use Rattle.program.proofs.code.last_fits.Statement.{statement}
 use Rattle.program.proofs.code.last_fits.Tie as tie
 

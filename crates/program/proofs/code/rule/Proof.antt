@@ -11,8 +11,8 @@ use lib.Dec.{ltb}
 use Rattle.model.specs.Check.{fieldsFit, instructionRule}
 use Rattle.model.specs.Program.{memoryWords, tasks, instructions, opcode, code, operand, bounds}
 use Rattle.model.specs.Test.{must, _then_}
-use Rattle.program.proofs.Checks.{answered}
-use Rattle.program.proofs.Legal.{rule-given}
+use Rattle.model.proofs.TestLaws.{answered}
+use Rattle.model.proofs.Passed.{rule-passed}
 use Rattle.program.proofs.code.rule.Statement.{statement}
 use Rattle.program.proofs.code.rule.Tie as tie
 
@@ -69,7 +69,7 @@ unfolding instructionRule must _then_ fieldsTest
 returns c =
     let pre = c .before .before .before .before .before .before .before .before .before .before .before .pre in
     let fields-fit = c .before .fields-fit in
-    answered (rule-given _ _ _ (pre .place))
+    answered (rule-passed _ _ _ (pre .place))
     (rw (← fits (c .before), not-true (fields-fit .result) (c .if1 .taken)))
 
 last-fits-requires : tie.Need-last-fits-requires
@@ -82,7 +82,7 @@ returns-2 c =
     let fields-fit = c .before .before .before .fields-fit in
     let if1 = c .before .before .if1 in
     let last-fits = c .before .last-fits in
-    answered (rule-given _ _ _ (pre .place))
+    answered (rule-passed _ _ _ (pre .place))
     (rw (
       ← fits (c .before .before .before),
       not-false (fields-fit .result) (if1 .left),
@@ -97,7 +97,7 @@ returns-3 c =
     let fields-fit = c .before .before .before .fields-fit in
     let if1 = c .before .before .if1 in
     let last-fits = c .before .last-fits in
-    answered (rule-given _ _ _ (pre .place))
+    answered (rule-passed _ _ _ (pre .place))
     (rw (
       ← fits (c .before .before .before),
       not-false (fields-fit .result) (if1 .left),

@@ -4,7 +4,7 @@ use mathlib.Core.Path.{sym, _∙_}
 use native.Mathlib.Omega.{arith}
 use borrow.Author.Needs.{needs}
 use denote.Ref.{now}
-use Rattle.program.proofs.Due.{due-first, due-next}
+use Rattle.model.proofs.ProgramLaws.{due-first, due-next}
 use Rattle.program.proofs.rows.due.Statement.{statement}
 use Rattle.program.proofs.rows.due.Tie as tie
 

@@ -1,6 +1,6 @@
 -- `rows::largest_number` meets its contract, by its one test. Assumes nothing.
 use Rattle.model.specs.Test.{pick}
-use Rattle.program.proofs.Checks.{tests}
+use Rattle.model.proofs.TestLaws.{tests}
 use Rattle.program.proofs.rows.largest_number.Statement.{statement}
 use Rattle.program.proofs.rows.largest_number.Tie as tie
 

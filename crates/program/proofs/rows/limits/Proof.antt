@@ -2,7 +2,7 @@
 use borrow.Author.Needs.{needs}
 use Rattle.model.specs.Check.{limits}
 use Rattle.model.specs.Test.{must, _then_}
-use Rattle.program.proofs.Checks.{tests}
+use Rattle.model.proofs.TestLaws.{tests}
 use Rattle.program.proofs.rows.limits.Statement.{statement}
 use Rattle.program.proofs.rows.limits.Tie as tie
 

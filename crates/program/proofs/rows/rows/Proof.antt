@@ -5,8 +5,8 @@ use native.Mathlib.Omega.{arith}
 use borrow.Author.Needs.{needs}
 use Rattle.model.specs.Check.{rows}
 use Rattle.model.specs.Test.{must, _then_}
-use Rattle.program.proofs.Accepted.{rows-given}
-use Rattle.program.proofs.Checks.{tests, answered, then-stop, then-go}
+use Rattle.model.proofs.ProgramLaws.{rows-passed}
+use Rattle.model.proofs.TestLaws.{tests, answered, then-stop, then-go}
 use Rattle.program.proofs.rows.rows.Statement.{statement}
 use Rattle.program.proofs.rows.rows.Tie as tie
 
@@ -24,7 +24,7 @@ unfolding rows
 returns c =
     let pre = c .before .before .before .before .pre in
     let inside = c .before .before .inside in
-    answered (rows-given _ pre) (then-stop _ _ (inside .ensures .0) (c .enum-told2 .given .1))
+    answered (rows-passed _ pre) (then-stop _ _ (inside .ensures .0) (c .enum-told2 .given .1))
 
 rules-requires : tie.Need-rules-requires
 rules-requires c κs = c .before .before .inside .ensures .1 (c .enum-told .given .1)
@@ -42,7 +42,7 @@ returns-2 c =
     let inside = c .before .before .before .before .before .inside in
     let enum-told = c .before .before .before .enum-told in
     let rules = c .before .before .rules in
-    answered (rows-given _ pre)
+    answered (rows-passed _ pre)
     (then-stop _ _ (rules .ensures) (c .enum-told4 .given .1) ∙ then-go _ _ (inside .ensures .0) (enum-told .given .1))
 
 shared-slice-read-n : tie.Need-shared-slice-read-n
@@ -75,7 +75,7 @@ returns-3 c =
     let rules = c .before .before .before .before .before .before .before .rules in
     let enum-told3 = c .before .before .before .before .before .enum-told3 in
     let due = c .before .before .due in
-    answered (rows-given _ pre)
+    answered (rows-passed _ pre)
     (rw (← inside .ensures .0, enum-told .given .1, ← rules .ensures, enum-told3 .given .1, ← due .ensures) (search tests))
 
 returns-4 : tie.Need-returns-4
@@ -87,7 +87,7 @@ returns-4 c =
     let rules = c .before .before .before .before .before .before .before .rules in
     let enum-told3 = c .before .before .before .before .before .enum-told3 in
     let due = c .before .before .due in
-    answered (rows-given _ pre)
+    answered (rows-passed _ pre)
     (rw (← inside .ensures .0, enum-told .given .1, ← rules .ensures, enum-told3 .given .1, ← due .ensures) (search tests))
 
 pub rows-spec : {M : Type 1} → statement M

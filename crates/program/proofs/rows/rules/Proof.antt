@@ -9,7 +9,7 @@ use denote.Ref.{now}
 use Rattle.model.specs.Check.{rowRule}
 use Rattle.model.specs.Program.{bodies}
 use Rattle.model.specs.Test.{each}
-use Rattle.program.proofs.Checks.{each-none, each-stop, each-go}
+use Rattle.model.proofs.TestLaws.{each-none, each-stop, each-go}
 use Rattle.program.proofs.rows.rules.Statement.{statement}
 use Rattle.program.proofs.rows.rules.Tie as tie
 

@@ -3,8 +3,8 @@ use native.Mathlib.Omega.{arith}
 use borrow.Author.Needs.{needs}
 use Rattle.model.specs.Check.{rowUsed}
 use Rattle.model.specs.Test.{must, _then_}
-use Rattle.program.proofs.Accepted.{used-given}
-use Rattle.program.proofs.Checks.{tests, answered, then-stop}
+use Rattle.model.proofs.ProgramLaws.{used-passed}
+use Rattle.model.proofs.TestLaws.{tests, answered, then-stop}
 use Rattle.program.proofs.rows.used.Statement.{statement}
 use Rattle.program.proofs.rows.used.Tie as tie
 
@@ -22,7 +22,7 @@ unfolding rowUsed
 returns c =
     let pre = c .before .before .before .before .pre in
     let limits = c .before .before .limits in
-    answered (used-given _ _ pre) (then-stop _ _ (limits .ensures) (c .enum-told2 .given .1))
+    answered (used-passed _ _ pre) (then-stop _ _ (limits .ensures) (c .enum-told2 .given .1))
 
 start-requires : tie.Need-start-requires
 start-requires c κs = search needs
@@ -38,7 +38,7 @@ returns-2 c =
     let enum-told = c .before .before .before .enum-told in
     let start = c .before .before .start in
     let first-body = c .before .first-body in
-    answered (used-given _ _ pre)
+    answered (used-passed _ _ pre)
     (rw (← limits .ensures, enum-told .given .1, ← first-body .ensures, ← start .ensures) (search tests))
 
 cast-if2 : tie.Need-cast-if2
@@ -71,7 +71,7 @@ returns-3 c =
     let start = c .before .before .before .before .before .start in
     let first-body = c .before .before .before .before .first-body in
     let instructions = c .before .before .instructions in
-    answered (used-given _ _ pre)
+    answered (used-passed _ _ pre)
     (rw (← limits .ensures, enum-told .given .1, ← first-body .ensures, ← instructions .ensures, ← start .ensures) (search tests))
 
 returns-4 : tie.Need-returns-4
@@ -83,7 +83,7 @@ returns-4 c =
     let start = c .before .before .before .before .before .start in
     let first-body = c .before .before .before .before .first-body in
     let instructions = c .before .before .instructions in
-    answered (used-given _ _ pre)
+    answered (used-passed _ _ pre)
     (rw (← limits .ensures, enum-told .given .1, ← first-body .ensures, ← instructions .ensures, ← start .ensures) (search tests))
 
 pub used-spec : {M : Type 1} → statement M

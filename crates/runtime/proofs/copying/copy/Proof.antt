@@ -43,7 +43,7 @@ returns c =
     let s = now (c .before .before .before .before .before .before .before .before .args .s) in
     let p = now (c .before .before .before .before .before .before .before .before .args .p) in
     let core = c .before .before .before .before .before .before .before .before .args .c in
-    let starts : word s 6 ≡ logAt (memoryWords p) = c .before .before .before .before .before .before .before .before .pre .1 .0 .shaped .logStart ∙ ap (λ (m : ℕ). logAt m) (c .before .before .before .before .before .before .before .before .pre .1 .0 .memory) in
+    let starts : word s 6 ≡ logAt (memoryWords p) = c .before .before .before .before .before .before .before .before .pre .1 .0 .shaped .log-start ∙ ap (λ (m : ℕ). logAt m) (c .before .before .before .before .before .before .before .before .pre .1 .0 .memory) in
     ap (λ (t : Turn). after t r s) (c .refused .ensures)
     ∙ ap (λ (w : ℕ). after (turn (Answer.Refused (Refusal.Control (w + 2 * c .before .before .before .before .before .before .before .before .args .n))) Stored.Nothing core) r s) starts
     ∙ ap (λ (o : Out). result s o) (sym (copy-refused p (view s) (device core r) (c .before .before .before .before .before .before .before .before .args .n) (c .before .before .before .before .before .before .before .before .pre .1 .1 .0) (rw (c .before .before .before .before .address .ensures) at (c .before .before .if1 .taken))))

@@ -33,7 +33,7 @@ task-last-requires c κs =
     let h = c .before .before .before .before .before .before .before .before .pre .0 in
     let fit = copies-fit (now (c .before .before .before .before .before .before .before .before .args .p)) (now (c .before .before .before .before .before .before .before .before .args .s)) _ h (c .before .before .before .before .before .before .before .before .args .n) (c .before .before .before .before .before .before .before .before .pre .1 .0) (c .before .before .before .before .before .before .before .before .pre .1 .1) in
     let l = task-left (now (c .before .before .before .before .before .before .before .before .args .p)) (now (c .before .before .before .before .before .before .before .before .args .s)) _ h (c .before .before .before .before .before .before .before .before .args .n) (c .before .before .before .before .before .before .before .before .pre .1 .0) (c .before .before .before .before .before .before .before .before .pre .1 .1) (c .before .before .if2 .taken) in
-    (omega (arith, h .shaped .shaped .whole), (omega (arith, c .before .before .before .before .if1 .left), omega (arith, h .shaped .shaped .sizes .pairsFit)))
+    (omega (arith, h .shaped .shaped .length-is), (omega (arith, c .before .before .before .before .if1 .left), omega (arith, h .shaped .shaped .sizes .most-pairs)))
 
 same-length-2 : tie.Need-same-length-2
 same-length-2 c = search needs
@@ -48,7 +48,7 @@ event-last-requires c κs =
     let h = c .before .before .before .before .before .before .before .before .pre .0 in
     let fit = copies-fit (now (c .before .before .before .before .before .before .before .before .args .p)) (now (c .before .before .before .before .before .before .before .before .args .s)) _ h (c .before .before .before .before .before .before .before .before .args .n) (c .before .before .before .before .before .before .before .before .pre .1 .0) (c .before .before .before .before .before .before .before .before .pre .1 .1) in
     let l = event-left (now (c .before .before .before .before .before .before .before .before .args .p)) (now (c .before .before .before .before .before .before .before .before .args .s)) _ h (c .before .before .before .before .before .before .before .before .args .n) (c .before .before .before .before .before .before .before .before .pre .1 .0) (c .before .before .before .before .before .before .before .before .pre .1 .1) (c .before .before .if2 .left) in
-    (omega (arith, h .shaped .shaped .whole), (omega (arith, c .before .before .before .before .if1 .left), omega (arith, h .shaped .shaped .sizes .pairsFit)))
+    (omega (arith, h .shaped .shaped .length-is), (omega (arith, c .before .before .before .before .if1 .left), omega (arith, h .shaped .shaped .sizes .most-pairs)))
 
 same-length-3 : tie.Need-same-length-3
 same-length-3 c = search needs

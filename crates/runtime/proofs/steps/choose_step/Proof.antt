@@ -1,18 +1,15 @@
 use Prim.Native.Nat.{ℕ, _+_, _*_}
-use mathlib.Core.Path.{_≡_}
+use mathlib.Core.Path.{_≡_, sym, ap, _∙_}
 use Rattle.model.proofs.DeviceLaws.{choose-open, choose-empty, choose-refused, choose-event}
 use Rattle.model.specs.Program.{word, memoryWords}
-use Rattle.model.specs.Store.{queueAt}
+use Rattle.model.specs.Store.{queueAt, settled, storedWord, view}
 use Rattle.model.specs.declared.Answer.{Answer}
 use Rattle.model.specs.declared.Refusal.{Refusal}
 use Rattle.model.specs.declared.Stored.{Stored}
-use Rattle.device.specs.Turn.{after, turn}
+use Rattle.device.specs.Turn.{after, turn, device, result}
 use Rattle.device.specs.declared.Turn.{Turn}
-use mathlib.Core.Path.{sym, ap, _∙_}
 use denote.Ref.{now}
 use Rattle.model.specs.Device.{Out}
-use Rattle.model.specs.Store.{settled, storedWord, view}
-use Rattle.device.specs.Turn.{device, result}
 use borrow.Author.Needs.{needs}
 use Rattle.runtime.proofs.steps.choose_step.Statement.{statement}
 use Rattle.runtime.proofs.steps.choose_step.Tie as tie
@@ -76,7 +73,7 @@ returns-3 c =
     let r = now (c .before .before .before .before .before .before .before .before .before .before .before .before .args .r) in
     let core = c .before .before .before .before .before .before .before .before .before .before .before .before .args .c in
     let q = c .before .before .before .before .before .before .before .before .before .before .before .before .pre .shaped in
-    let starts : word s 7 ≡ queueAt (memoryWords p) (word s 2) = q .shaped .queueStart ∙ ap (λ (m : ℕ). queueAt m (word s 2)) (q .memory) in
+    let starts : word s 7 ≡ queueAt (memoryWords p) (word s 2) = q .shaped .queue-start ∙ ap (λ (m : ℕ). queueAt m (word s 2)) (q .memory) in
     ap (λ (t : Turn). after t r s) (c .refused .ensures)
     ∙ ap (λ (w : ℕ). after (turn (Answer.Refused (Refusal.Control (w + 2 * word s 14))) Stored.Nothing core) r s) starts
     ∙ ap (λ (o : Out). result s o)

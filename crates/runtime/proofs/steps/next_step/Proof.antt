@@ -19,7 +19,7 @@ enum-known-handler : tie.Need-enum-known-handler
 enum-known-handler c = search needs
 
 handler-step-requires : tie.Need-handler-step-requires
-handler-step-requires c κs = (c .before .before .before .before .before .before .pre .shaped .shaped, c .before .before .before .before .before .before .pre .early .control .tail-in)
+handler-step-requires c κs = (c .before .before .before .before .before .before .pre .shaped .shaped, c .before .before .before .before .before .before .pre .control .tail-in)
 
 same-length : tie.Need-same-length
 same-length c = search needs

@@ -1,7 +1,7 @@
 -- `store::contents::sizes` meets its contract: each test of the limits is the definition's. Assumes nothing.
 use Rattle.model.specs.Store.{sizesRule}
 use Rattle.model.specs.Test.{_and_}
-use Rattle.program.proofs.Checks.{tests}
+use Rattle.model.proofs.TestLaws.{tests}
 use Rattle.store.proofs.contents.sizes.Statement.{statement}
 use Rattle.store.proofs.contents.sizes.Tie as tie
 

@@ -6,9 +6,8 @@ use borrow.Author.Needs.{needs}
 use borrow.Author.Tests.{le-leb, eq-eqb, ne-eqb}
 use Rattle.model.specs.Store.{storeRule, storeMark}
 use Rattle.model.specs.Test.{must, _then_}
-use Rattle.program.proofs.Checks.{tests, answered}
-use Rattle.store.proofs.Accepted.{sizes, shaped}
-use Rattle.store.proofs.Checks.{passed, failed}
+use Rattle.model.proofs.TestLaws.{tests, answered, passed, failed}
+use Rattle.model.proofs.Passed.{sizes-passed, store-passed}
 use Rattle.store.proofs.contents.store_rule.Statement.{statement}
 use Rattle.store.proofs.contents.store_rule.Tie as tie
 
@@ -16,7 +15,7 @@ returns : tie.Need-returns
 unfolding storeRule storeMark must _then_
 returns c =
     let a = c .before .before .before .args in
-    answered (shaped (a .p .now) (a .store .now) (c .before .before .before .pre)) (search tests)
+    answered (store-passed (a .p .now) (a .store .now) (c .before .before .before .pre)) (search tests)
 
 shared-slice-read-if2 : tie.Need-shared-slice-read-if2
 shared-slice-read-if2 c = search needs
@@ -25,7 +24,7 @@ returns-2 : tie.Need-returns-2
 unfolding storeRule storeMark must _then_
 returns-2 c =
     let a = c .before .before .before .before .before .args in
-    answered (shaped (a .p .now) (a .store .now) (c .before .before .before .before .before .pre)) (search tests)
+    answered (store-passed (a .p .now) (a .store .now) (c .before .before .before .before .before .pre)) (search tests)
 
 shared-slice-read-m : tie.Need-shared-slice-read-m
 shared-slice-read-m c = search needs
@@ -37,7 +36,7 @@ returns-3 : tie.Need-returns-3
 unfolding storeRule storeMark must _then_
 returns-3 c =
     let c8 = c .before .before .before .before .before .before .before .before in
-    answered (shaped (c8 .args .p .now) (c8 .args .store .now) (c8 .pre)) (search tests)
+    answered (store-passed (c8 .args .p .now) (c8 .args .store .now) (c8 .pre)) (search tests)
 
 shared-slice-read-l : tie.Need-shared-slice-read-l
 shared-slice-read-l c = search needs
@@ -52,7 +51,7 @@ returns-4 : tie.Need-returns-4
 unfolding storeRule storeMark must _then_
 returns-4 c =
     let c12 = c .before .before .before .before .before .before .before .before .before .before .before .before in
-    answered (shaped (c12 .args .p .now) (c12 .args .store .now) (c12 .pre))
+    answered (store-passed (c12 .args .p .now) (c12 .args .store .now) (c12 .pre))
     (search (tests, failed (c .before .sizes .ensures) (c .if4 .taken)))
 
 shared-slice-read-if5 : tie.Need-shared-slice-read-if5
@@ -64,7 +63,7 @@ returns-5 c =
     let c2 = c .before .before in
     let c3 = c2 .before in
     let c14 = c3 .before .before .before .before .before .before .before .before .before .before .before in
-    answered (shaped (c14 .args .p .now) (c14 .args .store .now) (c14 .pre))
+    answered (store-passed (c14 .args .p .now) (c14 .args .store .now) (c14 .pre))
     (search (tests, passed (c3 .sizes .ensures) (c2 .if4 .left)))
 
 shared-slice-read-if6 : tie.Need-shared-slice-read-if6
@@ -76,7 +75,7 @@ returns-6 c =
     let c4 = c .before .before .before .before in
     let c5 = c4 .before in
     let c16 = c5 .before .before .before .before .before .before .before .before .before .before .before in
-    answered (shaped (c16 .args .p .now) (c16 .args .store .now) (c16 .pre))
+    answered (store-passed (c16 .args .p .now) (c16 .args .store .now) (c16 .pre))
     (search (tests, passed (c5 .sizes .ensures) (c4 .if4 .left)))
 
 shared-slice-read-if7 : tie.Need-shared-slice-read-if7
@@ -96,7 +95,7 @@ returns-7 c =
     let c14 = c11 .before .before .before in
     let c16 = c14 .before .before in
     let c19 = c16 .before .before .before in
-    answered (shaped (c19 .args .p .now) (c19 .args .store .now) (c19 .pre))
+    answered (store-passed (c19 .args .p .now) (c19 .args .store .now) (c19 .pre))
     (simp (
       le-leb _ _ (c16 .if1 .left),
       eq-eqb _ _ (c14 .if2 .left),
@@ -115,7 +114,7 @@ queue-start-requires c κs =
     let c8 = c .before .before .before .before .before .before .before .before in
     let c9 = c8 .before in
     let c20 = c9 .before .before .before .before .before .before .before .before .before .before .before in
-    let h = sizes _ _ (passed (c9 .sizes .ensures) (c8 .if4 .left)) in (omega (arith, c20 .pre), h .pairsFit)
+    let h = sizes-passed _ _ (passed (c9 .sizes .ensures) (c8 .if4 .left)) in (omega (arith, c20 .pre), h .most-pairs)
 
 returns-8 : tie.Need-returns-8
 unfolding storeRule storeMark must _then_
@@ -130,7 +129,7 @@ returns-8 c =
     let c17 = c14 .before .before .before in
     let c19 = c17 .before .before in
     let c22 = c19 .before .before .before in
-    answered (shaped (c22 .args .p .now) (c22 .args .store .now) (c22 .pre))
+    answered (store-passed (c22 .args .p .now) (c22 .args .store .now) (c22 .pre))
     (simp (
       le-leb _ _ (c19 .if1 .left),
       eq-eqb _ _ (c17 .if2 .left),
@@ -147,7 +146,7 @@ end-requires c κs =
     let c10 = c .before .before .before .before .before .before .before .before .before .before in
     let c11 = c10 .before in
     let c22 = c11 .before .before .before .before .before .before .before .before .before .before .before in
-    let h = sizes _ _ (passed (c11 .sizes .ensures) (c10 .if4 .left)) in (omega (arith, c22 .pre), h)
+    let h = sizes-passed _ _ (passed (c11 .sizes .ensures) (c10 .if4 .left)) in (omega (arith, c22 .pre), h)
 
 cast-if9 : tie.Need-cast-if9
 cast-if9 c = search needs
@@ -167,7 +166,7 @@ returns-9 c =
     let c19 = c16 .before .before .before in
     let c21 = c19 .before .before in
     let c24 = c21 .before .before .before in
-    answered (shaped (c24 .args .p .now) (c24 .args .store .now) (c24 .pre))
+    answered (store-passed (c24 .args .p .now) (c24 .args .store .now) (c24 .pre))
     (simp (
       le-leb _ _ (c21 .if1 .left),
       eq-eqb _ _ (c19 .if2 .left),
@@ -195,7 +194,7 @@ returns-10 c =
     let c19 = c16 .before .before .before in
     let c21 = c19 .before .before in
     let c24 = c21 .before .before .before in
-    answered (shaped (c24 .args .p .now) (c24 .args .store .now) (c24 .pre))
+    answered (store-passed (c24 .args .p .now) (c24 .args .store .now) (c24 .pre))
     (simp (
       le-leb _ _ (c21 .if1 .left),
       eq-eqb _ _ (c19 .if2 .left),

@@ -9,9 +9,8 @@ use Rattle.model.specs.Store.{formatted, formatCheck, formatStore, format}
 use Rattle.model.specs.Test.{must, _then_}
 use Rattle.model.specs.declared.Checked.{Checked}
 use Rattle.model.specs.declared.Refusal.{Refusal}
-use Rattle.program.proofs.Checks.{then-stop}
-use Rattle.store.proofs.Accepted.{sizes}
-use Rattle.store.proofs.Checks.{passed, failed}
+use Rattle.model.proofs.TestLaws.{then-stop, passed, failed}
+use Rattle.model.proofs.Passed.{sizes-passed}
 use Rattle.store.proofs.format.format.Statement.{statement}
 use Rattle.store.proofs.format.format.Tie as tie
 
@@ -73,7 +72,7 @@ end-requires c κs =
     let c3 = c2 .before in
     let c5 = c3 .before .before in
     let w = c5 .check .ensures .1 (c3 .enum-told .given .1) in
-    (w .rows .contents .memoryFits, sizes _ _ (passed (c2 .sizes .ensures) (c .before .if1 .left)))
+    (w .rows .contents .most-memory, sizes-passed _ _ (passed (c2 .sizes .ensures) (c .before .if1 .left)))
 
 cast-if2 : tie.Need-cast-if2
 cast-if2 c = search needs
@@ -103,7 +102,7 @@ fill-requires c κs =
     let w = c8 .check .ensures .1 (c6 .enum-told .given .1) in (
       w .rows .contents,
       (
-        sizes _ _ (passed (c5 .sizes .ensures) (c4 .if1 .left)),
+        sizes-passed _ _ (passed (c5 .sizes .ensures) (c4 .if1 .left)),
         c .before .if2 .left ∙ c2 .end .ensures,
       ),
     )

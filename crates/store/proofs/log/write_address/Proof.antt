@@ -51,7 +51,7 @@ returns c =
       store =
           log-written (c .before .before .before .before .before .before .before .args .store .now) (c .before .before .before .before .before .before .before .pre .0) (2 * c .before .before .before .before .before .before .before .args .j) (c .before .before .before .before .before .before .before .args .a) (c .before .before .save-address .last .0)
           (omega arith) (c .before .before .save-address .ensures);
-      stored = rw (c .before .before .before .before .before .before .before .pre .0 .logStart);
+      stored = rw (c .before .before .before .before .before .before .before .pre .0 .log-start);
     }
 
 pub write-address-spec : {M : Type 1} → statement M

@@ -54,7 +54,7 @@ returns c =
       store =
           log-written (c .before .before .before .before .before .before .before .args .store .now) (c .before .before .before .before .before .before .before .pre .0) (2 * c .before .before .before .before .before .before .before .args .j + 1) (c .before .before .before .before .before .before .before .args .x) (c .before .before .save-value .last .0)
           (omega arith) (c .before .before .save-value .ensures);
-      stored = rw (c .before .before .before .before .before .before .before .pre .0 .logStart);
+      stored = rw (c .before .before .before .before .before .before .before .pre .0 .log-start);
     }
 
 pub write-value-spec : {M : Type 1} → statement M

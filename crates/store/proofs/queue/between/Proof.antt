@@ -1,7 +1,7 @@
 -- `store::queue::between` meets its contract: each test is that of the definition. Assumes nothing.
 use Rattle.model.specs.Control.{between}
 use Rattle.model.specs.Test.{pick, _and_, _or_}
-use Rattle.program.proofs.Checks.{tests}
+use Rattle.model.proofs.TestLaws.{tests}
 use Rattle.store.proofs.queue.between.Statement.{statement}
 use Rattle.store.proofs.queue.between.Tie as tie
 

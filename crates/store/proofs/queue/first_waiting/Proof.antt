@@ -2,7 +2,7 @@
 use borrow.Author.Needs.{needs}
 use Rattle.model.specs.Store.{firstWaiting}
 use Rattle.model.specs.Test.{pick}
-use Rattle.program.proofs.Checks.{tests}
+use Rattle.model.proofs.TestLaws.{tests}
 use Rattle.store.proofs.queue.first_waiting.Statement.{statement}
 use Rattle.store.proofs.queue.first_waiting.Tie as tie
 

@@ -28,7 +28,7 @@ same-length c = search needs
 
 returns : tie.Need-returns
 unfolding settled storedWord index
-returns c = record { store = rw (c .before .pre .0 .queueStart); stored = rw (c .before .pre .0 .queueStart) }
+returns c = record { store = rw (c .before .pre .0 .queue-start); stored = rw (c .before .pre .0 .queue-start) }
 
 pub write-event-spec : {M : Type 1} → statement M
 write-event-spec =
