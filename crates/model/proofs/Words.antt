@@ -253,7 +253,7 @@ module _ (p s : List ℕ) (d : Device) (ps : Words p) (ss : Words s) (ds : Devic
     handler-words : {c e x : ℕ} → HandlerWords (Storing c e x) → (o : Out) → HandlerMade p v d c e x o → OutWords o
     handler-words {c = c} {e = e} {x = x} h o (record-made a s) = record { write = store-words _ s; device = handled-words _ (next, h .1, h .2) }
       where
-        next : c + 1 < 2 ^ 16
+        next : c + 1 < 3
         next = omega (arith, a .inside, record-stores (v .records) (carried e x) (v .tail), carried-one e x)
 
         store-words : (w : Write) → RecordStore (v .records) (v .tail) (carried e x) w → WriteWords w

@@ -36,9 +36,10 @@ PlaceWords (Free c) = c < 2 ^ 16
 PlaceWords (Run b j c) = BodyWords b × ((j < 2 ^ 16) × (c < 2 ^ 16))
 PlaceWords (Half b j) = BodyWords b × (j < 2 ^ 16)
 
+-- a handler at work has one of its three stores to make
 abbrev pub HandlerWords : Handler → Type 0
 HandlerWords Resting = Unit {0}
-HandlerWords (Storing c e x) = (c < 2 ^ 16) × (e < 2 ^ 16) × (x < 2 ^ 16)
+HandlerWords (Storing c e x) = (c < 3) × (e < 2 ^ 16) × (x < 2 ^ 16)
 
 -- a device state that the types allow
 pub record DeviceWords (d : Device) : Type 0 where
