@@ -1,5 +1,6 @@
 pub mod TestLaws
 pub mod ProgramLaws
+pub mod RuleLaws
 pub mod RingLaws
 pub mod LogLaws
 pub mod StoreLaws
