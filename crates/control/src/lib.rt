@@ -11,6 +11,7 @@ ghost use mathlib.Core.List.{List};
 ghost use Prim.Native.Nat.{ℕ, _+_, _<_, _≤_};
 ghost use lib.Dec.{eqb};
 ghost use Rattle.model.specs.Control.{obey, obeyAll, upTo, inPhase, committing, phaseRule, taskRule, openRule, openServing, countRule, pendingTaskRule, pendingHeadRule, pendingOpenRule, headRule, tailRule, addressRule, recordRule, rules, earlyRules};
+ghost use Rattle.control.specs.Groups.{commitRules, addressRules, recordRules};
 ghost use Rattle.model.specs.Program.{word, tasks, transaction};
 ghost use Rattle.model.specs.Store.{view};
 ghost use Rattle.model.specs.Test.{_or_, _then_};
@@ -273,7 +274,7 @@ fn record_rule(p: &[u16], store: &[u16], x: u16) -> Checked
 fn addresses(p: &[u16], store: &[u16]) -> Checked
     requires { ⌜ Contents (now p) ⌝ }
     requires { ⌜ ShapedFor (now p) (now store) ⌝ }
-    ensures { λ r. ⌜ r ≡ obeyAll (upTo (addressRule (now (p .entry)) (view (now (store .entry)))) (view (now (store .entry)) .pairs)) ⌝ }
+    ensures { λ r. ⌜ r ≡ obeyAll (addressRules (now (p .entry)) (view (now (store .entry)))) ⌝ }
 {
     let l = store[2];
     let mut j: u16 = 0;
@@ -291,7 +292,7 @@ fn addresses(p: &[u16], store: &[u16]) -> Checked
 fn records(p: &[u16], store: &[u16]) -> Checked
     requires { ⌜ Contents (now p) ⌝ }
     requires { ⌜ ShapedFor (now p) (now store) ⌝ }
-    ensures { λ r. ⌜ r ≡ obeyAll (upTo (recordRule (now (p .entry)) (view (now (store .entry)))) (view (now (store .entry)) .records + 1)) ⌝ }
+    ensures { λ r. ⌜ r ≡ obeyAll (recordRules (now (p .entry)) (view (now (store .entry)))) ⌝ }
 {
     let slots = store[3] + 1;
     let mut x: u16 = 0;
@@ -319,7 +320,7 @@ fn first(a: Checked, b: Checked) -> Checked
 fn commit_rules(p: &[u16], store: &[u16]) -> Checked
     requires { ⌜ Contents (now p) ⌝ }
     requires { ⌜ Shaped (now store) ⌝ }
-    ensures { λ r. ⌜ r ≡ (obey (openServing (view (now (store .entry)))) then obey (countRule (view (now (store .entry)))) then obey (pendingTaskRule (now (p .entry)) (view (now (store .entry)))) then obey (pendingHeadRule (view (now (store .entry))))) ⌝ }
+    ensures { λ r. ⌜ r ≡ obeyAll (commitRules (now (p .entry)) (view (now (store .entry)))) ⌝ }
 {
     if store[8] == 0 {
         return Checked::Accepted;

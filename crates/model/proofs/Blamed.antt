@@ -3,7 +3,7 @@
 -- step, and with which facts, `why` says (DeviceLaws). Assumes nothing.
 use Prim.Native.Nat.{ℕ, zero, suc, _+_, _≤_, _<_}
 use mathlib.Core.Path.{_≡_, refl, sym, ap, _∙_}
-use mathlib.Core.Logic.{_⊎_, inl, inr, _≢_}
+use mathlib.Core.Logic.{_⊎_, inl, inr, ⊎-elim, _≢_}
 use mathlib.Core.Bool.{Bool, true, false, not}
 use mathlib.Core.List.{List, [], _∷_, _++_}
 use native.Mathlib.Nat.{not-suc-le-zero}
@@ -14,12 +14,12 @@ use Rattle.model.proofs.DeviceLaws.{by-record, by-pair, by-body, Why, l
 use Rattle.model.proofs.Kept.{first-head}
 use Rattle.model.proofs.Numbers.{Low, low-contents, low-store, low-inside, low-used, low-check, low-body}
 use Rattle.model.proofs.RingLaws.{between-self}
-use Rattle.model.proofs.TestLaws.{clash, same-or, and-true, or-true-left, or-true-right, Refuses, refuses-accepted, refuses-must, refuses-then, impossible}
+use Rattle.model.proofs.TestLaws.{pick-case, clash, same-or, and-true, or-true-left, or-true-right, Refuses, refuses-accepted, refuses-must, refuses-then, impossible}
 use Rattle.model.specs.Accepted.{MayRun, Looked}
 use Rattle.model.specs.Answer.{refusal}
 use Rattle.model.specs.Calls.{Boot, Step, Cut, Post, call}
 use Rattle.model.specs.Claims.{PlaceIsBroken}
-use Rattle.model.specs.Control.{Rule, broken, obey, obeyAll, upTo, inPhase, phaseRule, openRule, countRule, headRule, tailRule, addressRule, between, recordRule, controlRules, rules, earlyRules, blames}
+use Rattle.model.specs.Control.{Rule, broken, obey, obeyAll, upTo, inPhase, phaseRule, openRule, countRule, headRule, tailRule, addressRule, between, recordRule, controlRules, rules, earlyOf, earlyRules, blames}
 use Rattle.model.specs.Device.{look, bootCheck, cut, postCheck, recordSound, headSound, openSound, bodySound}
 use Rattle.model.specs.Program.{events, memoryWords, number}
 use Rattle.model.specs.Store.{Store, view, address, event, firstWaiting}
@@ -46,6 +46,13 @@ unfolding upTo
 among-upTo f zero j l = absurd (not-suc-le-zero l)
 among-upTo f (suc n) j l =
     same-or j n (λ e. among-right (f j) (upTo f n) (f n ∷ []) (inl (ap f e))) (λ ne. among-left (f j) (upTo f n) (f n ∷ []) (among-upTo f n j (omega arith)))
+
+among-early : (r : Rule) (rs : List Rule) → Among r (earlyOf rs) → Among r rs
+unfolding earlyOf
+among-early r [] m = m
+among-early r (x ∷ xs) m =
+    pick-case (λ (ys : List Rule). Among r ys → Among r (x ∷ xs)) (λ _ n. ⊎-elim inl (λ k. inr (among-early r xs k)) n)
+    (λ _ n. inr (among-early r xs n)) m
 
 blamed-among : (r : Rule) (rs : List Rule) → Among r rs → broken r ≡ true → blames rs (r .word) ≡ true
 unfolding blames
@@ -94,16 +101,8 @@ module _ (p : List ℕ) (v : Store) where
       (among-left r (controlRules p v) (upTo (addressRule p v) (v .pairs)) m)
 
   early-among : (r : Rule) → Among r (earlyRules p v) → Among r all
-  unfolding earlyRules controlRules
-  early-among r (inl e) = in-control r (inl e)
-  early-among r (inr (inl e)) = in-control r (inr (inl e))
-  early-among r (inr (inr (inl e))) = in-control r (inr (inr (inr (inl e))))
-  early-among r (inr (inr (inr (inl e)))) = in-control r (inr (inr (inr (inr (inl e)))))
-  early-among r (inr (inr (inr (inr (inl e))))) = in-control r (inr (inr (inr (inr (inr (inl e))))))
-  early-among r (inr (inr (inr (inr (inr (inl e)))))) = in-control r (inr (inr (inr (inr (inr (inr (inl e)))))))
-  early-among r (inr (inr (inr (inr (inr (inr (inl e))))))) = in-control r (inr (inr (inr (inr (inr (inr (inr (inr (inl e)))))))))
-  early-among r (inr (inr (inr (inr (inr (inr (inr (inl e)))))))) = in-control r (inr (inr (inr (inr (inr (inr (inr (inr (inr (inl e))))))))))
-  early-among r (inr (inr (inr (inr (inr (inr (inr (inr m)))))))) = absurd m
+  unfolding earlyRules
+  early-among r m = among-early r all m
 
   open-among : Among (openRule p v) all
   unfolding controlRules

@@ -1,10 +1,10 @@
 -- The checks that a call makes pass where the invariant holds: rule 7, early and whole, 25, and what a step checks of a body.
 -- Assumes nothing.
-use Prim.Native.Nat.{ℕ, zero, suc, _+_, _-_, _≤_, _<_}
+use Prim.Native.Nat.{ℕ, _+_, _-_, _≤_, _<_}
 use mathlib.Core.Path.{_≡_, refl, ap, _∙_}
 use mathlib.Core.Logic.{_⊎_, inl, inr, _≢_}
-use mathlib.Core.Bool.{Bool, true, false, not}
-use mathlib.Core.List.{List, [], _∷_, _++_}
+use mathlib.Core.Bool.{Bool, true, false}
+use mathlib.Core.List.{List, _++_}
 use native.Mathlib.Omega.{arith}
 use borrow.Author.Tests.{lt-ltb, le-ltb, le-leb, eq-eqb, ne-eqb}
 use lib.Dec.{ltb, leb, eqb}
@@ -13,41 +13,16 @@ use Rattle.model.proofs.Invariant.{Handles, HeldAt, StillAt, CopyingAt,
 use Rattle.model.proofs.Kept.{known-waiting, first-head, first-pending, lasting-in, task-last-is, event-last-is}
 use Rattle.model.proofs.LogLaws.{addr}
 use Rattle.model.proofs.RingLaws.{Between, between-is, between-first, known-passes}
-use Rattle.model.proofs.TestLaws.{pick-case, pick-true, pick-false, below-or, and-true, or-true-left, or-true-right, not-false, must-true, then-passed, then-first, then-rest}
+use Rattle.model.proofs.TestLaws.{pick-case, pick-true, pick-false, below-or, and-true, or-true-left, or-true-right, not-false, must-true, then-passed, and-false}
 use Rattle.model.specs.Accepted.{LegalEffect, Sound}
-use Rattle.model.specs.Control.{Rule, obey, obeyAll, upTo, phaseRule, taskRule, openRule, openServing, countRule, pendingTaskRule, headRule, tailRule, pendingHeadRule, pendingOpenRule, addressRule, between, recordRule, controlRules, rules, earlyRules}
+use Rattle.model.specs.Control.{obey, obeyAll, upTo, phaseRule, taskRule, openRule, openServing, countRule, pendingTaskRule, headRule, tailRule, pendingHeadRule, pendingOpenRule, addressRule, between, recordRule, controlRules, rules, earlyRules}
 use Rattle.model.specs.Device.{taskStores, eventStores, mayRun, endStores, placeSound, recordsSound, handlerSound, deviceSound, recordSound, headSound, namedRow, openSound, headIs, ends, saves, placeFits, bodySound}
+use Rattle.model.proofs.RuleLaws.{obey-kept, obey-unasked, obey-append, obey-upTo, obey-early}
 use Rattle.model.specs.Program.{tasks, events, memoryWords, instructions, transaction, number, effectAt}
 use Rattle.model.specs.Serial.{Serial}
 use Rattle.model.specs.Store.{Store, event, carried, after, firstWaiting, distance, room, Task, Write}
 use Rattle.model.specs.Test.{_and_, _or_}
 use Rattle.model.specs.Types.{Body, Checked, Device, Effect, Free, Half, Handler, Place, Resting, Run, Storing}
-
--- ---- a rule that is kept, or doesn't speak
-
-and-false : (a b : Bool) → b ≡ false → (a and b) ≡ false
-unfolding _and_
-and-false true b e = e
-and-false false b e = refl
-
-pub obey-kept : (r : Rule) → r .kept ≡ true → obey r ≡ Checked.Accepted
-unfolding obey
-obey-kept r e = must-true _ (not-false (and-false (r .asked) (not (r .kept)) (ap not e)))
-
-pub obey-unasked : (r : Rule) → r .asked ≡ false → obey r ≡ Checked.Accepted
-unfolding obey _and_
-obey-unasked r e = must-true _ (rw e)
-
-obey-append : (rs ss : List Rule) → obeyAll rs ≡ Checked.Accepted → obeyAll ss ≡ Checked.Accepted → obeyAll (rs ++ ss) ≡ Checked.Accepted
-unfolding obeyAll
-obey-append [] ss e f = f
-obey-append (r ∷ rs) ss e f = then-passed (then-first _ _ e) (obey-append rs ss (then-rest _ _ e) f)
-
-obey-upTo : (f : ℕ → Rule) (n : ℕ) → ((j : ℕ) → j < n → obey (f j) ≡ Checked.Accepted) → obeyAll (upTo f n) ≡ Checked.Accepted
-unfolding upTo obeyAll
-obey-upTo f zero h = refl
-obey-upTo f (suc n) h =
-    obey-append (upTo f n) (f n ∷ []) (obey-upTo f n (λ j l. h j (omega arith))) (then-passed (h n (omega arith)) refl)
 
 -- ---- what the invariant says of the control words
 
@@ -198,15 +173,8 @@ module _ (p : List ℕ) (v : Store) (z : Serial) (held : HeldAt p v z) (resumes 
       (obey-upTo (recordRule p v) (v .records + 1) (λ x l. record-obeyed p v (known-waiting (held .waits)) x (omega arith)))
 
   pub early-obeyed : obeyAll (earlyRules p v) ≡ Checked.Accepted
-  unfolding earlyRules obeyAll
-  early-obeyed =
-      then-passed (phase-obeyed p v ph)
-      (then-passed task-ok
-      (then-passed (serving-obeyed p v ph)
-      (then-passed (count-obeyed p v ph)
-      (then-passed (pending-obeyed p v ph)
-      (then-passed (pendingHead-obeyed p v ph)
-      (then-passed (head-obeyed p v (held .head-in)) (then-passed (tail-obeyed p v (held .waits .tail-in)) refl)))))))
+  unfolding earlyRules
+  early-obeyed = obey-early (rules p v) rules-obeyed
 
 -- ---- 25
 

@@ -1,15 +1,16 @@
 -- The way back to what step and post look at: `Fit` says what these early checks ask of the store by its parts and of the device, and
 -- they pass where it holds (`look-passes`). Assumes nothing.
 use Prim.Native.Nat.{ℕ, zero, suc, _≤_, _<_}
-use mathlib.Core.Path.{_≡_, refl, _∙_}
+use mathlib.Core.Path.{_≡_, refl, ap, _∙_}
 use mathlib.Core.Logic.{⊎-elim, _≢_}
 use mathlib.Core.Bool.{Bool, true}
 use mathlib.Core.List.{List}
 use native.Mathlib.Omega.{arith}
 use borrow.Author.Tests.{eqb-true, eqb-false, lt-ltb, le-leb, eq-eqb, ne-eqb}
 use lib.Dec.{eqb}
-use Rattle.model.proofs.Passed.{obey-if, look-passed}
+use Rattle.model.proofs.Passed.{look-passed}
 use Rattle.model.proofs.RingLaws.{known-passes}
+use Rattle.model.proofs.RuleLaws.{obey-if, early-are}
 use Rattle.model.proofs.TestLaws.{pick-case, pick-true, clash, and-true, and-left, or-true-left, or-true-right, not-false, must-true, then-passed, then-first, then-rest}
 use Rattle.model.specs.Accepted.{ControlledBy, Controlled, MayRun, Stands, Attends, Looked}
 use Rattle.model.specs.Check.{contentsRule}
@@ -28,9 +29,10 @@ commits zero e z = clash e refl
 commits (suc n) e z = omega arith
 
 pub control-passes : (p : List ℕ) (v : Store) → Controlled p v → obeyAll (earlyRules p v) ≡ Checked.Accepted
-unfolding earlyRules obeyAll phaseRule taskRule openServing countRule pendingTaskRule pendingHeadRule headRule tailRule
+unfolding obeyAll phaseRule taskRule openServing countRule pendingTaskRule pendingHeadRule headRule tailRule
 control-passes p v h =
-    then-passed (obey-if _ (λ _. le-leb _ _ (h .phase-in)))
+    ap obeyAll (early-are p v)
+    ∙ then-passed (obey-if _ (λ _. le-leb _ _ (h .phase-in)))
     (then-passed (obey-if _ (λ _. lt-ltb _ _ (h .task-in)))
     (then-passed (obey-if _ (λ e. eq-eqb _ _ (h .open-none (eqb-true _ _ e))))
     (then-passed (obey-if _ (λ e. le-leb _ _ (h .count-in (commits (v .phase) e))))

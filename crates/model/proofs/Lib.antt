@@ -1,6 +1,7 @@
 pub mod TestLaws
 pub mod ProgramLaws
 pub mod FirstStores
+pub mod RuleLaws
 pub mod RingLaws
 pub mod LogLaws
 pub mod StoreLaws

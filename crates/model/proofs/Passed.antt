@@ -3,7 +3,7 @@
 use Prim.Native.Nat.{ℕ, _≤_, _<_}
 use mathlib.Core.Path.{_≡_, refl, sym, _∙_}
 use mathlib.Core.Logic.{_⊎_, inl, inr, ⊎-elim}
-use mathlib.Core.Bool.{Bool, true, false, not}
+use mathlib.Core.Bool.{Bool, true, false}
 use mathlib.Core.List.{List}
 use native.Mathlib.Omega.{arith}
 use borrow.Author.Tests.{ltb-true, leb-true, eqb-true, eqb-false, eq-eqb, ne-eqb, not-true}
@@ -11,11 +11,12 @@ use lib.Dec.{ltb}
 use lib.ListN.{length}
 use Rattle.model.proofs.ProgramLaws.{_&_, by-opcode, Fits, contents-passed, row-passed, instruction-leads}
 use Rattle.model.proofs.RingLaws.{known-passed}
+use Rattle.model.proofs.RuleLaws.{obeyed, early-are}
 use Rattle.model.proofs.StoreLaws.{Sized}
-use Rattle.model.proofs.TestLaws.{pick-true, pick-false, clash, same-or, and-true, and-left, and-right, or-true-left, or-true-right, must-true, must-passed, must-then, then-first, then-rest}
+use Rattle.model.proofs.TestLaws.{pick-true, pick-false, same-or, and-true, and-left, and-right, or-true-left, or-true-right, must-passed, must-then, then-first, then-rest}
 use Rattle.model.specs.Accepted.{Contents, Registers, Legal, Sizes, ShapedFor, Controlled, MayRun, Stands, Attends, Looked, BodyIs}
 use Rattle.model.specs.Check.{fieldsFit, instructionRule}
-use Rattle.model.specs.Control.{Rule, obey, obeyAll, phaseRule, taskRule, openServing, countRule, pendingTaskRule, headRule, tailRule, pendingHeadRule, earlyRules}
+use Rattle.model.specs.Control.{obeyAll, phaseRule, taskRule, openServing, countRule, pendingTaskRule, headRule, tailRule, pendingHeadRule, earlyRules}
 use Rattle.model.specs.Device.{mayRun, placeSound, recordsSound, handlerSound, deviceSound, look, bodySound}
 use Rattle.model.specs.Program.{word, tasks, memoryWords, instructions, number, opcode, fieldA, fieldB, code, operand, bounds, decode}
 use Rattle.model.specs.Store.{Store, view, carried, room, logAt, queueAt, storeLength, storeRule, sizesRule}
@@ -109,29 +110,10 @@ unfolding _or_
 or-cases true b e = inl refl
 or-cases false b e = inr e
 
-spoken : (a k : Bool) → not (a and not k) ≡ true → a ≡ true → k ≡ true
-unfolding _and_
-spoken true true e f = refl
-spoken true false e f = e
-spoken false k e f = clash f refl
-
-unspoken : (a k : Bool) → (a ≡ true → k ≡ true) → not (a and not k) ≡ true
-unfolding _and_
-unspoken true k f = rw (f refl)
-unspoken false k f = refl
-
--- a rule that isn't broken is kept where it speaks, and the other way round
-pub obeyed : (r : Rule) → obey r ≡ Checked.Accepted → r .asked ≡ true → r .kept ≡ true
-unfolding obey
-obeyed r e = spoken (r .asked) (r .kept) (must-passed _ _ e)
-
-pub obey-if : (r : Rule) → (r .asked ≡ true → r .kept ≡ true) → obey r ≡ Checked.Accepted
-unfolding obey
-obey-if r f = must-true _ (unspoken (r .asked) (r .kept) f)
-
 pub control-passed : (p : List ℕ) (v : Store) → obeyAll (earlyRules p v) ≡ Checked.Accepted → Controlled p v
-unfolding earlyRules obeyAll phaseRule taskRule openServing countRule pendingTaskRule pendingHeadRule headRule tailRule
-control-passed p v e0 =
+unfolding obeyAll phaseRule taskRule openServing countRule pendingTaskRule pendingHeadRule headRule tailRule
+control-passed p v e =
+    let e0 = rw (early-are p v) at e in
     let e1 = then-rest _ _ e0 in
     let e2 = then-rest _ _ e1 in
     let e3 = then-rest _ _ e2 in

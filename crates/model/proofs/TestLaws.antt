@@ -51,6 +51,11 @@ unfolding _and_
 and-right true b e = e
 and-right false b e = clash e refl
 
+pub and-false : (a b : Bool) → b ≡ false → (a and b) ≡ false
+unfolding _and_
+and-false true b e = e
+and-false false b e = refl
+
 pub or-true-left : (a b : Bool) → a ≡ true → (a or b) ≡ true
 unfolding _or_
 or-true-left a b e = rw e

@@ -9,14 +9,19 @@ use Rattle.model.specs.Store.{Store, address, event, after, empty, first
 use Rattle.model.specs.Test.{pick, _and_, _or_, must, _then_}
 use Rattle.model.specs.Types.{Checked, Refusal}
 
--- A rule speaks where `asked` is true: in its phases, and where the words that it needs are sound.
+-- A rule speaks where `asked` is true: in its phases, and where the words that it needs are sound. It is `early` if it needs no row, no
+-- log pair and no record.
 pub record Rule : Type 0 where
   pub word : ℕ
+  pub early : Bool
   pub asked : Bool
   pub kept : Bool
 
-abbrev rule : ℕ → Bool → Bool → Rule
-rule w asked kept = record { word = w; asked = asked; kept = kept }
+abbrev earlyRule : ℕ → Bool → Bool → Rule
+earlyRule w asked kept = record { word = w; early = true; asked = asked; kept = kept }
+
+abbrev lateRule : ℕ → Bool → Bool → Rule
+lateRule w asked kept = record { word = w; early = false; asked = asked; kept = kept }
 
 abbrev pub broken : Rule → Bool
 broken r = r .asked and not (r .kept)
@@ -44,52 +49,52 @@ committing v = inPhase v 1 or inPhase v 2
 
 -- "8 at most 2"
 unfoldable pub phaseRule : Store → Rule
-phaseRule v = rule 8 true (leb (v .phase) 2)
+phaseRule v = earlyRule 8 true (leb (v .phase) 2)
 
 -- "9 below T"
 unfoldable pub taskRule : List ℕ → Store → Rule
-taskRule p v = rule 9 true (ltb (v .task) (tasks p))
+taskRule p v = earlyRule 9 true (ltb (v .task) (tasks p))
 
 -- "in phase 0, 10 is 0 or the transaction number of task 9"
 unfoldable pub openRule : List ℕ → Store → Rule
 openRule p v =
-    rule 10 (inPhase v 0 and taskRule p v .kept) (eqb (v .openNumber) 0 or eqb (v .openNumber) (transaction p (v .task)))
+    lateRule 10 (inPhase v 0 and taskRule p v .kept) (eqb (v .openNumber) 0 or eqb (v .openNumber) (transaction p (v .task)))
 
 -- "in phase 2, 10 is 0"
 unfoldable pub openServing : Store → Rule
-openServing v = rule 10 (inPhase v 2) (eqb (v .openNumber) 0)
+openServing v = earlyRule 10 (inPhase v 2) (eqb (v .openNumber) 0)
 
 -- "In phases 1 and 2, 11 at most L"
 unfoldable pub countRule : Store → Rule
-countRule v = rule 11 (committing v) (leb (v .count) (v .pairs))
+countRule v = earlyRule 11 (committing v) (leb (v .count) (v .pairs))
 
 -- "In phase 1, 12 below T"
 unfoldable pub pendingTaskRule : List ℕ → Store → Rule
-pendingTaskRule p v = rule 12 (inPhase v 1) (ltb (v .pending) (tasks p))
+pendingTaskRule p v = earlyRule 12 (inPhase v 1) (ltb (v .pending) (tasks p))
 
 -- "14 and 15 at most Q"
 unfoldable pub headRule : Store → Rule
-headRule v = rule 14 true (leb (v .head) (v .records))
+headRule v = earlyRule 14 true (leb (v .head) (v .records))
 
 unfoldable pub tailRule : Store → Rule
-tailRule v = rule 15 true (leb (v .tail) (v .records))
+tailRule v = earlyRule 15 true (leb (v .tail) (v .records))
 
 -- "In phase 2, 12 at most Q and equals 14, or is the slot after it with the queue not empty."
 unfoldable pub pendingHeadRule : Store → Rule
 pendingHeadRule v =
-    rule 12 (inPhase v 2 and headRule v .kept and tailRule v .kept)
+    earlyRule 12 (inPhase v 2 and headRule v .kept and tailRule v .kept)
     (leb (v .pending) (v .records)
     and (eqb (v .pending) (v .head) or (eqb (v .pending) (after (v .records) (v .head)) and not (empty v))))
 
 -- "and 13 is 0 or task 12's number"
 unfoldable pub pendingOpenRule : List ℕ → Store → Rule
 pendingOpenRule p v =
-    rule 13 (inPhase v 1 and pendingTaskRule p v .kept) (eqb (v .pendingOpen) 0 or eqb (v .pendingOpen) (transaction p (v .pending)))
+    lateRule 13 (inPhase v 1 and pendingTaskRule p v .kept) (eqb (v .pendingOpen) 0 or eqb (v .pendingOpen) (transaction p (v .pending)))
 
 -- "the first n log addresses below M", pair j's
 unfoldable pub addressRule : List ℕ → Store → ℕ → Rule
 addressRule p v j =
-    rule (logAt (memoryWords p) + 2 * j) (committing v and countRule v .kept and ltb j (v .count)) (ltb (address v j) (memoryWords p))
+    lateRule (logAt (memoryWords p) + 2 * j) (committing v and countRule v .kept and ltb j (v .count)) (ltb (address v j) (memoryWords p))
 
 -- does a record wait in slot x, of records from slot h up to slot t?
 unfoldable pub between : ℕ → ℕ → ℕ → Bool
@@ -98,7 +103,7 @@ between h t x = pick (leb h t) (leb h x and ltb x t) (leb h x or ltb x t)
 -- "each waiting record's event below E", slot x's
 unfoldable pub recordRule : List ℕ → Store → ℕ → Rule
 recordRule p v x =
-    rule (queueAt (memoryWords p) (v .pairs) + 2 * x)
+    lateRule (queueAt (memoryWords p) (v .pairs) + 2 * x)
     (phaseRule v .kept
     and headRule v .kept
     and tailRule v .kept
@@ -124,17 +129,12 @@ controlRules p v =
 unfoldable pub rules : List ℕ → Store → List Rule
 rules p v = controlRules p v ++ upTo (addressRule p v) (v .pairs) ++ upTo (recordRule p v) (v .records + 1)
 
+unfoldable pub earlyOf : List Rule → List Rule
+earlyOf [] = []
+earlyOf (r ∷ rs) = pick (r .early) (r ∷ earlyOf rs) (earlyOf rs)
+
 unfoldable pub earlyRules : List ℕ → Store → List Rule
-earlyRules p v =
-    phaseRule v
-    ∷ taskRule p v
-    ∷ openServing v
-    ∷ countRule v
-    ∷ pendingTaskRule p v
-    ∷ pendingHeadRule v
-    ∷ headRule v
-    ∷ tailRule v
-    ∷ []
+earlyRules p v = earlyOf (rules p v)
 
 -- "Place: the word of any broken rule, that is the first word it names": w is such a word
 unfoldable pub blames : List Rule → ℕ → Bool

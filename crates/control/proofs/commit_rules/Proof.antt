@@ -1,8 +1,9 @@
 -- `commit_rules` meets its contract: in phase 0 no rule of them is asked, else their answers are joined. Assumes nothing.
+use mathlib.Core.Path.{sym, _∙_}
 use borrow.Author.Needs.{needs}
-use Rattle.model.specs.Control.{obey, openServing, countRule, pendingTaskRule, pendingHeadRule}
+use Rattle.model.specs.Control.{obey, obeyAll, openServing, countRule, pendingTaskRule, pendingHeadRule}
 use Rattle.model.specs.Test.{must, _and_, _or_, _then_}
-use Rattle.model.proofs.TestLaws.{last, next, begin}
+use Rattle.model.proofs.TestLaws.{then-accepted, last, next, begin}
 use Rattle.control.proofs.commit_rules.Statement.{statement}
 use Rattle.control.proofs.commit_rules.Tie as tie
 
@@ -10,7 +11,7 @@ shared-slice-read-if1 : tie.Need-shared-slice-read-if1
 shared-slice-read-if1 c = search needs
 
 returns : tie.Need-returns
-unfolding obey openServing countRule pendingTaskRule pendingHeadRule must _and_ _or_ _then_
+unfolding obey obeyAll openServing countRule pendingTaskRule pendingHeadRule must _and_ _or_ _then_
 returns c = rw (c .if1 .taken)
 
 open-serving-requires : tie.Need-open-serving-requires
@@ -35,8 +36,9 @@ first-requires-3 : tie.Need-first-requires-3
 first-requires-3 c κs = search needs
 
 returns-2 : tie.Need-returns-2
+unfolding obeyAll
 returns-2 c =
-    last _ (c .first3 .ensures) (c .before .pending-head-rule .ensures)
+    last _ (c .first3 .ensures) (c .before .pending-head-rule .ensures ∙ sym (then-accepted _))
     (next _ _ (c .before .before .first2 .ensures) (c .before .before .before .pending-task-rule .ensures)
     (next _ _ (c .before .before .before .before .first .ensures) (c .before .before .before .before .before .count-rule .ensures)
     (begin _ (c .before .before .before .before .before .before .open-serving .ensures))))

@@ -1,11 +1,29 @@
 -- `early` meets its contract: the first rule that isn't obeyed answers, in three groups. Assumes nothing.
-use mathlib.Core.Path.{_∙_}
+use Prim.Native.Nat.{ℕ}
+use mathlib.Core.List.{List, [], _∷_}
+use mathlib.Core.Path.{_≡_, sym, ap, _∙_}
 use borrow.Author.Needs.{needs}
-use Rattle.model.specs.Control.{earlyRules, obeyAll}
-use Rattle.model.proofs.TestLaws.{then-stop, then-go, last, begin}
-use Rattle.control.proofs.Rules.{grouped}
+use Rattle.model.specs.Control.{obey, obeyAll, phaseRule, taskRule, headRule, tailRule, earlyRules}
+use Rattle.model.specs.Store.{Store}
+use Rattle.model.specs.Test.{_then_}
+use Rattle.model.specs.declared.Checked.{Checked}
+use Rattle.model.proofs.TestLaws.{then-assoc, then-accepted, then-stop, then-go, last, begin}
+use Rattle.model.proofs.RuleLaws.{obeyAll-append, early-are}
+use Rattle.control.specs.Groups.{commitRules}
 use Rattle.control.proofs.early.Statement.{statement}
 use Rattle.control.proofs.early.Tie as tie
+
+-- the early rules in the groups of the code
+in-groups : (p : List ℕ) (v : Store)
+    → ((obey (phaseRule v) then obey (taskRule p v)) then (obeyAll (commitRules p v) then (obey (headRule v) then obey (tailRule v))))
+    ≡ obeyAll (earlyRules p v)
+unfolding obeyAll
+in-groups p v =
+    then-assoc _ _ _
+    ∙ ap (λ (c : Checked). obey (phaseRule v) then obey (taskRule p v) then c)
+    (ap (λ (c : Checked). obeyAll (commitRules p v) then (obey (headRule v) then c)) (sym (then-accepted (obey (tailRule v))))
+    ∙ sym (obeyAll-append (commitRules p v) (headRule v ∷ tailRule v ∷ [])))
+    ∙ sym (ap obeyAll (early-are p v))
 
 phase-rule-requires : tie.Need-phase-rule-requires
 phase-rule-requires c κs = search needs
@@ -23,8 +41,7 @@ enum-told-2 : tie.Need-enum-told-2
 enum-told-2 c = search needs
 
 returns : tie.Need-returns
-unfolding earlyRules obeyAll
-returns c = then-stop _ _ (last _ (c .before .before .first .ensures) (c .before .before .before .task-rule .ensures) (begin _ (c .before .before .before .before .phase-rule .ensures))) (c .enum-told2 .given .1) ∙ grouped _ _ _ _ _ _ _ _
+returns c = then-stop _ _ (last _ (c .before .before .first .ensures) (c .before .before .before .task-rule .ensures) (begin _ (c .before .before .before .before .phase-rule .ensures))) (c .enum-told2 .given .1) ∙ in-groups _ _
 
 commit-rules-requires : tie.Need-commit-rules-requires
 commit-rules-requires c κs = search needs
@@ -36,8 +53,7 @@ enum-told-4 : tie.Need-enum-told-4
 enum-told-4 c = search needs
 
 returns-2 : tie.Need-returns-2
-unfolding earlyRules obeyAll
-returns-2 c = then-stop _ _ (c .before .before .commit-rules .ensures) (c .enum-told4 .given .1) ∙ then-go _ _ (last _ (c .before .before .before .before .before .first .ensures) (c .before .before .before .before .before .before .task-rule .ensures) (begin _ (c .before .before .before .before .before .before .before .phase-rule .ensures))) (c .before .before .before .enum-told .given .1) ∙ grouped _ _ _ _ _ _ _ _
+returns-2 c = then-stop _ _ (c .before .before .commit-rules .ensures) (c .enum-told4 .given .1) ∙ then-go _ _ (last _ (c .before .before .before .before .before .first .ensures) (c .before .before .before .before .before .before .task-rule .ensures) (begin _ (c .before .before .before .before .before .before .before .phase-rule .ensures))) (c .before .before .before .enum-told .given .1) ∙ in-groups _ _
 
 head-rule-requires : tie.Need-head-rule-requires
 head-rule-requires c κs = search needs
@@ -49,12 +65,11 @@ first-requires-2 : tie.Need-first-requires-2
 first-requires-2 c κs = search needs
 
 returns-3 : tie.Need-returns-3
-unfolding earlyRules obeyAll
 returns-3 c =
     last _ (c .first2 .ensures) (c .before .tail-rule .ensures) (begin _ (c .before .before .head-rule .ensures))
     ∙ then-go _ _ (c .before .before .before .before .before .commit-rules .ensures) (c .before .before .before .enum-told3 .given .1)
     ∙ then-go _ _ (last _ (c .before .before .before .before .before .before .before .before .first .ensures) (c .before .before .before .before .before .before .before .before .before .task-rule .ensures) (begin _ (c .before .before .before .before .before .before .before .before .before .before .phase-rule .ensures))) (c .before .before .before .before .before .before .enum-told .given .1)
-    ∙ grouped _ _ _ _ _ _ _ _
+    ∙ in-groups _ _
 
 pub early-spec : {M : Type 1} → statement M
 early-spec =

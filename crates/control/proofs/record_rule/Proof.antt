@@ -7,7 +7,7 @@ use borrow.Author.Tests.{le-ltb, lt-ltb}
 use Rattle.model.specs.Control.{recordRule}
 use Rattle.model.specs.Store.{view}
 use Rattle.model.proofs.TestLaws.{passed, failed}
-use Rattle.control.proofs.Rules.{unasked, refused, obeyed}
+use Rattle.model.proofs.RuleLaws.{obey-unasked, obey-kept, obey-broken}
 use Rattle.control.proofs.record_rule.Statement.{statement}
 use Rattle.control.proofs.record_rule.Tie as tie
 
@@ -18,8 +18,8 @@ returns : tie.Need-returns
 unfolding recordRule
 returns c =
     let c4 = c .before .before .before .before in
-    unasked (recordRule (c4 .args .p .now) (view (c4 .args .store .now)) (c4 .args .x))
-    (failed (c .before .record-waits .ensures (c4 .args .p .now)) (c .if1 .taken))
+    sym (obey-unasked (recordRule (c4 .args .p .now) (view (c4 .args .store .now)) (c4 .args .x))
+    (failed (c .before .record-waits .ensures (c4 .args .p .now)) (c .if1 .taken)))
 
 event-requires : tie.Need-event-requires
 event-requires c κs = search needs
@@ -43,7 +43,7 @@ returns-2 c =
     let c4 = c3 .before in
     let c5 = c4 .before in
     let c8 = c5 .before .before .before in
-    refused (recordRule (c8 .args .p .now) (view (c8 .args .store .now)) (c8 .args .x))
+    obey-broken (recordRule (c8 .args .p .now) (view (c8 .args .store .now)) (c8 .args .x))
     (passed (c5 .record-waits .ensures (c8 .args .p .now)) (c4 .if1 .left))
     (rw (sym (c3 .event .ensures)) (le-ltb _ _ (c .before .if2 .taken))) (omega arith)
 
@@ -54,9 +54,8 @@ returns-3 c =
     let c3 = c2 .before in
     let c4 = c3 .before in
     let c7 = c4 .before .before .before in
-    obeyed (recordRule (c7 .args .p .now) (view (c7 .args .store .now)) (c7 .args .x))
-    (passed (c4 .record-waits .ensures (c7 .args .p .now)) (c3 .if1 .left))
-    (rw (sym (c2 .event .ensures)) (lt-ltb _ _ (c .if2 .left)))
+    sym (obey-kept (recordRule (c7 .args .p .now) (view (c7 .args .store .now)) (c7 .args .x))
+    (rw (sym (c2 .event .ensures)) (lt-ltb _ _ (c .if2 .left))))
 
 pub record-rule-spec : {M : Type 1} → statement M
 record-rule-spec =

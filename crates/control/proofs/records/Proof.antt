@@ -7,7 +7,7 @@ use Rattle.model.specs.Control.{obeyAll, upTo, recordRule}
 use Rattle.model.specs.Program.{word}
 use Rattle.model.specs.Store.{view}
 use Rattle.model.specs.declared.Checked.{Checked}
-use Rattle.control.proofs.Rules.{none-asked, one-more, stopped}
+use Rattle.model.proofs.RuleLaws.{none-asked, one-more, stopped}
 use Rattle.control.proofs.records.Statement.{statement}
 use Rattle.control.proofs.records.Tie as tie
 

@@ -7,7 +7,7 @@ use Rattle.model.specs.Control.{controlRules, obeyAll, upTo, addressRule, recor
 use Rattle.model.specs.Program.{word}
 use Rattle.model.specs.Store.{view}
 use Rattle.model.proofs.TestLaws.{last, next, begin}
-use Rattle.control.proofs.Rules.{obeyAll-append}
+use Rattle.model.proofs.RuleLaws.{obeyAll-append}
 use Rattle.control.proofs.whole.Statement.{statement}
 use Rattle.control.proofs.whole.Tie as tie
 
