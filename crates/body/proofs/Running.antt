@@ -1,4 +1,4 @@
--- The laws of a running body: the record at head, what the early checks give, a fetch check by check, and `placeStep` from what
+-- The laws of a running body: what the early checks give, a fetch check by check, and `placeStep` from what
 -- is fetched. Assumes nothing.
 use Prim.Native.Nat.{ℕ, _+_, _*_, _≤_, _<_}
 use mathlib.Core.Bool.{Bool, true, false}
@@ -22,19 +22,8 @@ use Rattle.model.specs.declared.Place.{Place}
 use Rattle.model.specs.declared.Place.the-variants.{Free, Run, Half}
 use Rattle.model.specs.declared.Refusal.{Refusal}
 use Rattle.model.proofs.ProgramLaws.{inside-passed, used-passed}
-use Rattle.body.specs.Running.{Running, does, fetched, bodyAt, instructionAt}
+use Rattle.body.specs.Running.{Running, OfBody, rowSound, lastSound, does, fetched, fetchedAt, bodyAt, instructionAt}
 use Rattle.body.specs.declared.Fetched.{Fetched}
-
--- ---- the record at head, whose event is e
-
-module _ (p : List ℕ) (v : Store) {e : ℕ} (is : e ≡ event v (v .head)) where
-  pub record-broken : {w : ℕ} → events p ≤ e → w ≡ queueAt (memoryWords p) (v .pairs) + 2 * v .head → Checked.Refused (Refusal.Control w) ≡ recordSound p v
-  unfolding recordSound must
-  record-broken h k = simp (sym is, le-ltb _ _ h, k)
-
-  pub record-kept : e < events p → Checked.Accepted ≡ recordSound p v
-  unfolding recordSound must
-  record-kept h = simp (sym is, lt-ltb _ _ h)
 
 -- ---- what the early checks give
 
@@ -73,7 +62,7 @@ module _ (p s : List ℕ) (d : Device) (h : Looked p s d) where
   pub running-half : (b : Body) (j : ℕ) → d .place ≡ Half b j → Running p s b
   running-half b j e = let m = stands e in may-run b (m .1) (m .0)
 
-  pub running-at : (x : Place) → d .place ≡ x → ((n : ℕ) → d .place ≡ Free n → ⊥) → Running p s (bodyAt x)
+  pub running-at : (x : Place) → d .place ≡ x → OfBody (d .place) → Running p s (bodyAt x)
   unfolding bodyAt
   running-at (Free n) e has = absurd (has n e)
   running-at (Run b j n) e has = running b j n e
@@ -96,9 +85,6 @@ row-first (Checked.Refused r) b c d = refl
 abbrev whole : Checked → Bool → Checked → Checked → Bool → Checked
 whole a t m o h = a then pick t m Checked.Accepted then o then must (t and h and true) Refusal.State
 
-abbrev rowChecks : List ℕ → Store → Body → Checked
-rowChecks p v b = headSound p v b then rowsInside p then rowUsed p (number p b)
-
 module _ (p : List ℕ) (v : Store) (r : List ℕ) (b : Body) (j : ℕ) where
   abbrev there : Bool
   there = ltb j (instructions p (number p b))
@@ -109,18 +95,15 @@ module _ (p : List ℕ) (v : Store) (r : List ℕ) (b : Body) (j : ℕ) where
   abbrev codeChecks : Checked
   codeChecks = instructionRule p (number p b) j then namedRow p at
 
-  abbrev lastChecks : Checked
-  lastChecks = openSound p v b then must (headIs v b) Refusal.State
-
-  fetched-is : fetched p v r b j ≡ does (whole (rowChecks p v b) there codeChecks (openSound p v b) (headIs v b)) at
+  fetched-is : fetched p v r b j ≡ does (whole (rowSound p v b) there codeChecks (openSound p v b) (headIs v b)) at
   unfolding fetched bodySound placeFits
   fetched-is = ap (λ (x : Checked). does x at) (row-first _ _ _ _)
 
-  pub fetched-row : {x : Refusal} → rowChecks p v b ≡ Checked.Refused x → Fetched.Refused x ≡ fetched p v r b j
+  pub fetched-row : {x : Refusal} → rowSound p v b ≡ Checked.Refused x → Fetched.Refused x ≡ fetched p v r b j
   unfolding does _then_
   fetched-row e = rw fetched-is (rw e)
 
-  module _ (row : rowChecks p v b ≡ Checked.Accepted) where
+  module _ (row : rowSound p v b ≡ Checked.Accepted) where
     pub gone-open : {x : Refusal} → there ≡ false → openSound p v b ≡ Checked.Refused x → Fetched.Refused x ≡ fetched p v r b j
     unfolding does _then_ pick
     gone-open t o = rw fetched-is (simp (row, t, o))
@@ -139,13 +122,13 @@ module _ (p : List ℕ) (v : Store) (r : List ℕ) (b : Body) (j : ℕ) where
       last-is true o = refl
       last-is false o = refl
 
-      pub fetched-last : codeChecks ≡ Checked.Accepted → does lastChecks at ≡ fetched p v r b j
+      pub fetched-last : codeChecks ≡ Checked.Accepted → does (lastSound p v b) at ≡ fetched p v r b j
       unfolding _then_ pick
       fetched-last c = rw fetched-is (simp (row, t, c) (ap (λ (x : Checked). does x at) (sym (last-is (headIs v b) (openSound p v b)))))
 
 -- ---- what an accepted row gives
 
-pub row-given : (p s : List ℕ) (b : Body) → Running p s b → rowChecks p (view s) b ≡ Checked.Accepted → HasBody p (number p b)
+pub row-given : (p s : List ℕ) (b : Body) → Running p s b → rowSound p (view s) b ≡ Checked.Accepted → HasBody p (number p b)
 row-given p s b h e =
     let rest = then-rest _ _ e in
     used-passed p (number p b)
@@ -241,17 +224,14 @@ module _ (p : List ℕ) (v : Store) (d : Device) (b : Body) (j : ℕ) where
 
 -- ---- the same at a place of a body
 
-pub there-refused : (p : List ℕ) (v : Store) (d : Device) {x : Refusal} (y : Place) → ((n : ℕ) → y ≡ Free n → ⊥) → fetched p v (d .regs) (bodyAt y) (instructionAt y) ≡ Fetched.Refused x → placeStep p v d y ≡ refuse d x
+pub there-refused : (p : List ℕ) (v : Store) (d : Device) {x : Refusal} (y : Place) → OfBody y → fetchedAt p v (d .regs) y ≡ Fetched.Refused x → placeStep p v d y ≡ refuse d x
 unfolding bodyAt instructionAt
 there-refused p v d (Free n) has e = absurd (has n refl)
 there-refused p v d (Run b j n) has e = run-refused p v d b j n e
 there-refused p v d (Half b j) has e = half-refused p v d b j e
 
 module _ (p : List ℕ) (v : Store) (d : Device) (y : Place) where
-  abbrev fetchedThere : Fetched
-  fetchedThere = fetched p v (d .regs) (bodyAt y) (instructionAt y)
-
-  module _ {f : Effect} (e : fetchedThere ≡ Fetched.Does f) where
+  module _ {f : Effect} (e : fetchedAt p v (d .regs) y ≡ Fetched.Does f) where
     pub there-unfit : (b : Body) (j n : ℕ) → y ≡ Run b j n → placeFits (Run b j n) f ≡ false → placeStep p v d y ≡ refuse d Refusal.State
     unfolding bodyAt instructionAt
     there-unfit b j n q h = rw q (run-unfit p v d b j (rw q at e) n h)

@@ -4,14 +4,18 @@
 use Prim.Native.Nat.{ℕ, _≤_, _<_}
 use mathlib.Core.List.{List}
 use mathlib.Core.Path.{_≡_}
-use Rattle.model.specs.Device.{endStores, bodySound}
+use Rattle.model.specs.Check.{rowsInside, rowUsed, instructionRule}
+use Rattle.model.specs.Device.{Out, endStores, headSound, namedRow, openSound, headIs, bodySound, act}
 use Rattle.model.specs.Program.{word, tasks, bodies, number, effectAt}
 use Rattle.model.specs.Store.{Store}
+use Rattle.model.specs.Test.{must, _then_}
 use Rattle.model.specs.declared.Body.{Body}
 use Rattle.model.specs.declared.Checked.{Checked}
+use Rattle.model.specs.declared.Device.{Device}
 use Rattle.model.specs.declared.Effect.{Effect}
 use Rattle.model.specs.declared.Place.{Place}
 use Rattle.model.specs.declared.Place.the-variants.{Free, Run, Half}
+use Rattle.model.specs.declared.Refusal.{Refusal}
 use Rattle.model.specs.Accepted.{Contents, HasInstruction, LegalEffect, ShapedFor}
 use Rattle.body.specs.declared.Fetched.{Fetched}
 
@@ -31,9 +35,25 @@ pub record Fetches (p : List ℕ) (b : Body) (j : ℕ) (f : Effect) : Type 0 whe
   pub instruction : HasInstruction p (number p b) j
   pub legal : LegalEffect p (number p b) j f
 
+-- what an instruction does, with c stores of its end made, as a case of a step
+abbrev pub acts : List ℕ → Body → ℕ → ℕ → Effect → Store → Device → Out
+acts p b j c f v d = act p v d b j c f
+
+-- ---- A fetch: the checks of a body's record and of its row; the instruction with the row that it names; word 10 and a running event's record
+
+abbrev pub rowSound : List ℕ → Store → Body → Checked
+rowSound p v b = headSound p v b then rowsInside p then rowUsed p (number p b)
+
+abbrev pub lastSound : List ℕ → Store → Body → Checked
+lastSound p v b = openSound p v b then must (headIs v b) Refusal.State
+
 unfoldable pub does : Checked → Effect → Fetched
 does Checked.Accepted f = Fetched.Does f
 does (Checked.Refused r) f = Fetched.Refused r
+
+-- of the instruction alone, with the registers r
+abbrev pub instructionFetched : List ℕ → List ℕ → ℕ → ℕ → Fetched
+instructionFetched p r i j = does (instructionRule p i j then namedRow p (effectAt p i j r)) (effectAt p i j r)
 
 unfoldable pub fetched : List ℕ → Store → List ℕ → Body → ℕ → Fetched
 fetched p v r b j =
@@ -50,3 +70,14 @@ unfoldable pub instructionAt : Place → ℕ
 instructionAt (Free n) = 0
 instructionAt (Run b j n) = j
 instructionAt (Half b j) = j
+
+-- ---- The same at a place of a body
+
+abbrev pub OfBody : Place → Type 0
+OfBody x = (n : ℕ) → x ≡ Free n → ⊥
+
+abbrev pub fetchedAt : List ℕ → Store → List ℕ → Place → Fetched
+fetchedAt p v r x = fetched p v r (bodyAt x) (instructionAt x)
+
+abbrev pub FetchesAt : List ℕ → Place → Effect → Type 0
+FetchesAt p x f = Fetches p (bodyAt x) (instructionAt x) f

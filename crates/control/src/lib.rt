@@ -17,6 +17,8 @@ ghost use Rattle.model.specs.Store.{view};
 ghost use Rattle.model.specs.Test.{_or_, _then_};
 ghost use Rattle.model.specs.Accepted.{Contents, RowsInside, Shaped, ShapedFor};
 
+pub mod single;
+
 // "8 at most 2"
 fn phase_rule(store: &[u16]) -> Checked
     requires { ⌜ Shaped (now store) ⌝ }

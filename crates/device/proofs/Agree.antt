@@ -14,14 +14,14 @@ use Rattle.model.specs.declared.Answer.{Answer}
 use Rattle.model.specs.declared.Device.{Device}
 use Rattle.model.specs.declared.Refusal.{Refusal}
 use Rattle.device.specs.Agree.{Agrees, Performs}
-use Rattle.device.specs.Turn.{Result, result}
+use Rattle.device.specs.Result.{Result, ofOutcome}
 
 module _ (p s : List ℕ) (d : Device) (c : Call) where
   -- a defined answer agrees with itself
   pub agrees : Agrees (rules p (view s)) Answer.Refused (call p s d c .answer) (call p s d c .answer)
   agrees = record { same = λ _. refl; placed = λ w e. (w, e, place-is-broken p s d c w e) }
 
-  pub performs : {r : Result} → r ≡ result s (call p s d c) → Performs p s (call p s d c) r
+  pub performs : {r : Result} → r ≡ ofOutcome s (call p s d c) → Performs p s (call p s d c) r
   performs e = rw e (record { answer = agrees; stored = refl; device = refl; store = refl })
 
 -- a number f that 7 tells as 0, whatever its place

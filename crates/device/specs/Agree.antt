@@ -5,11 +5,13 @@ use mathlib.Core.Bool.{true}
 use mathlib.Core.List.{List}
 use mathlib.Core.Path.{_≡_}
 use Rattle.model.specs.Control.{Rule, rules, blames}
-use Rattle.model.specs.Device.{Out}
+use Rattle.model.specs.Device.{Out, boot, post}
 use Rattle.model.specs.Store.{view, settled, storedWord}
 use Rattle.model.specs.declared.Answer.{Answer}
+use Rattle.model.specs.declared.Device.{Device}
 use Rattle.model.specs.declared.Refusal.{Refusal}
-use Rattle.device.specs.Turn.{Result}
+use Rattle.device.specs.Result.{Result, ofCall}
+use Rattle.device.specs.declared.CallResult.{CallResult}
 
 -- Equal up to the place in 7: what is told, of any type whose refusals are `refused`, against what is defined, under the rules rs.
 pub record Agrees {A : Type 0} (rs : List Rule) (refused : Refusal → A) (defined actual : A) : Type 0 where
@@ -22,3 +24,10 @@ pub record Performs (p s : List ℕ) (o : Out) (r : Result) : Type 0 where
   pub stored : r .stored ≡ storedWord s (o .write)
   pub device : r .device ≡ o .device
   pub store : r .store ≡ settled s (o .write)
+
+-- A boot of device d, and a post of event e with data x; neither is lent the words to be changed.
+abbrev pub BootPerforms : List ℕ → List ℕ → Device → CallResult → Type 0
+BootPerforms p s d r = Performs p s (boot p s d) (ofCall r s)
+
+abbrev pub PostPerforms : List ℕ → List ℕ → Device → ℕ → ℕ → CallResult → Type 0
+PostPerforms p s d e x r = Performs p s (post p s d e x) (ofCall r s)

@@ -5,7 +5,7 @@ ghost use mathlib.Core.Path.{_≡_};
 ghost use Prim.Native.Nat.{_≤_};
 ghost use Rattle.model.specs.Control.{between};
 ghost use Rattle.model.specs.Program.{word};
-ghost use Rattle.model.specs.Store.{view, event, datum, to, Event, Datum, after, empty, full, firstWaiting};
+ghost use Rattle.model.specs.Store.{view, event, datum, to, Event, Datum, after, empty, room, firstWaiting};
 ghost use Rattle.model.specs.Accepted.{Shaped};
 ghost use Rattle.store.specs.Written.{Written};
 
@@ -63,12 +63,18 @@ pub fn is_empty(store: &[u16]) -> bool
     store[14] == store[15]
 }
 
-pub fn is_full(store: &[u16]) -> bool
+// How many records more the ring takes: none where it is full.
+pub fn room(store: &[u16]) -> u16
     requires { ⌜ Shaped (now store) ⌝ }
-    requires { ⌜ word (now store) 15 ≤ word (now store) 3 ⌝ }
-    ensures { λ r. ⌜ r ≡ full (view (now (store .entry))) ⌝ }
+    requires { ⌜ (word (now store) 14 ≤ word (now store) 3) × (word (now store) 15 ≤ word (now store) 3) ⌝ }
+    ensures { λ n. ⌜ n ≡ room (view (now (store .entry))) ⌝ }
 {
-    after(store[3], store[15]) == store[14]
+    let head = store[14];
+    let tail = store[15];
+    if head <= tail {
+        return store[3] - (tail - head);
+    }
+    head - tail - 1
 }
 
 // The waiting records start at head, in phase 2 at word 12's slot.

@@ -1,7 +1,7 @@
 -- `body_step` meets its contract: a refusal of the fetch, or what is done. Assumes nothing.
 use mathlib.Core.Path.{refl, sym, _∙_}
 use Rattle.model.specs.Store.{view, settled, storedWord}
-use Rattle.device.specs.Turn.{device}
+use Rattle.device.specs.Result.{device}
 use Rattle.body.proofs.Running.{running-at, there-refused}
 use borrow.Author.Needs.{needs}
 use Rattle.body.proofs.body_step.Statement.{statement}
@@ -14,7 +14,7 @@ instruction-at-requires : tie.Need-instruction-at-requires
 instruction-at-requires c κs = search needs
 
 fetch-requires : tie.Need-fetch-requires
-fetch-requires c κs = rw (c .before .before .before .body-at .ensures) (running-at (c .before .before .before .before .before .before .args .p .now) (c .before .before .before .before .before .before .args .s .now) _ (c .before .before .before .before .before .before .pre .0) _ refl (c .before .before .before .before .before .before .pre .1))
+fetch-requires c κs = rw (c .before .before .before .body-at .ensures) (running-at (c .before .before .before .before .before .before .args .program .now) (c .before .before .before .before .before .before .args .store .now) _ (c .before .before .before .before .before .before .pre .0) _ refl (c .before .before .before .before .before .before .pre .1))
 
 enum-known-got : tie.Need-enum-known-got
 enum-known-got c = search needs
@@ -25,21 +25,21 @@ refused-requires c κs = search needs
 enum-known-got-2 : tie.Need-enum-known-got-2
 enum-known-got-2 c = search needs
 
-done-requires : tie.Need-done-requires
-done-requires c κs = (c .before .before .before .before .before .before .before .before .before .before .before .before .pre .0, (c .before .before .before .before .before .before .before .before .before .before .before .before .pre .1, (sym (rw (c .before .before .before .before .before .before .before .before .before .body-at .ensures, c .before .before .before .before .before .before .before .before .instruction-at .ensures) at (c .before .before .before .before .before .fetch .ensures .0)) ∙ c .before .before .before .got2 .given .1, rw (c .before .before .before .before .before .before .before .before .before .body-at .ensures, c .before .before .before .before .before .before .before .before .instruction-at .ensures) at (c .before .before .before .before .before .fetch .ensures .1 _ (c .before .before .before .got2 .given .1)))))
+perform-requires : tie.Need-perform-requires
+perform-requires c κs = (c .before .before .before .before .before .before .before .before .before .before .before .before .pre .0, (c .before .before .before .before .before .before .before .before .before .before .before .before .pre .1, (sym (rw (c .before .before .before .before .before .before .before .before .before .body-at .ensures, c .before .before .before .before .before .before .before .before .instruction-at .ensures) at (c .before .before .before .before .before .fetch .ensures .0)) ∙ c .before .before .before .got2 .given .1, rw (c .before .before .before .before .before .before .before .before .before .body-at .ensures, c .before .before .before .before .before .before .before .before .instruction-at .ensures) at (c .before .before .before .before .before .fetch .ensures .1 _ (c .before .before .before .got2 .given .1)))))
 
 same-length : tie.Need-same-length
 same-length c = search needs
 
 returns : tie.Need-returns
 unfolding settled storedWord
-returns c = rw (there-refused (c .before .before .before .before .before .before .before .before .before .before .before .args .p .now) (view (c .before .before .before .before .before .before .before .before .before .before .before .args .s .now)) (device (c .before .before .before .before .before .before .before .before .before .before .before .args .c) (c .before .before .before .before .before .before .before .before .before .before .before .args .r .now)) (c .before .before .before .before .before .before .before .before .before .before .before .args .c .place) (c .before .before .before .before .before .before .before .before .before .before .before .pre .1) (sym (rw (c .before .before .before .before .before .before .before .before .body-at .ensures, c .before .before .before .before .before .before .before .instruction-at .ensures) at (c .before .before .before .before .fetch .ensures .0)) ∙ c .before .before .got .given .1), c .refused .ensures)
+returns c = rw (there-refused (c .before .before .before .before .before .before .before .before .before .before .before .args .program .now) (view (c .before .before .before .before .before .before .before .before .before .before .before .args .store .now)) (device (c .before .before .before .before .before .before .before .before .before .before .before .args .core) (c .before .before .before .before .before .before .before .before .before .before .before .args .registers .now)) (c .before .before .before .before .before .before .before .before .before .before .before .args .core .place) (c .before .before .before .before .before .before .before .before .before .before .before .pre .1) (sym (rw (c .before .before .before .before .before .before .before .before .body-at .ensures, c .before .before .before .before .before .before .before .instruction-at .ensures) at (c .before .before .before .before .fetch .ensures .0)) ∙ c .before .before .got .given .1), c .refused .ensures)
 
 same-length-2 : tie.Need-same-length-2
 same-length-2 c = search needs
 
 returns-2 : tie.Need-returns-2
-returns-2 c = c .before .before .done .ensures
+returns-2 c = c .before .before .perform .ensures
 
 pub body-step-spec : {M : Type 1} → statement M
 body-step-spec =
@@ -51,7 +51,7 @@ body-step-spec =
     enum-known-got
     refused-requires
     enum-known-got-2
-    done-requires
+    perform-requires
     same-length
     returns
     same-length-2

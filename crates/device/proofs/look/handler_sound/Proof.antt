@@ -1,8 +1,10 @@
--- `look::handler_sound` meets its contract. Assumes nothing.
-use borrow.Author.Tests.{lt-ltb, le-ltb}
-use Rattle.model.specs.Device.{handlerSound}
-use Rattle.model.specs.Test.{_and_}
+-- `look::handler_sound` meets its contract: what 25 asks of the one record that a handler carries. Assumes nothing.
+use mathlib.Core.Path.{sym}
 use borrow.Author.Needs.{needs}
+use borrow.Author.Tests.{lt-ltb, le-ltb, lt-leb, le-leb}
+use Rattle.model.specs.Device.{knownEvents, recordStores, recordsSound, handlerSound}
+use Rattle.model.specs.Store.{carried}
+use Rattle.model.specs.Test.{_and_}
 use Rattle.device.proofs.look.handler_sound.Statement.{statement}
 use Rattle.device.proofs.look.handler_sound.Tie as tie
 
@@ -16,19 +18,23 @@ shared-slice-read-if1 : tie.Need-shared-slice-read-if1
 shared-slice-read-if1 c = search needs
 
 returns : tie.Need-returns
-unfolding handlerSound _and_
+unfolding handlerSound recordsSound knownEvents carried recordStores _and_
 returns c = simp (c .before .before .before .handler .given .1, le-ltb _ _ (c .if1 .taken))
 
-is-full-requires : tie.Need-is-full-requires
-is-full-requires c κs = search needs
+room-requires : tie.Need-room-requires
+room-requires c κs = search needs
 
 returns-2 : tie.Need-returns-2
-unfolding handlerSound _and_
-returns-2 c = simp (c .enum-told .given .1)
+unfolding handlerSound recordsSound knownEvents carried recordStores _and_
+returns-2 c = simp (c .before .before .before .before .before .handler .given .1, lt-ltb _ _ (c .before .before .if1 .left), sym (c .before .room .ensures), lt-leb _ _ (c .if2 .taken))
 
 returns-3 : tie.Need-returns-3
-unfolding handlerSound _and_
-returns-3 c = simp (c .before .before .before .before .handler .given .1, lt-ltb _ _ (c .before .if1 .left), c .is-full .ensures)
+unfolding handlerSound recordsSound knownEvents carried recordStores _and_
+returns-3 c = simp (c .enum-told .given .1)
+
+returns-4 : tie.Need-returns-4
+unfolding handlerSound recordsSound knownEvents carried recordStores _and_
+returns-4 c = simp (c .before .before .before .before .before .handler .given .1, lt-ltb _ _ (c .before .before .if1 .left), sym (c .before .room .ensures), le-leb _ _ (c .if2 .left))
 
 pub handler-sound-spec : {M : Type 1} → statement M
 handler-sound-spec =
@@ -38,6 +44,7 @@ handler-sound-spec =
     enum-known-handler
     shared-slice-read-if1
     returns
-    is-full-requires
+    room-requires
     returns-2
-    returns-3)
+    returns-3
+    returns-4)

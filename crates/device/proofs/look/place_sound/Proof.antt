@@ -28,7 +28,7 @@ last-stores-requires : tie.Need-last-stores-requires
 last-stores-requires c κs = search needs
 
 add-result : tie.Need-add-result
-add-result c = record { fits = omega (arith, c .before .before .before .before .before .before .before .before .before .pre .1 .1 .count-in (c .before .before .if1 .left), c .last-stores .ensures, most-last (view (c .before .before .before .before .before .before .before .before .before .args .s .now))) }
+add-result c = record { fits = omega (arith, c .before .before .before .before .before .before .before .before .before .pre .1 .1 .count-in (c .before .before .if1 .left), c .last-stores .ensures, most-last (view (c .before .before .before .before .before .before .before .before .before .args .store .now))) }
 
 enum-known-place-2 : tie.Need-enum-known-place-2
 enum-known-place-2 c = search needs

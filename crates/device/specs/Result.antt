@@ -1,0 +1,74 @@
+-- How the code's values stand for the definitions': the device from its core and its registers, and what a call leaves (answer, which
+-- word it stored, device and store) as one value, from the code's result and from a defined outcome. Assumes nothing.
+use Prim.Native.Nat.{ℕ}
+use mathlib.Core.Bool.{true}
+use mathlib.Core.List.{List}
+use mathlib.Core.Path.{_≡_}
+use Rattle.model.specs.Device.{Out, placeStep, nextStep}
+use Rattle.model.specs.Store.{Store, view, settled, storedWord}
+use Rattle.model.specs.declared.Answer.{Answer}
+use Rattle.model.specs.declared.Device.{Device}
+use Rattle.model.specs.declared.Handler.the-variants.{Resting}
+use Rattle.model.specs.declared.Place.{Place}
+use Rattle.model.specs.declared.Place.the-variants.{Free}
+use Rattle.model.specs.declared.Stored.{Stored}
+use Rattle.device.specs.declared.CallResult.{CallResult}
+use Rattle.device.specs.declared.Core.{Core}
+use Rattle.device.specs.declared.CoreResult.{CoreResult}
+
+-- ---- A device, and its core
+
+abbrev pub device : Core → List ℕ → Device
+device c r = record { on = c .on; regs = r; place = c .place; count = c .count; handler = c .handler }
+
+abbrev pub coreOf : Device → Core
+coreOf d = record { on = d .on; place = d .place; count = d .count; handler = d .handler }
+
+-- another place and another log count
+abbrev pub coreAt : Core → Place → ℕ → Core
+coreAt c x l = record { on = c .on; place = x; count = l; handler = c .handler }
+
+-- the off value turned on, apart from its registers
+abbrev pub onCore : Core
+onCore = record { on = true; place = Free 0; count = 0; handler = Resting }
+
+abbrev pub coreResult : Answer → Stored → Core → CoreResult
+coreResult a w c = record { answer = a; stored = w; core = c }
+
+-- ---- What a call leaves
+
+pub record Result : Type 0 where
+  pub answer : Answer
+  pub stored : Stored
+  pub device : Device
+  pub store : List ℕ
+
+-- by the code: a core with registers r, or a whole device, and the words s
+abbrev pub ofCore : CoreResult → List ℕ → List ℕ → Result
+ofCore x r s = record { answer = x .answer; stored = x .stored; device = device (x .core) r; store = s }
+
+abbrev pub ofCall : CallResult → List ℕ → Result
+ofCall x s = record { answer = x .answer; stored = x .stored; device = x .device; store = s }
+
+-- by an outcome, on the words s
+abbrev pub ofOutcome : List ℕ → Out → Result
+ofOutcome s o = record { answer = o .answer; stored = storedWord s (o .write); device = o .device; store = settled s (o .write) }
+
+-- by a case f of a step, on the words s and device d
+abbrev pub leaves : (Store → Device → Out) → List ℕ → Device → Result
+leaves f s d = ofOutcome s (f (view s) d)
+
+-- a step past its early checks, and that of a handler at rest, as such cases
+abbrev pub placeStepOf : List ℕ → Store → Device → Out
+placeStepOf p v d = placeStep p v d (d .place)
+
+abbrev pub nextStepOf : List ℕ → Store → Device → Out
+nextStepOf p v d = nextStep p v d (d .handler)
+
+-- A call that isn't lent the store: whatever its words are, x leaves them, and otherwise what o says.
+abbrev pub OnAnyStore : (List ℕ → Result) → Out → Type 0
+OnAnyStore x o = (s : List ℕ) → x s ≡ ofOutcome s o
+
+-- A step that isn't lent the registers: whatever they are, x leaves them and the words s, and otherwise what f says of the device.
+abbrev pub OnAnyRegisters : Core → CoreResult → List ℕ → (Device → Result) → Type 0
+OnAnyRegisters c x s f = (r : List ℕ) → ofCore x r s ≡ f (device c r)
