@@ -113,7 +113,7 @@ fn named_row(p: &[u16], f: Effect) -> Checked
         Effect::Jump(_) => Checked::Accepted,
         Effect::Read(_, _) => Checked::Accepted,
         Effect::Write(_, _) => Checked::Accepted,
-        Effect::EndTask(k) => rows::used(p, k),
+        Effect::EndTask(k) => rows::usable(p, k),
         Effect::EndEvent => Checked::Accepted,
         Effect::Unknown => Checked::Accepted,
     }
@@ -158,7 +158,7 @@ fn row_sound(p: &[u16], s: &[u16], b: Body) -> Checked
     let Checked::Accepted = a else {
         return a;
     };
-    rows::used(p, number(p, b))
+    rows::usable(p, number(p, b))
 }
 
 // Instruction j of body i: its rule, the row that it names, and what it does.
@@ -362,7 +362,7 @@ fn end_event(s: &mut [u16], r: &mut [u16; 8], c: Core, b: Body, j: u16, n: u16) 
     }
     if n == 1 {
         let head = s[14];
-        let next = queue::after(s[3], head);
+        let next = queue::slot_after(s[3], head);
         s[12] = next;
         return turns::stored(c, Place::Run(b, j, 2), l, Stored::Word(12));
     }

@@ -24,11 +24,11 @@ returns c = λ p. simp (c .before .if1 .taken, c .stored .ensures)
 slice-read-head : tie.Need-slice-read-head
 slice-read-head c = search needs
 
-slice-read-after : tie.Need-slice-read-after
-slice-read-after c = search needs
+slice-read-slot-after : tie.Need-slice-read-slot-after
+slice-read-slot-after c = search needs
 
-after-requires : tie.Need-after-requires
-after-requires c κs = search needs
+slot-after-requires : tie.Need-slot-after-requires
+slot-after-requires c κs = search needs
 
 slice-write-s-2 : tie.Need-slice-write-s-2
 slice-write-s-2 c = search needs
@@ -41,7 +41,7 @@ same-length-2 c = search needs
 
 returns-2 : tie.Need-returns-2
 unfolding act storing eventStores moved settled storedWord index pick
-returns-2 c = λ p. simp (c .before .before .before .before .if2 .taken, c .stored2 .ensures, c .before .after .ensures)
+returns-2 c = λ p. simp (c .before .before .before .before .if2 .taken, c .stored2 .ensures, c .before .slot-after .ensures)
 
 slice-write-s-3 : tie.Need-slice-write-s-3
 slice-write-s-3 c = search needs
@@ -67,8 +67,8 @@ end-event-spec =
     same-length
     returns
     slice-read-head
-    slice-read-after
-    after-requires
+    slice-read-slot-after
+    slot-after-requires
     slice-write-s-2
     stored-requires-2
     same-length-2
