@@ -104,7 +104,7 @@ pub fn end_event(
     }
     if made == 1 {
         let head = store[14];
-        let next = queue::after(store[3], head);
+        let next = queue::slot_after(store[3], head);
         store[12] = next;
         return results::stored(core, place, log_count, Stored::Word(12));
     }

@@ -97,7 +97,7 @@ fn named_row(program: &[u16], effect: Effect) -> Checked
         Effect::Jump(_) => Checked::Accepted,
         Effect::Read(_, _) => Checked::Accepted,
         Effect::Write(_, _) => Checked::Accepted,
-        Effect::EndTask(task) => rows::used(program, task),
+        Effect::EndTask(task) => rows::usable(program, task),
         Effect::EndEvent => Checked::Accepted,
         Effect::Unknown => Checked::Accepted,
     }
@@ -118,7 +118,7 @@ fn row_sound(program: &[u16], store: &[u16], body: Body) -> Checked
     let Checked::Accepted = found else {
         return found;
     };
-    rows::used(program, body_number(program, body))
+    rows::usable(program, body_number(program, body))
 }
 
 // An instruction of a body: its rule, the row that it names, and what it does.

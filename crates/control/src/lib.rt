@@ -10,7 +10,7 @@ ghost use mathlib.Core.Path.{_≡_};
 ghost use mathlib.Core.List.{List};
 ghost use Prim.Native.Nat.{ℕ, _+_, _<_, _≤_};
 ghost use lib.Dec.{eqb};
-ghost use Rattle.model.specs.Control.{obey, obeyAll, upTo, inPhase, committing, phaseRule, taskRule, openRule, openServing, countRule, pendingTaskRule, pendingHeadRule, pendingOpenRule, headRule, tailRule, addressRule, recordRule, rules, earlyRules};
+ghost use Rattle.model.specs.Control.{obey, obeyAll, inPhase, committing, phaseRule, taskRule, openRule, openServing, countRule, pendingTaskRule, pendingHeadRule, pendingOpenRule, headRule, tailRule, addressRule, recordRule, rules, earlyRules};
 ghost use Rattle.control.specs.Groups.{commitRules, addressRules, recordRules};
 ghost use Rattle.model.specs.Program.{word, tasks, transaction};
 ghost use Rattle.model.specs.Store.{view};
@@ -31,42 +31,42 @@ fn phase_rule(store: &[u16]) -> Checked
 }
 
 // "9 below T"
-fn task_rule(p: &[u16], store: &[u16]) -> Checked
-    requires { ⌜ Contents (now p) ⌝ }
+fn task_rule(program: &[u16], store: &[u16]) -> Checked
+    requires { ⌜ Contents (now program) ⌝ }
     requires { ⌜ Shaped (now store) ⌝ }
-    ensures { λ r. ⌜ r ≡ obey (taskRule (now (p .entry)) (view (now (store .entry)))) ⌝ }
+    ensures { λ r. ⌜ r ≡ obey (taskRule (now (program .entry)) (view (now (store .entry)))) ⌝ }
 {
-    if store[9] >= p[1] {
+    if store[9] >= program[1] {
         return Checked::Refused(Refusal::Control(9));
     }
     Checked::Accepted
 }
 
-// Is an open number x 0 or the transaction number of task t?
-fn open_kept(p: &[u16], x: u16, t: u16) -> bool
-    requires { ⌜ RowsInside (now p) ⌝ }
-    requires { ⌜ t < tasks (now p) ⌝ }
-    ensures { λ r. ⌜ r ≡ (eqb x 0 or eqb x (transaction (now (p .entry)) t)) ⌝ }
+// Is an open number 0 or the transaction number of a task?
+fn open_kept(program: &[u16], open_number: u16, task: u16) -> bool
+    requires { ⌜ RowsInside (now program) ⌝ }
+    requires { ⌜ task < tasks (now program) ⌝ }
+    ensures { λ r. ⌜ r ≡ (eqb «open_number» 0 or eqb «open_number» (transaction (now (program .entry)) task)) ⌝ }
 {
-    if x == 0 {
+    if open_number == 0 {
         return true;
     }
-    x == rows::transaction(p, t)
+    open_number == rows::transaction(program, task)
 }
 
 // "in phase 0, 10 is 0 or the transaction number of task 9"
-fn open_rule(p: &[u16], store: &[u16]) -> Checked
-    requires { ⌜ RowsInside (now p) ⌝ }
+fn open_rule(program: &[u16], store: &[u16]) -> Checked
+    requires { ⌜ RowsInside (now program) ⌝ }
     requires { ⌜ Shaped (now store) ⌝ }
-    ensures { λ r. ⌜ r ≡ obey (openRule (now (p .entry)) (view (now (store .entry)))) ⌝ }
+    ensures { λ r. ⌜ r ≡ obey (openRule (now (program .entry)) (view (now (store .entry)))) ⌝ }
 {
     if store[8] != 0 {
         return Checked::Accepted;
     }
-    if store[9] >= p[1] {
+    if store[9] >= program[1] {
         return Checked::Accepted;
     }
-    if !open_kept(p, store[10], store[9]) {
+    if !open_kept(program, store[10], store[9]) {
         return Checked::Refused(Refusal::Control(10));
     }
     Checked::Accepted
@@ -111,15 +111,15 @@ fn count_rule(store: &[u16]) -> Checked
 }
 
 // "In phase 1, 12 below T"
-fn pending_task_rule(p: &[u16], store: &[u16]) -> Checked
-    requires { ⌜ Contents (now p) ⌝ }
+fn pending_task_rule(program: &[u16], store: &[u16]) -> Checked
+    requires { ⌜ Contents (now program) ⌝ }
     requires { ⌜ Shaped (now store) ⌝ }
-    ensures { λ r. ⌜ r ≡ obey (pendingTaskRule (now (p .entry)) (view (now (store .entry)))) ⌝ }
+    ensures { λ r. ⌜ r ≡ obey (pendingTaskRule (now (program .entry)) (view (now (store .entry)))) ⌝ }
 {
     if store[8] != 1 {
         return Checked::Accepted;
     }
-    if store[12] >= p[1] {
+    if store[12] >= program[1] {
         return Checked::Refused(Refusal::Control(12));
     }
     Checked::Accepted
@@ -137,7 +137,7 @@ fn pending_head_kept(store: &[u16]) -> bool
     if store[12] == store[14] {
         return true;
     }
-    if store[12] != queue::after(store[3], store[14]) {
+    if store[12] != queue::slot_after(store[3], store[14]) {
         return false;
     }
     store[14] != store[15]
@@ -164,18 +164,18 @@ fn pending_head_rule(store: &[u16]) -> Checked
 }
 
 // "13 is 0 or task 12's number", in phase 1
-fn pending_open_rule(p: &[u16], store: &[u16]) -> Checked
-    requires { ⌜ RowsInside (now p) ⌝ }
+fn pending_open_rule(program: &[u16], store: &[u16]) -> Checked
+    requires { ⌜ RowsInside (now program) ⌝ }
     requires { ⌜ Shaped (now store) ⌝ }
-    ensures { λ r. ⌜ r ≡ obey (pendingOpenRule (now (p .entry)) (view (now (store .entry)))) ⌝ }
+    ensures { λ r. ⌜ r ≡ obey (pendingOpenRule (now (program .entry)) (view (now (store .entry)))) ⌝ }
 {
     if store[8] != 1 {
         return Checked::Accepted;
     }
-    if store[12] >= p[1] {
+    if store[12] >= program[1] {
         return Checked::Accepted;
     }
-    if !open_kept(p, store[13], store[12]) {
+    if !open_kept(program, store[13], store[12]) {
         return Checked::Refused(Refusal::Control(13));
     }
     Checked::Accepted
@@ -202,12 +202,12 @@ fn tail_rule(store: &[u16]) -> Checked
     Checked::Accepted
 }
 
-// "the first n log addresses below M", pair j's
-fn address_rule(p: &[u16], store: &[u16], j: u16) -> Checked
-    requires { ⌜ Contents (now p) ⌝ }
-    requires { ⌜ ShapedFor (now p) (now store) ⌝ }
-    requires { ⌜ j < word (now store) 2 ⌝ }
-    ensures { λ r. ⌜ r ≡ obey (addressRule (now (p .entry)) (view (now (store .entry))) j) ⌝ }
+// "the first n log addresses below M", one pair's
+fn address_rule(program: &[u16], store: &[u16], pair: u16) -> Checked
+    requires { ⌜ Contents (now program) ⌝ }
+    requires { ⌜ ShapedFor (now program) (now store) ⌝ }
+    requires { ⌜ pair < word (now store) 2 ⌝ }
+    ensures { λ r. ⌜ r ≡ obey (addressRule (now (program .entry)) (view (now (store .entry))) pair) ⌝ }
 {
     if !is_committing(store) {
         return Checked::Accepted;
@@ -215,11 +215,11 @@ fn address_rule(p: &[u16], store: &[u16], j: u16) -> Checked
     if store[11] > store[2] {
         return Checked::Accepted;
     }
-    if j >= store[11] {
+    if pair >= store[11] {
         return Checked::Accepted;
     }
-    if log::address(store, j) >= p[3] {
-        return Checked::Refused(Refusal::Control(store[6] + 2 * j));
+    if log::address(store, pair) >= program[3] {
+        return Checked::Refused(Refusal::Control(store[6] + 2 * pair));
     }
     Checked::Accepted
 }
@@ -236,10 +236,10 @@ fn start_kept(store: &[u16]) -> bool
     pending_head_kept(store)
 }
 
-// Does a record wait in slot x? Its rule is asked where that is known, for any program.
-fn record_waits(store: &[u16], x: u16) -> bool
+// Does a record wait in a slot? Its rule is asked where that is known, for any program.
+fn record_waits(store: &[u16], slot: u16) -> bool
     requires { ⌜ Shaped (now store) ⌝ }
-    ensures { λ r. ⌜ ((p : List ℕ) → r ≡ recordRule p (view (now (store .entry))) x .asked) ⌝ }
+    ensures { λ r. ⌜ ((p : List ℕ) → r ≡ recordRule p (view (now (store .entry))) slot .asked) ⌝ }
 {
     if store[8] > 2 {
         return false;
@@ -253,97 +253,97 @@ fn record_waits(store: &[u16], x: u16) -> bool
     if !start_kept(store) {
         return false;
     }
-    queue::between(queue::first_waiting(store), store[15], x)
+    queue::between(queue::first_waiting(store), store[15], slot)
 }
 
-// "each waiting record's event below E", slot x's
-fn record_rule(p: &[u16], store: &[u16], x: u16) -> Checked
-    requires { ⌜ Contents (now p) ⌝ }
-    requires { ⌜ ShapedFor (now p) (now store) ⌝ }
-    requires { ⌜ x ≤ word (now store) 3 ⌝ }
-    ensures { λ r. ⌜ r ≡ obey (recordRule (now (p .entry)) (view (now (store .entry))) x) ⌝ }
+// "each waiting record's event below E", one slot's
+fn record_rule(program: &[u16], store: &[u16], slot: u16) -> Checked
+    requires { ⌜ Contents (now program) ⌝ }
+    requires { ⌜ ShapedFor (now program) (now store) ⌝ }
+    requires { ⌜ slot ≤ word (now store) 3 ⌝ }
+    ensures { λ r. ⌜ r ≡ obey (recordRule (now (program .entry)) (view (now (store .entry))) slot) ⌝ }
 {
-    if !record_waits(store, x) {
+    if !record_waits(store, slot) {
         return Checked::Accepted;
     }
-    if queue::event(store, x) >= p[2] {
-        return Checked::Refused(Refusal::Control(store[7] + 2 * x));
+    if queue::event(store, slot) >= program[2] {
+        return Checked::Refused(Refusal::Control(store[7] + 2 * slot));
     }
     Checked::Accepted
 }
 
 // "the first n log addresses below M"
-fn addresses(p: &[u16], store: &[u16]) -> Checked
-    requires { ⌜ Contents (now p) ⌝ }
-    requires { ⌜ ShapedFor (now p) (now store) ⌝ }
-    ensures { λ r. ⌜ r ≡ obeyAll (addressRules (now (p .entry)) (view (now (store .entry)))) ⌝ }
+fn addresses(program: &[u16], store: &[u16]) -> Checked
+    requires { ⌜ Contents (now program) ⌝ }
+    requires { ⌜ ShapedFor (now program) (now store) ⌝ }
+    ensures { λ r. ⌜ r ≡ obeyAll (addressRules (now (program .entry)) (view (now (store .entry)))) ⌝ }
 {
-    let l = store[2];
-    let mut j: u16 = 0;
-    while j < l {
-        let found = address_rule(p, store, j);
+    let log_pairs = store[2];
+    let mut pair: u16 = 0;
+    while pair < log_pairs {
+        let found = address_rule(program, store, pair);
         let Checked::Accepted = found else {
             return found;
         };
-        j += 1;
+        pair += 1;
     }
     Checked::Accepted
 }
 
 // "each waiting record's event below E"
-fn records(p: &[u16], store: &[u16]) -> Checked
-    requires { ⌜ Contents (now p) ⌝ }
-    requires { ⌜ ShapedFor (now p) (now store) ⌝ }
-    ensures { λ r. ⌜ r ≡ obeyAll (recordRules (now (p .entry)) (view (now (store .entry)))) ⌝ }
+fn records(program: &[u16], store: &[u16]) -> Checked
+    requires { ⌜ Contents (now program) ⌝ }
+    requires { ⌜ ShapedFor (now program) (now store) ⌝ }
+    ensures { λ r. ⌜ r ≡ obeyAll (recordRules (now (program .entry)) (view (now (store .entry)))) ⌝ }
 {
     let slots = store[3] + 1;
-    let mut x: u16 = 0;
-    while x < slots {
-        let found = record_rule(p, store, x);
+    let mut slot: u16 = 0;
+    while slot < slots {
+        let found = record_rule(program, store, slot);
         let Checked::Accepted = found else {
             return found;
         };
-        x += 1;
+        slot += 1;
     }
     Checked::Accepted
 }
 
 // Of two checks the first refusal counts.
-fn first(a: Checked, b: Checked) -> Checked
-    ensures { λ r. ⌜ r ≡ (a then b) ⌝ }
+fn first(found: Checked, next: Checked) -> Checked
+    ensures { λ r. ⌜ r ≡ (found then next) ⌝ }
 {
-    let Checked::Accepted = a else {
-        return a;
+    let Checked::Accepted = found else {
+        return found;
     };
-    b
+    next
 }
 
 // The early rules that speak in phases 1 and 2 alone: in phase 0 each of them is passed over.
-fn commit_rules(p: &[u16], store: &[u16]) -> Checked
-    requires { ⌜ Contents (now p) ⌝ }
+fn commit_rules(program: &[u16], store: &[u16]) -> Checked
+    requires { ⌜ Contents (now program) ⌝ }
     requires { ⌜ Shaped (now store) ⌝ }
-    ensures { λ r. ⌜ r ≡ obeyAll (commitRules (now (p .entry)) (view (now (store .entry)))) ⌝ }
+    ensures { λ r. ⌜ r ≡ obeyAll (commitRules (now (program .entry)) (view (now (store .entry)))) ⌝ }
 {
     if store[8] == 0 {
         return Checked::Accepted;
     }
     let found = open_serving(store);
     let found = first(found, count_rule(store));
-    let found = first(found, pending_task_rule(p, store));
+    let found = first(found, pending_task_rule(program, store));
     first(found, pending_head_rule(store))
 }
 
 // 7 without the rules that need a row, a log pair or a record.
-pub fn early(p: &[u16], store: &[u16]) -> Checked
-    requires { ⌜ Contents (now p) ⌝ }
-    requires { ⌜ ShapedFor (now p) (now store) ⌝ }
-    ensures { λ r. ⌜ r ≡ obeyAll (earlyRules (now (p .entry)) (view (now (store .entry)))) ⌝ }
+pub fn early(program: &[u16], store: &[u16]) -> Checked
+    requires { ⌜ Contents (now program) ⌝ }
+    requires { ⌜ ShapedFor (now program) (now store) ⌝ }
+    ensures { λ r. ⌜ r ≡ obeyAll (earlyRules (now (program .entry)) (view (now (store .entry)))) ⌝ }
 {
-    let found = first(phase_rule(store), task_rule(p, store));
+    let found = first(phase_rule(store), task_rule(program, store));
     let Checked::Accepted = found else {
         return found;
     };
-    let found = commit_rules(p, store);
+    let found = commit_rules(program, store);
     let Checked::Accepted = found else {
         return found;
     };
@@ -351,21 +351,21 @@ pub fn early(p: &[u16], store: &[u16]) -> Checked
 }
 
 // 7 whole, for a program whose rows can be read.
-pub fn whole(p: &[u16], store: &[u16]) -> Checked
-    requires { ⌜ RowsInside (now p) ⌝ }
-    requires { ⌜ ShapedFor (now p) (now store) ⌝ }
-    ensures { λ r. ⌜ r ≡ obeyAll (rules (now (p .entry)) (view (now (store .entry)))) ⌝ }
+pub fn whole(program: &[u16], store: &[u16]) -> Checked
+    requires { ⌜ RowsInside (now program) ⌝ }
+    requires { ⌜ ShapedFor (now program) (now store) ⌝ }
+    ensures { λ r. ⌜ r ≡ obeyAll (rules (now (program .entry)) (view (now (store .entry)))) ⌝ }
 {
     let found = phase_rule(store);
-    let found = first(found, task_rule(p, store));
-    let found = first(found, open_rule(p, store));
+    let found = first(found, task_rule(program, store));
+    let found = first(found, open_rule(program, store));
     let found = first(found, open_serving(store));
     let found = first(found, count_rule(store));
-    let found = first(found, pending_task_rule(p, store));
+    let found = first(found, pending_task_rule(program, store));
     let found = first(found, pending_head_rule(store));
-    let found = first(found, pending_open_rule(p, store));
+    let found = first(found, pending_open_rule(program, store));
     let found = first(found, head_rule(store));
     let found = first(found, tail_rule(store));
-    let found = first(found, addresses(p, store));
-    first(found, records(p, store))
+    let found = first(found, addresses(program, store));
+    first(found, records(program, store))
 }

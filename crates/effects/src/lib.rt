@@ -10,75 +10,94 @@ use program::code;
 use signed::less;
 use signed::shr;
 
-fn reg(r: &[u16; 8], i: u16) -> u16
-    requires { ⌜ i < 8 ⌝ }
-    ensures { λ x. ⌜ x ≡ reg (now (r .entry)) i ⌝ }
+fn reg(registers: &[u16; 8], register: u16) -> u16
+    requires { ⌜ register < 8 ⌝ }
+    ensures { λ r. ⌜ r ≡ reg (now (registers .entry)) register ⌝ }
 {
-    r[i as usize]
+    registers[register as usize]
 }
 
 // "modulo 65536"
-fn sum(x: u16, y: u16) -> u16
-    ensures { λ z. ⌜ z ≡ (x + y) % 65536 ⌝ }
+fn sum(left: u16, right: u16) -> u16
+    ensures { λ r. ⌜ r ≡ (left + right) % 65536 ⌝ }
 {
-    std::num::wrapping_add_u16(x, y)
+    std::num::wrapping_add_u16(left, right)
 }
 
-fn difference(x: u16, y: u16) -> u16
-    ensures { λ z. ⌜ z ≡ (x + (65536 - y)) % 65536 ⌝ }
+fn difference(left: u16, right: u16) -> u16
+    ensures { λ r. ⌜ r ≡ (left + (65536 - right)) % 65536 ⌝ }
 {
-    std::num::wrapping_sub_u16(x, y)
+    std::num::wrapping_sub_u16(left, right)
 }
 
 // "k + b as a whole number"
-fn address(k: u16, x: u16) -> u32
-    ensures { λ z. ⌜ z ≡ k + x ⌝ }
+fn address(operand: u16, offset: u16) -> u32
+    ensures { λ r. ⌜ r ≡ operand + offset ⌝ }
 {
-    k as u32 + x as u32
+    operand as u32 + offset as u32
 }
 
-// Where a jump at place j goes.
-fn target(jumps: bool, k: u16, j: u16) -> u16
-    requires { ⌜ j < 65535 ⌝ }
-    ensures { λ z. ⌜ z ≡ pick jumps k (j + 1) ⌝ }
+// Where a jump goes, from the instruction with this number.
+fn target(jumps: bool, operand: u16, number: u16) -> u16
+    requires { ⌜ number < 65535 ⌝ }
+    ensures { λ r. ⌜ r ≡ pick jumps operand (number + 1) ⌝ }
 {
-    if jumps { k } else { j + 1 }
+    if jumps { operand } else { number + 1 }
 }
 
-// An instruction at place j, on registers r.
-pub fn effect(s: Instruction, r: &[u16; 8], j: u16) -> Effect
-    requires { ⌜ Registers s ⌝ }
-    requires { ⌜ j < 65535 ⌝ }
-    ensures { λ e. ⌜ e ≡ effect s (now (r .entry)) j ⌝ }
+// An instruction with this number in its body.
+pub fn effect(instruction: Instruction, registers: &[u16; 8], number: u16) -> Effect
+    requires { ⌜ Registers instruction ⌝ }
+    requires { ⌜ number < 65535 ⌝ }
+    ensures { λ r. ⌜ r ≡ effect instruction (now (registers .entry)) number ⌝ }
 {
-    match s {
+    match instruction {
         Instruction::Set(a, k) => Effect::Compute(a, k),
-        Instruction::Move(a, b) => Effect::Compute(a, reg(r, b)),
-        Instruction::Add(a, b) => Effect::Compute(a, sum(reg(r, a), reg(r, b))),
-        Instruction::Sub(a, b) => Effect::Compute(a, difference(reg(r, a), reg(r, b))),
-        Instruction::And(a, b) => Effect::Compute(a, reg(r, a) & reg(r, b)),
-        Instruction::Or(a, b) => Effect::Compute(a, reg(r, a) | reg(r, b)),
-        Instruction::Xor(a, b) => Effect::Compute(a, reg(r, a) ^ reg(r, b)),
-        Instruction::Shift(a, k) => Effect::Compute(a, shr(reg(r, a), k)),
+        Instruction::Move(a, b) => Effect::Compute(a, reg(registers, b)),
+        Instruction::Add(a, b) => Effect::Compute(a, sum(reg(registers, a), reg(registers, b))),
+        Instruction::Sub(a, b) => Effect::Compute(
+            a,
+            difference(reg(registers, a), reg(registers, b)),
+        ),
+        Instruction::And(a, b) => Effect::Compute(a, reg(registers, a) & reg(registers, b)),
+        Instruction::Or(a, b) => Effect::Compute(a, reg(registers, a) | reg(registers, b)),
+        Instruction::Xor(a, b) => Effect::Compute(a, reg(registers, a) ^ reg(registers, b)),
+        Instruction::Shift(a, k) => Effect::Compute(a, shr(reg(registers, a), k)),
         Instruction::Load(a, k) => Effect::Read(a, k as u32),
-        Instruction::Save(a, k) => Effect::Write(k as u32, reg(r, a)),
-        Instruction::LoadX(a, b, k) => Effect::Read(a, address(k, reg(r, b))),
-        Instruction::SaveX(a, b, k) => Effect::Write(address(k, reg(r, b)), reg(r, a)),
+        Instruction::Save(a, k) => Effect::Write(k as u32, reg(registers, a)),
+        Instruction::LoadX(a, b, k) => Effect::Read(a, address(k, reg(registers, b))),
+        Instruction::SaveX(a, b, k) => Effect::Write(
+            address(k, reg(registers, b)),
+            reg(registers, a),
+        ),
         Instruction::Jump(k) => Effect::Jump(k),
-        Instruction::JumpZero(a, k) => Effect::Jump(target(reg(r, a) == 0, k, j)),
-        Instruction::JumpLess(a, b, k) => Effect::Jump(target(less(reg(r, a), reg(r, b)), k, j)),
+        Instruction::JumpZero(a, k) => Effect::Jump(target(reg(registers, a) == 0, k, number)),
+        Instruction::JumpLess(a, b, k) => Effect::Jump(target(
+            less(reg(registers, a), reg(registers, b)),
+            k,
+            number,
+        )),
         Instruction::Go(k) => Effect::EndTask(k),
         Instruction::Done => Effect::EndEvent,
         Instruction::Unknown => Effect::Unknown,
     }
 }
 
-// Instruction j of body i, on registers r.
-pub fn effect_at(p: &[u16], i: u16, j: u16, r: &[u16; 8]) -> Effect
-    requires { ⌜ HasInstruction (now p) i j ⌝ }
-    requires { ⌜ Legal (now p) i j ⌝ }
-    ensures { λ e. ⌜ e ≡ effectAt (now (p .entry)) i j (now (r .entry)) ⌝ }
-    ensures given { λ e. ⌜ LegalEffect (now (p .entry)) i j e ⌝ }
+// The instruction with this number of a body.
+pub fn effect_at(
+    program: &[u16],
+    body_number: u16,
+    instruction: u16,
+    registers: &[u16; 8],
+) -> Effect
+    requires { ⌜ HasInstruction (now program) «body_number» instruction ⌝ }
+    requires { ⌜ Legal (now program) «body_number» instruction ⌝ }
+    ensures { λ r. ⌜ r ≡ effectAt (now (program .entry)) «body_number» instruction (now (registers .entry)) ⌝ }
+    ensures given { λ r. ⌜ LegalEffect (now (program .entry)) «body_number» instruction r ⌝ }
 {
-    effect(code::instruction(p, i, j), r, j)
+    effect(
+        code::instruction(program, body_number, instruction),
+        registers,
+        instruction,
+    )
 }

@@ -151,21 +151,21 @@ Controlled p v =
 -- ---- 25, early: `mayRun`, `placeSound` and `handlerSound`
 
 abbrev pub MayRunBy : List ℕ → ℕ → ℕ → ℕ → ℕ → Body → Type 0
-MayRunBy p task open′ h t (Body.Task n) = n ≡ task
+MayRunBy p task open′ h t (Body.Task k) = k ≡ task
 MayRunBy p task open′ h t (Body.Event e) = (e < events p) × (open′ ≡ 0) × (h ≢ t)
 
 abbrev pub MayRun : List ℕ → Store → Body → Type 0
 MayRun p v b = MayRunBy p (v .task) (v .openNumber) (v .head) (v .tail) b
 
--- with n pairs to copy and k stores behind them, and with a log count of l
+-- with n pairs to copy and so many last stores behind them, and with the device's log count
 abbrev pub StandsBy : List ℕ → ℕ → ℕ → ℕ → ℕ → ℕ → ℕ → ℕ → ℕ → ℕ → Place → Type 0
-StandsBy p pairs phase task open′ n h t k l (Free c) = (phase ≡ 0 → c ≡ 0) × (phase ≢ 0 → c < n + k)
-StandsBy p pairs phase task open′ n h t k l (Run b j c) = (phase ≡ 0) × MayRunBy p task open′ h t b × (c < endStores b)
-StandsBy p pairs phase task open′ n h t k l (Half b j) = (phase ≡ 0) × MayRunBy p task open′ h t b × (l < pairs)
+StandsBy p l phase task open′ n h t last count (Free c) = (phase ≡ 0 → c ≡ 0) × (phase ≢ 0 → c < n + last)
+StandsBy p l phase task open′ n h t last count (Run b j c) = (phase ≡ 0) × MayRunBy p task open′ h t b × (c < endStores b)
+StandsBy p l phase task open′ n h t last count (Half b j) = (phase ≡ 0) × MayRunBy p task open′ h t b × (count < l)
 
 abbrev pub Stands : List ℕ → Store → ℕ → Place → Type 0
-Stands p v l x =
-    StandsBy p (v .pairs) (v .phase) (v .task) (v .openNumber) (v .count) (v .head) (v .tail) (length (lastStores v)) l x
+Stands p v count x =
+    StandsBy p (v .pairs) (v .phase) (v .task) (v .openNumber) (v .count) (v .head) (v .tail) (length (lastStores v)) count x
 
 -- every event is below E
 abbrev pub Known : List ℕ → List Record → Type 0

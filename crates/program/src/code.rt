@@ -15,177 +15,188 @@ use model::Refusal;
 pub struct Below(pub u16, pub u16, pub u32);
 
 // The opcode table, its columns "opcode" and "uses".
-pub fn decode(op: u8, a: u16, b: u16, k: u16) -> Instruction
-    ensures { λ r. ⌜ r ≡ decode op a b k ⌝ }
+pub fn decode(opcode: u8, field_a: u16, field_b: u16, operand: u16) -> Instruction
+    ensures { λ r. ⌜ r ≡ decode opcode «field_a» «field_b» operand ⌝ }
 {
-    match op {
-        0 => Instruction::Set(a, k),
-        1 => Instruction::Move(a, b),
-        2 => Instruction::Add(a, b),
-        3 => Instruction::Sub(a, b),
-        4 => Instruction::And(a, b),
-        5 => Instruction::Or(a, b),
-        6 => Instruction::Xor(a, b),
-        7 => Instruction::Shift(a, k),
-        8 => Instruction::Load(a, k),
-        9 => Instruction::Save(a, k),
-        10 => Instruction::LoadX(a, b, k),
-        11 => Instruction::SaveX(a, b, k),
-        12 => Instruction::Jump(k),
-        13 => Instruction::JumpZero(a, k),
-        14 => Instruction::JumpLess(a, b, k),
-        15 => Instruction::Go(k),
+    match opcode {
+        0 => Instruction::Set(field_a, operand),
+        1 => Instruction::Move(field_a, field_b),
+        2 => Instruction::Add(field_a, field_b),
+        3 => Instruction::Sub(field_a, field_b),
+        4 => Instruction::And(field_a, field_b),
+        5 => Instruction::Or(field_a, field_b),
+        6 => Instruction::Xor(field_a, field_b),
+        7 => Instruction::Shift(field_a, operand),
+        8 => Instruction::Load(field_a, operand),
+        9 => Instruction::Save(field_a, operand),
+        10 => Instruction::LoadX(field_a, field_b, operand),
+        11 => Instruction::SaveX(field_a, field_b, operand),
+        12 => Instruction::Jump(operand),
+        13 => Instruction::JumpZero(field_a, operand),
+        14 => Instruction::JumpLess(field_a, field_b, operand),
+        15 => Instruction::Go(operand),
         16 => Instruction::Done,
         17..=255 => Instruction::Unknown,
     }
 }
 
-// The fields' bounds by opcode, for a program of m memory words and t tasks and a body of n instructions. An unused
+// The fields' bounds by opcode, for a program of so many memory words and tasks and a body of so many instructions. An unused
 // field is below 1; of GO in an event and DONE in a task no k will do.
-pub fn bounds(m: u16, t: u16, n: u16, is_task: bool, op: u8) -> Below
-    ensures { λ r. ⌜ asBounds r ≡ bounds m t n «is_task» op ⌝ }
+pub fn bounds(memory_words: u16, tasks: u16, instructions: u16, is_task: bool, opcode: u8) -> Below
+    ensures { λ r. ⌜ asBounds r ≡ bounds «memory_words» tasks instructions «is_task» opcode ⌝ }
 {
-    match op {
+    match opcode {
         0 => Below(8, 1, 65536),
         1 | 2 | 3 | 4 | 5 | 6 => Below(8, 8, 1),
         7 => Below(8, 1, 16),
-        8 | 9 => Below(8, 1, m as u32),
-        10 | 11 => Below(8, 8, m as u32),
-        12 => Below(1, 1, n as u32),
-        13 => Below(8, 1, n as u32),
-        14 => Below(8, 8, n as u32),
-        15 => Below(1, 1, if is_task { t as u32 } else { 0 }),
+        8 | 9 => Below(8, 1, memory_words as u32),
+        10 | 11 => Below(8, 8, memory_words as u32),
+        12 => Below(1, 1, instructions as u32),
+        13 => Below(8, 1, instructions as u32),
+        14 => Below(8, 8, instructions as u32),
+        15 => Below(1, 1, if is_task { tasks as u32 } else { 0 }),
         16 => Below(1, 1, if is_task { 0 } else { 1 }),
         17..=255 => Below(0, 0, 0),
     }
 }
 
 // "A body's last instruction is JUMP, GO or DONE."
-pub fn may_be_last(op: u8) -> bool
-    ensures { λ r. ⌜ r ≡ mayBeLast op ⌝ }
+pub fn may_be_last(opcode: u8) -> bool
+    ensures { λ r. ⌜ r ≡ mayBeLast opcode ⌝ }
 {
-    match op {
+    match opcode {
         12 | 15 | 16 => true,
         _ => false,
     }
 }
 
 // Of an instruction's first word: opcode × 256 + a × 16 + b.
-fn opcode(w: u16) -> u8
-    ensures { λ r. ⌜ r ≡ opcode w ⌝ }
+fn opcode(word: u16) -> u8
+    ensures { λ r. ⌜ r ≡ opcode word ⌝ }
 {
-    (w / 256) as u8
+    (word / 256) as u8
 }
 
-fn field_a(w: u16) -> u16
-    ensures { λ r. ⌜ r ≡ fieldA w ⌝ }
+fn field_a(word: u16) -> u16
+    ensures { λ r. ⌜ r ≡ fieldA word ⌝ }
 {
-    w / 16 % 16
+    word / 16 % 16
 }
 
-fn field_b(w: u16) -> u16
-    ensures { λ r. ⌜ r ≡ fieldB w ⌝ }
+fn field_b(word: u16) -> u16
+    ensures { λ r. ⌜ r ≡ fieldB word ⌝ }
 {
-    w % 16
+    word % 16
 }
 
-// The first word of instruction j of body i.
-pub fn code(p: &[u16], i: u16, j: u16) -> u16
-    requires { ⌜ HasInstruction (now p) i j ⌝ }
-    ensures { λ r. ⌜ r ≡ code (now (p .entry)) i j ⌝ }
+// The first word of an instruction, which has its number in its body.
+pub fn code(program: &[u16], body_number: u16, instruction: u16) -> u16
+    requires { ⌜ HasInstruction (now program) «body_number» instruction ⌝ }
+    ensures { λ r. ⌜ r ≡ code (now (program .entry)) «body_number» instruction ⌝ }
 {
-    let at = rows::start(p, i) as usize;
-    p[at + 2 * (j as usize)]
+    let at = rows::start(program, body_number) as usize;
+    program[at + 2 * (instruction as usize)]
 }
 
 // Its second word, k.
-pub fn operand(p: &[u16], i: u16, j: u16) -> u16
-    requires { ⌜ HasInstruction (now p) i j ⌝ }
-    ensures { λ r. ⌜ r ≡ operand (now (p .entry)) i j ⌝ }
+pub fn operand(program: &[u16], body_number: u16, instruction: u16) -> u16
+    requires { ⌜ HasInstruction (now program) «body_number» instruction ⌝ }
+    ensures { λ r. ⌜ r ≡ operand (now (program .entry)) «body_number» instruction ⌝ }
 {
-    let at = rows::start(p, i) as usize;
-    p[at + 2 * (j as usize) + 1]
+    let at = rows::start(program, body_number) as usize;
+    program[at + 2 * (instruction as usize) + 1]
 }
 
-// Instruction j of body i.
-pub fn instruction(p: &[u16], i: u16, j: u16) -> Instruction
-    requires { ⌜ HasInstruction (now p) i j ⌝ }
-    ensures { λ r. ⌜ r ≡ instructionAt (now (p .entry)) i j ⌝ }
+// The instruction itself.
+pub fn instruction(program: &[u16], body_number: u16, instruction: u16) -> Instruction
+    requires { ⌜ HasInstruction (now program) «body_number» instruction ⌝ }
+    ensures { λ r. ⌜ r ≡ instructionAt (now (program .entry)) «body_number» instruction ⌝ }
 {
-    let w = code(p, i, j);
-    decode(opcode(w), field_a(w), field_b(w), operand(p, i, j))
+    let word = code(program, body_number, instruction);
+    decode(
+        opcode(word),
+        field_a(word),
+        field_b(word),
+        operand(program, body_number, instruction),
+    )
 }
 
 // "Unused fields are 0", and the bounds of the used ones.
-pub fn fields_fit(f: Below, w: u16, k: u16) -> bool
-    ensures { λ r. ⌜ r ≡ fieldsFit (asBounds f) w k ⌝ }
+pub fn fields_fit(below: Below, word: u16, operand: u16) -> bool
+    ensures { λ r. ⌜ r ≡ fieldsFit (asBounds below) word operand ⌝ }
 {
-    if field_a(w) >= f.0 {
+    if field_a(word) >= below.0 {
         return false;
     }
-    if field_b(w) >= f.1 {
+    if field_b(word) >= below.1 {
         return false;
     }
-    (k as u32) < f.2
+    (operand as u32) < below.2
 }
 
-pub fn last_fits(p: &[u16], i: u16, j: u16) -> bool
-    requires { ⌜ HasInstruction (now p) i j ⌝ }
-    ensures { λ r. ⌜ r ≡ lastFits (now (p .entry)) i j ⌝ }
+pub fn last_fits(program: &[u16], body_number: u16, instruction: u16) -> bool
+    requires { ⌜ HasInstruction (now program) «body_number» instruction ⌝ }
+    ensures { λ r. ⌜ r ≡ lastFits (now (program .entry)) «body_number» instruction ⌝ }
 {
-    if j + 1 == rows::instructions(p, i) {
-        return may_be_last(opcode(code(p, i, j)));
+    if instruction + 1 == rows::instructions(program, body_number) {
+        return may_be_last(opcode(code(program, body_number, instruction)));
     }
     true
 }
 
 // "an instruction breaks its rule"
-pub fn rule(p: &[u16], i: u16, j: u16) -> Checked
-    requires { ⌜ HasInstruction (now p) i j ⌝ }
-    ensures { λ r. ⌜ r ≡ instructionRule (now (p .entry)) i j ⌝ }
-    ensures given { λ r. ⌜ (r ≡ Checked.Accepted → Legal (now (p .entry)) i j) ⌝ }
+pub fn rule(program: &[u16], body_number: u16, instruction: u16) -> Checked
+    requires { ⌜ HasInstruction (now program) «body_number» instruction ⌝ }
+    ensures { λ r. ⌜ r ≡ instructionRule (now (program .entry)) «body_number» instruction ⌝ }
+    ensures given { λ r. ⌜ (r ≡ Checked.Accepted → Legal (now (program .entry)) «body_number» instruction) ⌝ }
 {
-    let w = code(p, i, j);
-    let f = bounds(p[3], p[1], rows::instructions(p, i), i < p[1], opcode(w));
-    if !fields_fit(f, w, operand(p, i, j)) {
-        return Checked::Refused(Refusal::Code(i, j));
+    let word = code(program, body_number, instruction);
+    let below = bounds(
+        program[3],
+        program[1],
+        rows::instructions(program, body_number),
+        body_number < program[1],
+        opcode(word),
+    );
+    if !fields_fit(below, word, operand(program, body_number, instruction)) {
+        return Checked::Refused(Refusal::Code(body_number, instruction));
     }
-    if !last_fits(p, i, j) {
-        return Checked::Refused(Refusal::Code(i, j));
+    if !last_fits(program, body_number, instruction) {
+        return Checked::Refused(Refusal::Code(body_number, instruction));
     }
     Checked::Accepted
 }
 
-// Every instruction of body i.
-fn body(p: &[u16], i: u16) -> Checked
-    requires { ⌜ HasBody (now p) i ⌝ }
-    ensures { λ r. ⌜ r ≡ bodyRule (now (p .entry)) i ⌝ }
+// Every instruction of a body.
+fn body(program: &[u16], body_number: u16) -> Checked
+    requires { ⌜ HasBody (now program) «body_number» ⌝ }
+    ensures { λ r. ⌜ r ≡ bodyRule (now (program .entry)) «body_number» ⌝ }
 {
-    let n = rows::instructions(p, i);
-    let mut j = 0;
-    while j < n {
-        let c = rule(p, i, j);
-        let Checked::Accepted = c else {
-            return c;
+    let count = rows::instructions(program, body_number);
+    let mut instruction = 0;
+    while instruction < count {
+        let found = rule(program, body_number, instruction);
+        let Checked::Accepted = found else {
+            return found;
         };
-        j += 1;
+        instruction += 1;
     }
     Checked::Accepted
 }
 
 // Every body: one pass over the instructions.
-pub(crate) fn bodies(p: &[u16]) -> Checked
-    requires { ⌜ Bodies (now p) ⌝ }
-    ensures { λ r. ⌜ r ≡ each (bodyRule (now (p .entry))) 0 (bodies (now (p .entry))) ⌝ }
+pub(crate) fn bodies(program: &[u16]) -> Checked
+    requires { ⌜ Bodies (now program) ⌝ }
+    ensures { λ r. ⌜ r ≡ each (bodyRule (now (program .entry))) 0 (bodies (now (program .entry))) ⌝ }
 {
-    let n = p[1] + p[2];
-    let mut i = 0;
-    while i < n {
-        let c = body(p, i);
-        let Checked::Accepted = c else {
-            return c;
+    let bodies = program[1] + program[2];
+    let mut body_number = 0;
+    while body_number < bodies {
+        let found = body(program, body_number);
+        let Checked::Accepted = found else {
+            return found;
         };
-        i += 1;
+        body_number += 1;
     }
     Checked::Accepted
 }

@@ -14,52 +14,52 @@ pub mod rows;
 const MARK: u16 = 0xC0B1;
 
 // Words 0 to 5: refusals 1, 2 and 3.
-pub fn contents(p: &[u16]) -> Checked
-    ensures { λ r. ⌜ r ≡ contentsRule (now (p .entry)) ⌝ }
-    ensures given { λ r. ⌜ (r ≡ Checked.Accepted → Contents (now (p .entry))) ⌝ }
+pub fn contents(program: &[u16]) -> Checked
+    ensures { λ r. ⌜ r ≡ contentsRule (now (program .entry)) ⌝ }
+    ensures given { λ r. ⌜ (r ≡ Checked.Accepted → Contents (now (program .entry))) ⌝ }
 {
-    if p.len() < 6 {
+    if program.len() < 6 {
         return Checked::Refused(Refusal::ProgramLength);
     }
-    if p.len() != p[5] as usize {
+    if program.len() != program[5] as usize {
         return Checked::Refused(Refusal::ProgramLength);
     }
-    if p[0] != MARK {
+    if program[0] != MARK {
         return Checked::Refused(Refusal::ProgramMark);
     }
-    if p[1] < 1 {
+    if program[1] < 1 {
         return Checked::Refused(Refusal::ProgramSize(1));
     }
-    if p[1] > 32 {
+    if program[1] > 32 {
         return Checked::Refused(Refusal::ProgramSize(1));
     }
-    if p[2] > 16 {
+    if program[2] > 16 {
         return Checked::Refused(Refusal::ProgramSize(2));
     }
-    if p[3] < 1 {
+    if program[3] < 1 {
         return Checked::Refused(Refusal::ProgramSize(3));
     }
-    if p[3] > 1024 {
+    if program[3] > 1024 {
         return Checked::Refused(Refusal::ProgramSize(3));
     }
-    if p[4] >= p[1] {
+    if program[4] >= program[1] {
         return Checked::Refused(Refusal::ProgramSize(4));
     }
     Checked::Accepted
 }
 
 // The program check: refusals 1 to 5, in this order.
-pub fn check(p: &[u16]) -> Checked
-    ensures { λ r. ⌜ r ≡ check (now (p .entry)) ⌝ }
-    ensures given { λ r. ⌜ (r ≡ Checked.Accepted → Sound (now (p .entry))) ⌝ }
+pub fn check(program: &[u16]) -> Checked
+    ensures { λ r. ⌜ r ≡ check (now (program .entry)) ⌝ }
+    ensures given { λ r. ⌜ (r ≡ Checked.Accepted → Sound (now (program .entry))) ⌝ }
 {
-    let a = contents(p);
-    let Checked::Accepted = a else {
-        return a;
+    let found = contents(program);
+    let Checked::Accepted = found else {
+        return found;
     };
-    let b = rows::rows(p);
-    let Checked::Accepted = b else {
-        return b;
+    let found = rows::rows(program);
+    let Checked::Accepted = found else {
+        return found;
     };
-    code::bodies(p)
+    code::bodies(program)
 }

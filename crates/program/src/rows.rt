@@ -10,152 +10,152 @@ use model::Checked;
 use model::Refusal;
 
 // Where the first body starts: "6 + 3 × (T + E)".
-pub fn first_body(p: &[u16]) -> u16
-    requires { ⌜ Contents (now p) ⌝ }
-    ensures { λ r. ⌜ r ≡ firstBody (now (p .entry)) ⌝ }
+pub fn first_body(program: &[u16]) -> u16
+    requires { ⌜ Contents (now program) ⌝ }
+    ensures { λ r. ⌜ r ≡ firstBody (now (program .entry)) ⌝ }
 {
-    6 + 3 * (p[1] + p[2])
+    6 + 3 * (program[1] + program[2])
 }
 
-// Body i's start.
-pub fn start(p: &[u16], i: u16) -> u16
-    requires { ⌜ HasRow (now p) i ⌝ }
-    ensures { λ r. ⌜ r ≡ start (now (p .entry)) i ⌝ }
+// A body's start.
+pub fn start(program: &[u16], body_number: u16) -> u16
+    requires { ⌜ HasRow (now program) «body_number» ⌝ }
+    ensures { λ r. ⌜ r ≡ start (now (program .entry)) «body_number» ⌝ }
 {
-    p[6 + 3 * (i as usize)]
+    program[6 + 3 * (body_number as usize)]
 }
 
-// Body i's instruction count.
-pub fn instructions(p: &[u16], i: u16) -> u16
-    requires { ⌜ HasRow (now p) i ⌝ }
-    ensures { λ r. ⌜ r ≡ instructions (now (p .entry)) i ⌝ }
+// Its instruction count.
+pub fn instructions(program: &[u16], body_number: u16) -> u16
+    requires { ⌜ HasRow (now program) «body_number» ⌝ }
+    ensures { λ r. ⌜ r ≡ instructions (now (program .entry)) «body_number» ⌝ }
 {
-    p[6 + 3 * (i as usize) + 1]
+    program[6 + 3 * (body_number as usize) + 1]
 }
 
-// Body i's transaction number.
-pub fn transaction(p: &[u16], i: u16) -> u16
-    requires { ⌜ HasRow (now p) i ⌝ }
-    ensures { λ r. ⌜ r ≡ transaction (now (p .entry)) i ⌝ }
+// Its transaction number.
+pub fn transaction(program: &[u16], body_number: u16) -> u16
+    requires { ⌜ HasRow (now program) «body_number» ⌝ }
+    ensures { λ r. ⌜ r ≡ transaction (now (program .entry)) «body_number» ⌝ }
 {
-    p[6 + 3 * (i as usize) + 2]
+    program[6 + 3 * (body_number as usize) + 2]
 }
 
 // "rows run past the program"
-pub fn inside(p: &[u16]) -> Checked
-    requires { ⌜ Contents (now p) ⌝ }
-    ensures { λ r. ⌜ r ≡ rowsInside (now (p .entry)) ⌝ }
-    ensures given { λ r. ⌜ (r ≡ Checked.Accepted → RowsInside (now (p .entry))) ⌝ }
+pub fn inside(program: &[u16]) -> Checked
+    requires { ⌜ Contents (now program) ⌝ }
+    ensures { λ r. ⌜ r ≡ rowsInside (now (program .entry)) ⌝ }
+    ensures given { λ r. ⌜ (r ≡ Checked.Accepted → RowsInside (now (program .entry))) ⌝ }
 {
-    if first_body(p) > p[5] {
+    if first_body(program) > program[5] {
         return Checked::Refused(Refusal::Row(0));
     }
     Checked::Accepted
 }
 
-// The largest transaction number of body i, with t tasks.
-fn largest_number(t: u16, i: u16) -> u16
-    ensures { λ r. ⌜ r ≡ pick (ltb i t) 255 0 ⌝ }
+// The largest transaction number that a body may have: a task 255, an event 0.
+fn largest_number(tasks: u16, body_number: u16) -> u16
+    ensures { λ r. ⌜ r ≡ pick (ltb «body_number» tasks) 255 0 ⌝ }
 {
-    if i < t { 255 } else { 0 }
+    if body_number < tasks { 255 } else { 0 }
 }
 
 // A row's limits.
-pub fn limits(p: &[u16], i: u16) -> Checked
-    requires { ⌜ HasRow (now p) i ⌝ }
-    ensures { λ r. ⌜ r ≡ limits (now (p .entry)) i ⌝ }
+pub fn limits(program: &[u16], body_number: u16) -> Checked
+    requires { ⌜ HasRow (now program) «body_number» ⌝ }
+    ensures { λ r. ⌜ r ≡ limits (now (program .entry)) «body_number» ⌝ }
 {
-    let n = instructions(p, i);
-    if n < 1 {
-        return Checked::Refused(Refusal::Row(i));
+    let count = instructions(program, body_number);
+    if count < 1 {
+        return Checked::Refused(Refusal::Row(body_number));
     }
-    if n > 256 {
-        return Checked::Refused(Refusal::Row(i));
+    if count > 256 {
+        return Checked::Refused(Refusal::Row(body_number));
     }
-    if transaction(p, i) > largest_number(p[1], i) {
-        return Checked::Refused(Refusal::Row(i));
+    if transaction(program, body_number) > largest_number(program[1], body_number) {
+        return Checked::Refused(Refusal::Row(body_number));
     }
     Checked::Accepted
 }
 
-// Where body i is due: the first behind the rows, each other where the one before it ends.
-fn due(p: &[u16], i: u16) -> u32
-    requires { ⌜ RowsInside (now p) ⌝ }
-    requires { ⌜ i ≤ bodies (now p) ⌝ }
-    ensures { λ r. ⌜ r ≡ due (now (p .entry)) i ⌝ }
+// Where a body is due: the first behind the rows, each other where the one before it ends.
+fn due(program: &[u16], body_number: u16) -> u32
+    requires { ⌜ RowsInside (now program) ⌝ }
+    requires { ⌜ «body_number» ≤ bodies (now program) ⌝ }
+    ensures { λ r. ⌜ r ≡ due (now (program .entry)) «body_number» ⌝ }
 {
-    if i == 0 {
-        return first_body(p) as u32;
+    if body_number == 0 {
+        return first_body(program) as u32;
     }
-    let before = i - 1;
-    start(p, before) as u32 + 2 * (instructions(p, before) as u32)
+    let before = body_number - 1;
+    start(program, before) as u32 + 2 * (instructions(program, before) as u32)
 }
 
 // "a row breaks its rule"
-fn rule(p: &[u16], i: u16) -> Checked
-    requires { ⌜ HasRow (now p) i ⌝ }
-    ensures { λ r. ⌜ r ≡ rowRule (now (p .entry)) i ⌝ }
+fn rule(program: &[u16], body_number: u16) -> Checked
+    requires { ⌜ HasRow (now program) «body_number» ⌝ }
+    ensures { λ r. ⌜ r ≡ rowRule (now (program .entry)) «body_number» ⌝ }
 {
-    if start(p, i) as u32 != due(p, i) {
-        return Checked::Refused(Refusal::Row(i));
+    if start(program, body_number) as u32 != due(program, body_number) {
+        return Checked::Refused(Refusal::Row(body_number));
     }
-    limits(p, i)
+    limits(program, body_number)
 }
 
 // Every row, in one pass.
-fn rules(p: &[u16]) -> Checked
-    requires { ⌜ RowsInside (now p) ⌝ }
-    ensures { λ r. ⌜ r ≡ each (rowRule (now (p .entry))) 0 (bodies (now (p .entry))) ⌝ }
+fn rules(program: &[u16]) -> Checked
+    requires { ⌜ RowsInside (now program) ⌝ }
+    ensures { λ r. ⌜ r ≡ each (rowRule (now (program .entry))) 0 (bodies (now (program .entry))) ⌝ }
 {
-    let n = p[1] + p[2];
-    let mut i = 0;
-    while i < n {
-        let c = rule(p, i);
-        let Checked::Accepted = c else {
-            return c;
+    let bodies = program[1] + program[2];
+    let mut body_number = 0;
+    while body_number < bodies {
+        let found = rule(program, body_number);
+        let Checked::Accepted = found else {
+            return found;
         };
-        i += 1;
+        body_number += 1;
     }
     Checked::Accepted
 }
 
 // The rows, and where the bodies end.
-pub(crate) fn rows(p: &[u16]) -> Checked
-    requires { ⌜ Contents (now p) ⌝ }
-    ensures { λ r. ⌜ r ≡ rows (now (p .entry)) ⌝ }
-    ensures given { λ r. ⌜ (r ≡ Checked.Accepted → Bodies (now (p .entry))) ⌝ }
+pub(crate) fn rows(program: &[u16]) -> Checked
+    requires { ⌜ Contents (now program) ⌝ }
+    ensures { λ r. ⌜ r ≡ rows (now (program .entry)) ⌝ }
+    ensures given { λ r. ⌜ (r ≡ Checked.Accepted → Bodies (now (program .entry))) ⌝ }
 {
-    let a = inside(p);
-    let Checked::Accepted = a else {
-        return a;
+    let found = inside(program);
+    let Checked::Accepted = found else {
+        return found;
     };
-    let b = rules(p);
-    let Checked::Accepted = b else {
-        return b;
+    let found = rules(program);
+    let Checked::Accepted = found else {
+        return found;
     };
-    let n = p[1] + p[2];
-    if due(p, n) != p[5] as u32 {
-        return Checked::Refused(Refusal::Row(n));
+    let bodies = program[1] + program[2];
+    if due(program, bodies) != program[5] as u32 {
+        return Checked::Refused(Refusal::Row(bodies));
     }
     Checked::Accepted
 }
 
 // What a step asks of a row: its limits, and its body behind the rows and inside the total.
-pub fn used(p: &[u16], i: u16) -> Checked
-    requires { ⌜ HasRow (now p) i ⌝ }
-    ensures { λ r. ⌜ r ≡ rowUsed (now (p .entry)) i ⌝ }
-    ensures given { λ r. ⌜ (r ≡ Checked.Accepted → HasBody (now (p .entry)) i) ⌝ }
+pub fn usable(program: &[u16], body_number: u16) -> Checked
+    requires { ⌜ HasRow (now program) «body_number» ⌝ }
+    ensures { λ r. ⌜ r ≡ rowUsed (now (program .entry)) «body_number» ⌝ }
+    ensures given { λ r. ⌜ (r ≡ Checked.Accepted → HasBody (now (program .entry)) «body_number») ⌝ }
 {
-    let c = limits(p, i);
-    let Checked::Accepted = c else {
-        return c;
+    let found = limits(program, body_number);
+    let Checked::Accepted = found else {
+        return found;
     };
-    let at = start(p, i);
-    if at < first_body(p) {
-        return Checked::Refused(Refusal::Row(i));
+    let at = start(program, body_number);
+    if at < first_body(program) {
+        return Checked::Refused(Refusal::Row(body_number));
     }
-    if at as u32 + 2 * (instructions(p, i) as u32) > p[5] as u32 {
-        return Checked::Refused(Refusal::Row(i));
+    if at as u32 + 2 * (instructions(program, body_number) as u32) > program[5] as u32 {
+        return Checked::Refused(Refusal::Row(body_number));
     }
     Checked::Accepted
 }

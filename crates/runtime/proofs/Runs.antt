@@ -18,8 +18,8 @@ use Rattle.model.specs.declared.Device.{Device}
 use Rattle.model.specs.declared.Ended.{Ended}
 use Rattle.model.specs.declared.Refusal.{Refusal}
 use Rattle.model.specs.declared.Totals.{Totals}
-use Rattle.totals.proofs.Told.{counted-is-told}
-use Rattle.totals.specs.Told.{told}
+use Rattle.totals.proofs.CountLaws.{counted-is}
+use Rattle.totals.specs.Counted.{countedFrom}
 
 -- ---- is an answer a refusal?
 
@@ -66,12 +66,12 @@ module _ (p : List ℕ) (k j n : ℕ) (s : List ℕ) (d : Device) (t : Totals) (
       let q : o ≡ refuse d f = refused-is p s d Step f (h .0) in
       rw left (h .1 ∙ ap (λ (x : Out). ended n (Ended.Refused f) (settled s (x .write)) (x .device) t) (sym q))
 
-  pub run-goes : refusalOf (o .answer) ≡ Checked.Accepted → runFrom p k n s d t ≡ runFrom p j (n + 1) (settled s (o .write)) (o .device) (told t (o .answer) (storedWord s (o .write)))
+  pub run-goes : refusalOf (o .answer) ≡ Checked.Accepted → runFrom p k n s d t ≡ runFrom p j (n + 1) (settled s (o .write)) (o .device) (countedFrom t (o .answer) (storedWord s (o .write)))
   unfolding runFrom
   run-goes e =
       rw left
       (goes (o .answer) (λ f. ended n (Ended.Refused f) s d t) _ e
-      ∙ ap (λ (x : Totals). runFrom p j (n + 1) (settled s (o .write)) (o .device) x) (counted-is-told s t o))
+      ∙ ap (λ (x : Totals). runFrom p j (n + 1) (settled s (o .write)) (o .device) x) (counted-is s t o))
 
 -- ---- the place in 7
 

@@ -10,11 +10,11 @@ use Rattle.model.specs.declared.Totals.{Totals}
 use Rattle.device.proofs.Agree.{same-number}
 use Rattle.device.specs.Agree.{Performs}
 use Rattle.device.specs.Turn.{Result}
-use Rattle.totals.proofs.Told.{counted-is-told}
-use Rattle.totals.specs.Told.{told}
+use Rattle.totals.proofs.CountLaws.{counted-is}
+use Rattle.totals.specs.Counted.{countedFrom}
 
-pub told-is-counted : (p s : List ℕ) (o : Out) (r : Result) (t : Totals) → Performs p s o r → told t (r .answer) (r .stored) ≡ counted t o
-unfolding told oneIf isCommit acceptedEvents pick
+pub told-is-counted : (p s : List ℕ) (o : Out) (r : Result) (t : Totals) → Performs p s o r → countedFrom t (r .answer) (r .stored) ≡ counted t o
+unfolding countedFrom oneIf isCommit acceptedEvents pick
 told-is-counted p s o r t h =
     simp (same-number (λ a. oneIf (isCommit a)) (λ w. refl) (h .answer), same-number acceptedEvents (λ w. refl) (h .answer), h .stored)
-    (sym (counted-is-told s t o))
+    (sym (counted-is s t o))

@@ -39,7 +39,7 @@ pub fn handler_step(s: &mut [u16], c: Core, n: Next, e: u16, x: u16) -> Turn
             working(c, Handler::Storing(Next::Tail, e, x), Answer::Stored, word)
         }
         Next::Tail => {
-            s[15] = queue::after(s[3], tail);
+            s[15] = queue::slot_after(s[3], tail);
             working(c, Handler::Resting, Answer::Accepted, Stored::Word(15))
         }
     }

@@ -26,54 +26,62 @@ const POWERS: [i32; 16] = [
 ];
 
 // The number that a word is as two's complement.
-fn signed(x: u16) -> i32
-    ensures { λ r. ⌜ r ≡ signed x ⌝ }
+fn signed(word: u16) -> i32
+    ensures { λ r. ⌜ r ≡ signed word ⌝ }
 {
-    if x < 32768 {
-        x as i32
+    if word < 32768 {
+        word as i32
     } else {
-        x as i32 - 65536
+        word as i32 - 65536
     }
 }
 
 // The word that a number from -32768 to 32767 is as two's complement.
-fn unsigned(z: i32) -> u16
-    requires { ⌜ mag z < 32768 ⌝ }
-    ensures { λ r. ⌜ r ≡ unsigned z ⌝ }
+fn unsigned(number: i32) -> u16
+    requires { ⌜ mag number < 32768 ⌝ }
+    ensures { λ r. ⌜ r ≡ unsigned number ⌝ }
 {
-    if z < 0 { (z + 65536) as u16 } else { z as u16 }
+    if number < 0 {
+        (number + 65536) as u16
+    } else {
+        number as u16
+    }
 }
 
-// 2 to the k.
-fn power(k: u16) -> i32
-    requires { ⌜ k < 16 ⌝ }
-    ensures { λ r. ⌜ r ≡ pos (2 ^ k) ⌝ }
+// A power of two.
+fn power(exponent: u16) -> i32
+    requires { ⌜ exponent < 16 ⌝ }
+    ensures { λ r. ⌜ r ≡ pos (2 ^ exponent) ⌝ }
 {
-    POWERS[k as usize]
+    POWERS[exponent as usize]
 }
 
-// A number divided by 2 to the k, rounded down. Division of negative numbers rounds toward zero: so one is
+// A number divided by a power of two, rounded down. Division of negative numbers rounds toward zero: so one is
 // added before it and taken off after it.
-fn divided(z: i32, k: u16) -> i32
-    requires { ⌜ mag z < 32768 ⌝ }
-    requires { ⌜ k < 16 ⌝ }
-    ensures { λ r. ⌜ r ≡ shrZ z (2 ^ k) ⌝ }
+fn divided(number: i32, exponent: u16) -> i32
+    requires { ⌜ mag number < 32768 ⌝ }
+    requires { ⌜ exponent < 16 ⌝ }
+    ensures { λ r. ⌜ r ≡ shrZ number (2 ^ exponent) ⌝ }
 {
-    let d = power(k);
-    if z < 0 { (z + 1) / d - 1 } else { z / d }
+    let divisor = power(exponent);
+    if number < 0 {
+        (number + 1) / divisor - 1
+    } else {
+        number / divisor
+    }
 }
 
 // SHR.
-pub fn shr(x: u16, k: u16) -> u16
-    requires { ⌜ k < 16 ⌝ }
-    ensures { λ r. ⌜ r ≡ shifted x k ⌝ }
+pub fn shr(word: u16, places: u16) -> u16
+    requires { ⌜ places < 16 ⌝ }
+    ensures { λ r. ⌜ r ≡ shifted word places ⌝ }
 {
-    unsigned(divided(signed(x), k))
+    unsigned(divided(signed(word), places))
 }
 
 // JLT.
-pub fn less(x: u16, y: u16) -> bool
-    ensures { λ r. ⌜ r ≡ less x y ⌝ }
+pub fn less(left: u16, right: u16) -> bool
+    ensures { λ r. ⌜ r ≡ less left right ⌝ }
 {
-    signed(x) < signed(y)
+    signed(left) < signed(right)
 }

@@ -13,50 +13,50 @@ pub const CONTROL: u16 = 8;
 pub const MEMORY: u16 = 16;
 
 // L is 1 to 64 and Q is 1 to 32.
-pub fn sizes(l: u16, q: u16) -> bool
-    ensures { λ r. ⌜ r ≡ sizesRule l q ⌝ }
+pub fn sizes(log_pairs: u16, queue_records: u16) -> bool
+    ensures { λ r. ⌜ r ≡ sizesRule «log_pairs» «queue_records» ⌝ }
 {
-    if l < 1 {
+    if log_pairs < 1 {
         return false;
     }
-    if l > 64 {
+    if log_pairs > 64 {
         return false;
     }
-    if q < 1 {
+    if queue_records < 1 {
         return false;
     }
-    q <= 32
+    queue_records <= 32
 }
 
 // Where the log and the queue start, and where the store ends.
-pub fn log_start(m: u16) -> u16
-    requires { ⌜ m ≤ 1024 ⌝ }
-    ensures { λ r. ⌜ r ≡ logAt m ⌝ }
+pub fn log_start(memory_words: u16) -> u16
+    requires { ⌜ «memory_words» ≤ 1024 ⌝ }
+    ensures { λ r. ⌜ r ≡ logAt «memory_words» ⌝ }
 {
-    MEMORY + m
+    MEMORY + memory_words
 }
 
-pub fn queue_start(m: u16, l: u16) -> u16
-    requires { ⌜ m ≤ 1024 ⌝ }
-    requires { ⌜ l ≤ 64 ⌝ }
-    ensures { λ r. ⌜ r ≡ queueAt m l ⌝ }
+pub fn queue_start(memory_words: u16, log_pairs: u16) -> u16
+    requires { ⌜ «memory_words» ≤ 1024 ⌝ }
+    requires { ⌜ «log_pairs» ≤ 64 ⌝ }
+    ensures { λ r. ⌜ r ≡ queueAt «memory_words» «log_pairs» ⌝ }
 {
-    log_start(m) + 2 * l
+    log_start(memory_words) + 2 * log_pairs
 }
 
-pub fn end(m: u16, l: u16, q: u16) -> u16
-    requires { ⌜ m ≤ 1024 ⌝ }
-    requires { ⌜ Sizes l q ⌝ }
-    ensures { λ r. ⌜ r ≡ storeLength m l q ⌝ }
+pub fn end(memory_words: u16, log_pairs: u16, queue_records: u16) -> u16
+    requires { ⌜ «memory_words» ≤ 1024 ⌝ }
+    requires { ⌜ Sizes «log_pairs» «queue_records» ⌝ }
+    ensures { λ r. ⌜ r ≡ storeLength «memory_words» «log_pairs» «queue_records» ⌝ }
 {
-    queue_start(m, l) + 2 * (q + 1)
+    queue_start(memory_words, log_pairs) + 2 * (queue_records + 1)
 }
 
 // Refusal 6.
-pub fn store_rule(p: &[u16], store: &[u16]) -> Checked
-    requires { ⌜ Contents (now p) ⌝ }
-    ensures { λ r. ⌜ r ≡ storeRule (now (p .entry)) (now (store .entry)) ⌝ }
-    ensures given { λ r. ⌜ (r ≡ Checked.Accepted → ShapedFor (now (p .entry)) (now (store .entry))) ⌝ }
+pub fn store_rule(program: &[u16], store: &[u16]) -> Checked
+    requires { ⌜ Contents (now program) ⌝ }
+    ensures { λ r. ⌜ r ≡ storeRule (now (program .entry)) (now (store .entry)) ⌝ }
+    ensures given { λ r. ⌜ (r ≡ Checked.Accepted → ShapedFor (now (program .entry)) (now (store .entry))) ⌝ }
 {
     if store.len() < 8 {
         return Checked::Refused(Refusal::StoreContents);
@@ -64,13 +64,13 @@ pub fn store_rule(p: &[u16], store: &[u16]) -> Checked
     if store[0] != MARK {
         return Checked::Refused(Refusal::StoreContents);
     }
-    let m = p[3];
-    if store[1] != m {
+    let memory_words = program[3];
+    if store[1] != memory_words {
         return Checked::Refused(Refusal::StoreContents);
     }
-    let l = store[2];
-    let q = store[3];
-    if !sizes(l, q) {
+    let log_pairs = store[2];
+    let queue_records = store[3];
+    if !sizes(log_pairs, queue_records) {
         return Checked::Refused(Refusal::StoreContents);
     }
     if store[4] != CONTROL {
@@ -79,13 +79,13 @@ pub fn store_rule(p: &[u16], store: &[u16]) -> Checked
     if store[5] != MEMORY {
         return Checked::Refused(Refusal::StoreContents);
     }
-    if store[6] != log_start(m) {
+    if store[6] != log_start(memory_words) {
         return Checked::Refused(Refusal::StoreContents);
     }
-    if store[7] != queue_start(m, l) {
+    if store[7] != queue_start(memory_words, log_pairs) {
         return Checked::Refused(Refusal::StoreContents);
     }
-    if store.len() != end(m, l, q) as usize {
+    if store.len() != end(memory_words, log_pairs, queue_records) as usize {
         return Checked::Refused(Refusal::StoreContents);
     }
     Checked::Accepted

@@ -15,48 +15,48 @@ ghost use Rattle.model.specs.Accepted.{Contents, Sizes};
 fn clear(store: &mut [u16])
     ensures { λ _. ⌜ now (store .exit) ≡ replicate (length (now (store .entry))) 0 ⌝ }
 {
-    let mut i = 0;
-    while i < store.len() {
-        store[i] = 0;
-        i += 1;
+    let mut index = 0;
+    while index < store.len() {
+        store[index] = 0;
+        index += 1;
     }
 }
 
 // A store of the right length is filled.
-fn fill(p: &[u16], l: u16, q: u16, store: &mut [u16])
-    requires { ⌜ Contents (now p) ⌝ }
-    requires { ⌜ Sizes l q ⌝ }
-    requires { ⌜ length (now store) ≡ storeLength (memoryWords (now p)) l q ⌝ }
-    ensures { λ _. ⌜ now (store .exit) ≡ formatted (now (p .entry)) l q ⌝ }
+fn fill(program: &[u16], log_pairs: u16, queue_records: u16, store: &mut [u16])
+    requires { ⌜ Contents (now program) ⌝ }
+    requires { ⌜ Sizes «log_pairs» «queue_records» ⌝ }
+    requires { ⌜ length (now store) ≡ storeLength (memoryWords (now program)) «log_pairs» «queue_records» ⌝ }
+    ensures { λ _. ⌜ now (store .exit) ≡ formatted (now (program .entry)) «log_pairs» «queue_records» ⌝ }
 {
-    let m = p[3];
-    let entry = p[4];
+    let memory_words = program[3];
+    let entry = program[4];
     clear(store);
     store[0] = MARK;
-    store[1] = m;
-    store[2] = l;
-    store[3] = q;
+    store[1] = memory_words;
+    store[2] = log_pairs;
+    store[3] = queue_records;
     store[4] = CONTROL;
     store[5] = MEMORY;
-    store[6] = contents::log_start(m);
-    store[7] = contents::queue_start(m, l);
+    store[6] = contents::log_start(memory_words);
+    store[7] = contents::queue_start(memory_words, log_pairs);
     store[9] = entry;
 }
 
-pub fn format(p: &[u16], l: u16, q: u16, store: &mut [u16]) -> Checked
-    ensures { λ r. ⌜ r ≡ formatCheck (now (p .entry)) l q (now (store .entry)) ⌝ }
-    ensures { λ _. ⌜ now (store .exit) ≡ format (now (p .entry)) l q (now (store .entry)) ⌝ }
+pub fn format(program: &[u16], log_pairs: u16, queue_records: u16, store: &mut [u16]) -> Checked
+    ensures { λ r. ⌜ r ≡ formatCheck (now (program .entry)) «log_pairs» «queue_records» (now (store .entry)) ⌝ }
+    ensures { λ _. ⌜ now (store .exit) ≡ format (now (program .entry)) «log_pairs» «queue_records» (now (store .entry)) ⌝ }
 {
-    let checked = program::check(p);
+    let checked = program::check(program);
     let Checked::Accepted = checked else {
         return checked;
     };
-    if !contents::sizes(l, q) {
+    if !contents::sizes(log_pairs, queue_records) {
         return Checked::Refused(Refusal::Sizes);
     }
-    if store.len() != contents::end(p[3], l, q) as usize {
+    if store.len() != contents::end(program[3], log_pairs, queue_records) as usize {
         return Checked::Refused(Refusal::StoreContents);
     }
-    fill(p, l, q, store);
+    fill(program, log_pairs, queue_records, store);
     Checked::Accepted
 }

@@ -11,89 +11,89 @@ ghost use Rattle.model.specs.Store.{view, address, value, to, Address, Value, f
 ghost use Rattle.model.specs.Accepted.{Shaped};
 ghost use Rattle.store.specs.Written.{Written};
 
-// The first of the log's first n pairs with address a.
-pub fn search(log: &[u16], n: u16, a: u16) -> Found
-    requires { ⌜ 2 * n ≤ length (now log) ⌝ }
-    ensures { λ r. ⌜ r ≡ find (now (log .entry)) n a ⌝ }
-    ensures within { λ r. ⌜ ((i : ℕ) → r ≡ Found.Pair i → i < n) ⌝ }
+// The first of the log's first pairs, so many as it counts, with this address.
+pub fn search(log: &[u16], log_count: u16, address: u16) -> Found
+    requires { ⌜ 2 * «log_count» ≤ length (now log) ⌝ }
+    ensures { λ r. ⌜ r ≡ find (now (log .entry)) «log_count» address ⌝ }
+    ensures within { λ r. ⌜ ((pair : ℕ) → r ≡ Found.Pair pair → pair < «log_count») ⌝ }
 {
-    let mut i: u16 = 0;
+    let mut pair: u16 = 0;
     let found = loop {
-        if i == n {
+        if pair == log_count {
             break Found::Nothing;
         }
-        if log[2 * (i as usize)] == a {
-            break Found::Pair(i);
+        if log[2 * (pair as usize)] == address {
+            break Found::Pair(pair);
         }
-        i += 1;
+        pair += 1;
     };
     found
 }
 
 // The same in a store.
-pub fn find(store: &[u16], n: u16, a: u16) -> Found
+pub fn find(store: &[u16], log_count: u16, address: u16) -> Found
     requires { ⌜ Shaped (now store) ⌝ }
-    requires { ⌜ n ≤ word (now store) 2 ⌝ }
-    ensures { λ r. ⌜ r ≡ find (view (now (store .entry)) .log) n a ⌝ }
-    ensures within { λ r. ⌜ ((i : ℕ) → r ≡ Found.Pair i → i < n) ⌝ }
+    requires { ⌜ «log_count» ≤ word (now store) 2 ⌝ }
+    ensures { λ r. ⌜ r ≡ find (view (now (store .entry)) .log) «log_count» address ⌝ }
+    ensures within { λ r. ⌜ ((pair : ℕ) → r ≡ Found.Pair pair → pair < «log_count») ⌝ }
 {
     let log = store[6] as usize;
     let queue = store[7] as usize;
-    search(&store[log..queue], n, a)
+    search(&store[log..queue], log_count, address)
 }
 
-pub fn address(store: &[u16], j: u16) -> u16
+pub fn address(store: &[u16], pair: u16) -> u16
     requires { ⌜ Shaped (now store) ⌝ }
-    requires { ⌜ j < word (now store) 2 ⌝ }
-    ensures { λ r. ⌜ r ≡ address (view (now (store .entry))) j ⌝ }
+    requires { ⌜ pair < word (now store) 2 ⌝ }
+    ensures { λ r. ⌜ r ≡ address (view (now (store .entry))) pair ⌝ }
 {
     let log = store[6] as usize;
-    store[log + 2 * (j as usize)]
+    store[log + 2 * (pair as usize)]
 }
 
-pub fn value(store: &[u16], j: u16) -> u16
+pub fn value(store: &[u16], pair: u16) -> u16
     requires { ⌜ Shaped (now store) ⌝ }
-    requires { ⌜ j < word (now store) 2 ⌝ }
-    ensures { λ r. ⌜ r ≡ value (view (now (store .entry))) j ⌝ }
+    requires { ⌜ pair < word (now store) 2 ⌝ }
+    ensures { λ r. ⌜ r ≡ value (view (now (store .entry))) pair ⌝ }
 {
     let log = store[6] as usize;
-    store[log + (2 * (j as usize) + 1)]
+    store[log + (2 * (pair as usize) + 1)]
 }
 
-// The log's routines: they are lent the log part, to save an address or a value of pair j in it.
-fn save_address(log: &mut [u16], j: u16, a: u16)
-    requires { ⌜ 2 * j < length (now log) ⌝ }
-    ensures { λ _. ⌜ now (log .exit) ≡ set (now (log .entry)) (2 * j) a ⌝ }
+// The log's routines: they are lent the log part, to save an address or a value of a pair in it.
+fn save_address(log: &mut [u16], pair: u16, address: u16)
+    requires { ⌜ 2 * pair < length (now log) ⌝ }
+    ensures { λ _. ⌜ now (log .exit) ≡ set (now (log .entry)) (2 * pair) address ⌝ }
 {
-    log[2 * (j as usize)] = a;
+    log[2 * (pair as usize)] = address;
 }
 
-fn save_value(log: &mut [u16], j: u16, x: u16)
-    requires { ⌜ 2 * j + 1 < length (now log) ⌝ }
-    ensures { λ _. ⌜ now (log .exit) ≡ set (now (log .entry)) (2 * j + 1) x ⌝ }
+fn save_value(log: &mut [u16], pair: u16, value: u16)
+    requires { ⌜ 2 * pair + 1 < length (now log) ⌝ }
+    ensures { λ _. ⌜ now (log .exit) ≡ set (now (log .entry)) (2 * pair + 1) value ⌝ }
 {
-    log[2 * (j as usize) + 1] = x;
+    log[2 * (pair as usize) + 1] = value;
 }
 
 // The same in a store, whose log part is lent on. Each tells the word that it stored.
-pub fn write_address(store: &mut [u16], j: u16, a: u16) -> Stored
+pub fn write_address(store: &mut [u16], pair: u16, address: u16) -> Stored
     requires { ⌜ Shaped (now store) ⌝ }
-    requires { ⌜ j < word (now store) 2 ⌝ }
-    ensures { λ told. ⌜ Written (now (store .entry)) (to (Address j) a) told (now (store .exit)) ⌝ }
+    requires { ⌜ pair < word (now store) 2 ⌝ }
+    ensures { λ told. ⌜ Written (now (store .entry)) (to (Address pair) address) told (now (store .exit)) ⌝ }
 {
     let log = store[6];
     let queue = store[7];
-    save_address(&mut store[log as usize..queue as usize], j, a);
-    Stored::Word(log + 2 * j)
+    save_address(&mut store[log as usize..queue as usize], pair, address);
+    Stored::Word(log + 2 * pair)
 }
 
-pub fn write_value(store: &mut [u16], j: u16, x: u16) -> Stored
+pub fn write_value(store: &mut [u16], pair: u16, value: u16) -> Stored
     requires { ⌜ Shaped (now store) ⌝ }
-    requires { ⌜ j < word (now store) 2 ⌝ }
-    ensures { λ told. ⌜ Written (now (store .entry)) (to (Value j) x) told (now (store .exit)) ⌝ }
+    requires { ⌜ pair < word (now store) 2 ⌝ }
+    ensures { λ told. ⌜ Written (now (store .entry)) (to (Value pair) value) told (now (store .exit)) ⌝ }
 {
     let log = store[6];
     let queue = store[7];
-    save_value(&mut store[log as usize..queue as usize], j, x);
-    Stored::Word(log + (2 * j + 1))
+    save_value(&mut store[log as usize..queue as usize], pair, value);
+    Stored::Word(log + (2 * pair + 1))
 }

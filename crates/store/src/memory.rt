@@ -8,21 +8,21 @@ ghost use Rattle.model.specs.Store.{view, to, Memory};
 ghost use Rattle.model.specs.Accepted.{Shaped};
 ghost use Rattle.store.specs.Written.{Written};
 
-pub fn read(store: &[u16], a: u16) -> u16
+pub fn read(store: &[u16], address: u16) -> u16
     requires { ⌜ Shaped (now store) ⌝ }
-    requires { ⌜ a < word (now store) 1 ⌝ }
-    ensures { λ r. ⌜ r ≡ word (view (now (store .entry)) .memory) a ⌝ }
+    requires { ⌜ address < word (now store) 1 ⌝ }
+    ensures { λ r. ⌜ r ≡ word (view (now (store .entry)) .memory) address ⌝ }
 {
-    store[MEMORY as usize + a as usize]
+    store[MEMORY as usize + address as usize]
 }
 
 // It tells the word that it stored.
-pub fn write(store: &mut [u16], a: u16, x: u16) -> Stored
+pub fn write(store: &mut [u16], address: u16, value: u16) -> Stored
     requires { ⌜ Shaped (now store) ⌝ }
-    requires { ⌜ a < word (now store) 1 ⌝ }
-    ensures { λ told. ⌜ Written (now (store .entry)) (to (Memory a) x) told (now (store .exit)) ⌝ }
+    requires { ⌜ address < word (now store) 1 ⌝ }
+    ensures { λ told. ⌜ Written (now (store .entry)) (to (Memory address) value) told (now (store .exit)) ⌝ }
 {
-    let word = MEMORY + a;
-    store[word as usize] = x;
+    let word = MEMORY + address;
+    store[word as usize] = value;
     Stored::Word(word)
 }

@@ -9,51 +9,51 @@ ghost use Rattle.model.specs.Store.{view, event, datum, to, Event, Datum, after
 ghost use Rattle.model.specs.Accepted.{Shaped};
 ghost use Rattle.store.specs.Written.{Written};
 
-pub fn event(store: &[u16], x: u16) -> u16
+pub fn event(store: &[u16], slot: u16) -> u16
     requires { ⌜ Shaped (now store) ⌝ }
-    requires { ⌜ x ≤ word (now store) 3 ⌝ }
-    ensures { λ r. ⌜ r ≡ event (view (now (store .entry))) x ⌝ }
+    requires { ⌜ slot ≤ word (now store) 3 ⌝ }
+    ensures { λ r. ⌜ r ≡ event (view (now (store .entry))) slot ⌝ }
 {
     let queue = store[7] as usize;
-    store[queue + 2 * (x as usize)]
+    store[queue + 2 * (slot as usize)]
 }
 
-pub fn datum(store: &[u16], x: u16) -> u16
+pub fn datum(store: &[u16], slot: u16) -> u16
     requires { ⌜ Shaped (now store) ⌝ }
-    requires { ⌜ x ≤ word (now store) 3 ⌝ }
-    ensures { λ r. ⌜ r ≡ datum (view (now (store .entry))) x ⌝ }
+    requires { ⌜ slot ≤ word (now store) 3 ⌝ }
+    ensures { λ r. ⌜ r ≡ datum (view (now (store .entry))) slot ⌝ }
 {
     let queue = store[7] as usize;
-    store[queue + (2 * (x as usize) + 1)]
+    store[queue + (2 * (slot as usize) + 1)]
 }
 
 // The writing routines tell the word that they stored.
-pub fn write_event(store: &mut [u16], x: u16, e: u16) -> Stored
+pub fn write_event(store: &mut [u16], slot: u16, event: u16) -> Stored
     requires { ⌜ Shaped (now store) ⌝ }
-    requires { ⌜ x ≤ word (now store) 3 ⌝ }
-    ensures { λ told. ⌜ Written (now (store .entry)) (to (Event x) e) told (now (store .exit)) ⌝ }
+    requires { ⌜ slot ≤ word (now store) 3 ⌝ }
+    ensures { λ told. ⌜ Written (now (store .entry)) (to (Event slot) event) told (now (store .exit)) ⌝ }
 {
-    let word = store[7] + 2 * x;
-    store[word as usize] = e;
+    let word = store[7] + 2 * slot;
+    store[word as usize] = event;
     Stored::Word(word)
 }
 
-pub fn write_datum(store: &mut [u16], x: u16, d: u16) -> Stored
+pub fn write_datum(store: &mut [u16], slot: u16, datum: u16) -> Stored
     requires { ⌜ Shaped (now store) ⌝ }
-    requires { ⌜ x ≤ word (now store) 3 ⌝ }
-    ensures { λ told. ⌜ Written (now (store .entry)) (to (Datum x) d) told (now (store .exit)) ⌝ }
+    requires { ⌜ slot ≤ word (now store) 3 ⌝ }
+    ensures { λ told. ⌜ Written (now (store .entry)) (to (Datum slot) datum) told (now (store .exit)) ⌝ }
 {
-    let word = store[7] + (2 * x + 1);
-    store[word as usize] = d;
+    let word = store[7] + (2 * slot + 1);
+    store[word as usize] = datum;
     Stored::Word(word)
 }
 
-// The slot after x, of the slots 0 to q.
-pub fn after(q: u16, x: u16) -> u16
-    requires { ⌜ x ≤ q ⌝ }
-    ensures { λ r. ⌜ r ≡ after q x ⌝ }
+// The slot after a slot, of the slots 0 to Q.
+pub fn slot_after(queue_records: u16, slot: u16) -> u16
+    requires { ⌜ slot ≤ «queue_records» ⌝ }
+    ensures { λ r. ⌜ r ≡ after «queue_records» slot ⌝ }
 {
-    if x == q { 0 } else { x + 1 }
+    if slot == queue_records { 0 } else { slot + 1 }
 }
 
 pub fn is_empty(store: &[u16]) -> bool
@@ -85,20 +85,20 @@ pub fn first_waiting(store: &[u16]) -> u16
     if store[8] == 2 { store[12] } else { store[14] }
 }
 
-// Does a record wait in slot x, of records from slot h up to slot t?
-pub fn between(h: u16, t: u16, x: u16) -> bool
-    ensures { λ r. ⌜ r ≡ between h t x ⌝ }
+// Does a record wait in a slot, of records from head up to tail?
+pub fn between(head: u16, tail: u16, slot: u16) -> bool
+    ensures { λ r. ⌜ r ≡ between head tail slot ⌝ }
 {
-    if h <= t {
-        if x < h {
+    if head <= tail {
+        if slot < head {
             return false;
         }
-        return x < t;
+        return slot < tail;
     }
-    if h <= x {
+    if head <= slot {
         return true;
     }
-    x < t
+    slot < tail
 }
 
 // The record at head.

@@ -1,2 +1,2 @@
 -- What a step that tells its answer and the word that it stored adds to the host's totals.
-pub mod Told
+pub mod Counted

@@ -1,8 +1,8 @@
-// The host's totals: bodies committed, events accepted, stores made. A step tells what is added: its answer how many bodies and events,
-// the word that it stored a store.
+// The host's totals: bodies committed, events accepted, stores made. A step tells what is added: its answer how many bodies and
+// events, the word that it stored a store.
 ghost use mathlib.Core.Path.{_≡_};
 ghost use Rattle.model.specs.Calls.{moreBy, oneIf, isCommit, acceptedEvents};
-ghost use Rattle.totals.specs.Told.{stores, told};
+ghost use Rattle.totals.specs.Counted.{stores, countedFrom};
 use model::Answer;
 use model::Stored;
 use model::Totals;
@@ -61,19 +61,19 @@ fn stores(stored: Stored) -> u32
 }
 
 // The totals after a step with this answer, which stored this word.
-pub fn counted(t: Totals, answer: Answer, stored: Stored) -> Totals
-    ensures { λ r. ⌜ r ≡ told t answer stored ⌝ }
+pub fn counted(totals: Totals, answer: Answer, stored: Stored) -> Totals
+    ensures { λ r. ⌜ r ≡ countedFrom totals answer stored ⌝ }
 {
     Totals {
-        committed: more_by(t.committed, committed_bodies(answer)),
-        accepted: more_by(t.accepted, accepted_events(answer)),
-        stores: more_by(t.stores, stores(stored)),
+        committed: more_by(totals.committed, committed_bodies(answer)),
+        accepted: more_by(totals.accepted, accepted_events(answer)),
+        stores: more_by(totals.stores, stores(stored)),
     }
 }
 
 // "one record that the host lends and a step updates": the totals change in place, once the step has answered.
-pub fn count(t: &mut Totals, answer: Answer, stored: Stored)
-    ensures { λ _. ⌜ now (t .exit) ≡ told (now (t .entry)) answer stored ⌝ }
+pub fn count(totals: &mut Totals, answer: Answer, stored: Stored)
+    ensures { λ _. ⌜ now (totals .exit) ≡ countedFrom (now (totals .entry)) answer stored ⌝ }
 {
-    *t = counted(*t, answer, stored);
+    *totals = counted(*totals, answer, stored);
 }

@@ -1,4 +1,4 @@
--- `store::control::address_rule` meets its contract: the rule isn't asked, is broken or is kept. The place is word
+-- `control::address_rule` meets its contract: the rule isn't asked, is broken or is kept. The place is word
 -- 6's number plus that of the pair's words. Assumes nothing.
 use mathlib.Core.Path.{sym}
 use native.Mathlib.Omega.{arith}
@@ -19,7 +19,7 @@ returns : tie.Need-returns
 unfolding addressRule countRule _and_
 returns c =
     let c4 = c .before .before .before .before in
-    sym (obey-unasked (addressRule (c4 .args .p .now) (view (c4 .args .store .now)) (c4 .args .j))
+    sym (obey-unasked (addressRule (c4 .args .program .now) (view (c4 .args .store .now)) (c4 .args .pair))
     (simp (failed (c .before .is-committing .ensures) (c .if1 .taken))))
 
 shared-slice-read-if2 : tie.Need-shared-slice-read-if2
@@ -34,7 +34,7 @@ returns-2 c =
     let c3 = c .before .before .before in
     let c4 = c3 .before in
     let c7 = c4 .before .before .before in
-    sym (obey-unasked (addressRule (c7 .args .p .now) (view (c7 .args .store .now)) (c7 .args .j))
+    sym (obey-unasked (addressRule (c7 .args .program .now) (view (c7 .args .store .now)) (c7 .args .pair))
     (simp (passed (c4 .is-committing .ensures) (c3 .if1 .left), lt-leb _ _ (c .if2 .taken))))
 
 shared-slice-read-if3 : tie.Need-shared-slice-read-if3
@@ -47,7 +47,7 @@ returns-3 c =
     let c5 = c2 .before .before .before in
     let c6 = c5 .before in
     let c9 = c6 .before .before .before in
-    sym (obey-unasked (addressRule (c9 .args .p .now) (view (c9 .args .store .now)) (c9 .args .j))
+    sym (obey-unasked (addressRule (c9 .args .program .now) (view (c9 .args .store .now)) (c9 .args .pair))
     (simp (passed (c6 .is-committing .ensures) (c5 .if1 .left), le-leb _ _ (c2 .if2 .left), le-ltb _ _ (c .if3 .taken))))
 
 address-requires : tie.Need-address-requires
@@ -74,7 +74,7 @@ returns-4 c =
     let c9 = c6 .before .before .before in
     let c10 = c9 .before in
     let c13 = c10 .before .before .before in
-    obey-broken (addressRule (c13 .args .p .now) (view (c13 .args .store .now)) (c13 .args .j))
+    obey-broken (addressRule (c13 .args .program .now) (view (c13 .args .store .now)) (c13 .args .pair))
     (simp (passed (c10 .is-committing .ensures) (c9 .if1 .left), le-leb _ _ (c6 .if2 .left), lt-ltb _ _ (c4 .if3 .left)))
     (rw (sym (c3 .address .ensures)) (le-ltb _ _ (c .before .if4 .taken))) (omega arith)
 
@@ -87,7 +87,7 @@ returns-5 c =
     let c8 = c5 .before .before .before in
     let c9 = c8 .before in
     let c12 = c9 .before .before .before in
-    sym (obey-kept (addressRule (c12 .args .p .now) (view (c12 .args .store .now)) (c12 .args .j))
+    sym (obey-kept (addressRule (c12 .args .program .now) (view (c12 .args .store .now)) (c12 .args .pair))
     (rw (sym (c2 .address .ensures)) (lt-ltb _ _ (c .if4 .left))))
 
 pub address-rule-spec : {M : Type 1} → statement M

@@ -1,4 +1,4 @@
--- `store::control::addresses` meets its contract. The loop's invariant: the rules of the pairs passed are obeyed. Assumes nothing.
+-- `control::addresses` meets its contract. The loop's invariant: the rules of the pairs passed are obeyed. Assumes nothing.
 use Prim.Native.Nat.{_≤_, _-_}
 use mathlib.Core.Path.{_≡_, sym, _∙_}
 use native.Mathlib.Omega.{arith}
@@ -17,13 +17,13 @@ Inv-loop p store l j₀ j = (j ≤ l) × (obeyAll (upTo (addressRule p (view sto
 abbrev μ-loop : tie.MeasureT-loop
 μ-loop p store l j₀ j = l - j
 
-shared-slice-read-l : tie.Need-shared-slice-read-l Inv-loop μ-loop
-shared-slice-read-l c = search needs
+shared-slice-read-log-pairs : tie.Need-shared-slice-read-log-pairs Inv-loop μ-loop
+shared-slice-read-log-pairs c = search needs
 
 loop-holds : tie.Need-loop-holds Inv-loop μ-loop
 loop-holds c =
     let a = c .before .before .before .args in
-    (search needs, none-asked (addressRule (a .p .now) (view (a .store .now))))
+    (search needs, none-asked (addressRule (a .program .now) (view (a .store .now))))
 
 address-rule-requires : tie.Need-address-rule-requires Inv-loop μ-loop
 address-rule-requires c κs = search needs
@@ -41,11 +41,11 @@ returns c =
     let c4 = c3 .before in
     let c8 = c4 .before .before .before .before in
     let told = c .enum-told2 .given .1 in
-    told ∙ sym (stopped (addressRule (c8 .args .p .now) (view (c8 .args .store .now))) (word (c8 .args .store .now) 2)
-    (c4 .loop .j) (c3 .loop-test .taken) (c4 .loop .inv .1) (sym (c2 .address-rule .ensures) ∙ told))
+    told ∙ sym (stopped (addressRule (c8 .args .program .now) (view (c8 .args .store .now))) (word (c8 .args .store .now) 2)
+    (c4 .loop .pair) (c3 .loop-test .taken) (c4 .loop .inv .1) (sym (c2 .address-rule .ensures) ∙ told))
 
-add-j : tie.Need-add-j Inv-loop μ-loop
-add-j c = search needs
+add-pair : tie.Need-add-pair Inv-loop μ-loop
+add-pair c = search needs
 
 loop-less : tie.Need-loop-less Inv-loop μ-loop
 loop-less c = search needs
@@ -56,13 +56,13 @@ loop-again c =
     let c4 = c2 .before .before in
     let c8 = c4 .before .before .before .before in (
       search needs,
-      one-more (addressRule (c8 .args .p .now) (view (c8 .args .store .now))) (c4 .loop .j) (c4 .loop .inv .1)
+      one-more (addressRule (c8 .args .program .now) (view (c8 .args .store .now))) (c4 .loop .pair) (c4 .loop .inv .1)
           (sym (c2 .address-rule .ensures) ∙ c .enum-told .given .1),
     )
 
 returns-2 : tie.Need-returns-2 Inv-loop μ-loop
 returns-2 c =
-    let e : c .before .loop .j ≡ word (c .before .before .before .before .before .args .store .now) 2 = omega arith in
+    let e : c .before .loop .pair ≡ word (c .before .before .before .before .before .args .store .now) 2 = omega arith in
     sym (rw e at (c .before .loop .inv .1))
 
 pub addresses-spec : {M : Type 1} → statement M
@@ -71,13 +71,13 @@ addresses-spec =
     (tie.spec
     Inv-loop
     μ-loop
-    shared-slice-read-l
+    shared-slice-read-log-pairs
     loop-holds
     address-rule-requires
     enum-told
     enum-told-2
     returns
-    add-j
+    add-pair
     loop-less
     loop-again
     returns-2)

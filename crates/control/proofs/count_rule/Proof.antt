@@ -1,4 +1,4 @@
--- `store::control::count_rule` meets its contract: its tests are the rule's. Assumes nothing.
+-- `control::count_rule` meets its contract: its tests are the rule's. Assumes nothing.
 use borrow.Author.Needs.{needs}
 use Rattle.model.specs.Control.{obey, countRule}
 use Rattle.model.specs.Test.{must, _and_}

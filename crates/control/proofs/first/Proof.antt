@@ -1,4 +1,4 @@
--- `store::control::first` meets its contract: a refusal ends `then`, and an accepted check goes on. Assumes nothing.
+-- `control::first` meets its contract: a refusal ends `then`, and an accepted check goes on. Assumes nothing.
 use borrow.Author.Needs.{needs}
 use Rattle.model.specs.Test.{_then_}
 use Rattle.control.proofs.first.Statement.{statement}

@@ -1,4 +1,4 @@
--- `store::control::is_committing` meets its contract: its tests are those of an `or`. Assumes nothing.
+-- `control::is_committing` meets its contract: its tests are those of an `or`. Assumes nothing.
 use borrow.Author.Needs.{needs}
 use Rattle.model.specs.Test.{_or_}
 use Rattle.model.proofs.TestLaws.{tests}

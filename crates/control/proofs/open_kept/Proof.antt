@@ -1,4 +1,4 @@
--- `store::control::open_kept` meets its contract: the tests are those of an `or`. Assumes nothing.
+-- `control::open_kept` meets its contract: the tests are those of an `or`. Assumes nothing.
 use borrow.Author.Needs.{needs}
 use borrow.Author.Tests.{eq-eqb, ne-eqb}
 use Rattle.model.specs.Test.{_or_}

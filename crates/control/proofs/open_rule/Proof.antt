@@ -1,4 +1,4 @@
--- `store::control::open_rule` meets its contract: the rule isn't asked, is broken or is kept. Assumes nothing.
+-- `control::open_rule` meets its contract: the rule isn't asked, is broken or is kept. Assumes nothing.
 use mathlib.Core.Path.{refl, sym}
 use borrow.Author.Needs.{needs}
 use borrow.Author.Tests.{le-ltb, lt-ltb, eq-eqb, ne-eqb}
@@ -17,7 +17,7 @@ returns : tie.Need-returns
 unfolding openRule taskRule _and_
 returns c =
     let a = c .before .before .before .before .args in
-    sym (obey-unasked (openRule (a .p .now) (view (a .store .now))) (simp (ne-eqb _ _ (c .if1 .taken))))
+    sym (obey-unasked (openRule (a .program .now) (view (a .store .now))) (simp (ne-eqb _ _ (c .if1 .taken))))
 
 shared-slice-read-if2 : tie.Need-shared-slice-read-if2
 shared-slice-read-if2 c = search needs
@@ -30,7 +30,7 @@ unfolding openRule taskRule _and_
 returns-2 c =
     let c3 = c .before .before .before in
     let c7 = c3 .before .before .before .before in
-    sym (obey-unasked (openRule (c7 .args .p .now) (view (c7 .args .store .now)))
+    sym (obey-unasked (openRule (c7 .args .program .now) (view (c7 .args .store .now)))
     (simp (eq-eqb _ _ (c3 .if1 .left), le-ltb _ _ (c .if2 .taken))))
 
 shared-slice-read-open-kept : tie.Need-shared-slice-read-open-kept
@@ -48,7 +48,7 @@ returns-3 c =
     let c4 = c .before .before .before .before in
     let c7 = c4 .before .before .before in
     let c11 = c7 .before .before .before .before in
-    obey-broken (openRule (c11 .args .p .now) (view (c11 .args .store .now)))
+    obey-broken (openRule (c11 .args .program .now) (view (c11 .args .store .now)))
     (simp (eq-eqb _ _ (c7 .if1 .left), lt-ltb _ _ (c4 .if2 .left)))
     (failed (c .before .open-kept .ensures) (c .if3 .taken)) refl
 
@@ -58,7 +58,7 @@ returns-4 c =
     let c4 = c .before .before .before .before in
     let c7 = c4 .before .before .before in
     let c11 = c7 .before .before .before .before in
-    sym (obey-kept (openRule (c11 .args .p .now) (view (c11 .args .store .now)))
+    sym (obey-kept (openRule (c11 .args .program .now) (view (c11 .args .store .now)))
     (passed (c .before .open-kept .ensures) (c .if3 .left)))
 
 pub open-rule-spec : {M : Type 1} → statement M

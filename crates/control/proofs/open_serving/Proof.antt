@@ -1,4 +1,4 @@
--- `store::control::open_serving` meets its contract: its tests are the rule's. Assumes nothing.
+-- `control::open_serving` meets its contract: its tests are the rule's. Assumes nothing.
 use borrow.Author.Needs.{needs}
 use Rattle.model.specs.Control.{obey, openServing}
 use Rattle.model.specs.Test.{must, _and_}

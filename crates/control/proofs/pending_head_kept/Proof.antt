@@ -1,4 +1,4 @@
--- `store::control::pending_head_kept` meets its contract: each test is one of the rule's. Assumes nothing.
+-- `control::pending_head_kept` meets its contract: each test is one of the rule's. Assumes nothing.
 use mathlib.Core.Path.{sym}
 use borrow.Author.Needs.{needs}
 use Rattle.model.specs.Control.{pendingHeadRule}
@@ -30,18 +30,18 @@ returns-2 c = search tests
 shared-slice-read-if3 : tie.Need-shared-slice-read-if3
 shared-slice-read-if3 c = search needs
 
-shared-slice-read-after : tie.Need-shared-slice-read-after
-shared-slice-read-after c = search needs
+shared-slice-read-slot-after : tie.Need-shared-slice-read-slot-after
+shared-slice-read-slot-after c = search needs
 
-shared-slice-read-after-2 : tie.Need-shared-slice-read-after-2
-shared-slice-read-after-2 c = search needs
+shared-slice-read-slot-after-2 : tie.Need-shared-slice-read-slot-after-2
+shared-slice-read-slot-after-2 c = search needs
 
-after-requires : tie.Need-after-requires
-after-requires c κs = search needs
+slot-after-requires : tie.Need-slot-after-requires
+slot-after-requires c κs = search needs
 
 returns-3 : tie.Need-returns-3
 unfolding pendingHeadRule _and_ _or_
-returns-3 c = search (tests, sym (c .before .after .ensures))
+returns-3 c = search (tests, sym (c .before .slot-after .ensures))
 
 shared-slice-read-result : tie.Need-shared-slice-read-result
 shared-slice-read-result c = search needs
@@ -51,7 +51,7 @@ shared-slice-read-result-2 c = search needs
 
 returns-4 : tie.Need-returns-4
 unfolding pendingHeadRule _and_ _or_
-returns-4 c = search (tests, sym (c .before .before .before .after .ensures))
+returns-4 c = search (tests, sym (c .before .before .before .slot-after .ensures))
 
 pub pending-head-kept-spec : {M : Type 1} → statement M
 pending-head-kept-spec =
@@ -64,9 +64,9 @@ pending-head-kept-spec =
     shared-slice-read-if2-2
     returns-2
     shared-slice-read-if3
-    shared-slice-read-after
-    shared-slice-read-after-2
-    after-requires
+    shared-slice-read-slot-after
+    shared-slice-read-slot-after-2
+    slot-after-requires
     returns-3
     shared-slice-read-result
     shared-slice-read-result-2

@@ -1,4 +1,4 @@
--- `store::control::pending_head_rule` meets its contract: its tests are the rule's. Assumes nothing.
+-- `control::pending_head_rule` meets its contract: its tests are the rule's. Assumes nothing.
 use borrow.Author.Needs.{needs}
 use borrow.Author.Tests.{le-leb, eq-eqb}
 use Rattle.model.specs.Control.{obey, pendingHeadRule, headRule, tailRule}

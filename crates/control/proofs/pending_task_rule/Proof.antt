@@ -1,4 +1,4 @@
--- `store::control::pending_task_rule` meets its contract: its tests are the rule's. Assumes nothing.
+-- `control::pending_task_rule` meets its contract: its tests are the rule's. Assumes nothing.
 use borrow.Author.Needs.{needs}
 use Rattle.model.specs.Control.{obey, pendingTaskRule}
 use Rattle.model.specs.Test.{must, _and_}

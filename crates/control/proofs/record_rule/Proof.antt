@@ -1,4 +1,4 @@
--- `store::control::record_rule` meets its contract: the rule isn't asked, is broken or is kept. The place is word
+-- `control::record_rule` meets its contract: the rule isn't asked, is broken or is kept. The place is word
 -- 7's number plus that of the slot's words. Assumes nothing.
 use mathlib.Core.Path.{sym}
 use native.Mathlib.Omega.{arith}
@@ -18,8 +18,8 @@ returns : tie.Need-returns
 unfolding recordRule
 returns c =
     let c4 = c .before .before .before .before in
-    sym (obey-unasked (recordRule (c4 .args .p .now) (view (c4 .args .store .now)) (c4 .args .x))
-    (failed (c .before .record-waits .ensures (c4 .args .p .now)) (c .if1 .taken)))
+    sym (obey-unasked (recordRule (c4 .args .program .now) (view (c4 .args .store .now)) (c4 .args .slot))
+    (failed (c .before .record-waits .ensures (c4 .args .program .now)) (c .if1 .taken)))
 
 event-requires : tie.Need-event-requires
 event-requires c κs = search needs
@@ -43,8 +43,8 @@ returns-2 c =
     let c4 = c3 .before in
     let c5 = c4 .before in
     let c8 = c5 .before .before .before in
-    obey-broken (recordRule (c8 .args .p .now) (view (c8 .args .store .now)) (c8 .args .x))
-    (passed (c5 .record-waits .ensures (c8 .args .p .now)) (c4 .if1 .left))
+    obey-broken (recordRule (c8 .args .program .now) (view (c8 .args .store .now)) (c8 .args .slot))
+    (passed (c5 .record-waits .ensures (c8 .args .program .now)) (c4 .if1 .left))
     (rw (sym (c3 .event .ensures)) (le-ltb _ _ (c .before .if2 .taken))) (omega arith)
 
 returns-3 : tie.Need-returns-3
@@ -54,7 +54,7 @@ returns-3 c =
     let c3 = c2 .before in
     let c4 = c3 .before in
     let c7 = c4 .before .before .before in
-    sym (obey-kept (recordRule (c7 .args .p .now) (view (c7 .args .store .now)) (c7 .args .x))
+    sym (obey-kept (recordRule (c7 .args .program .now) (view (c7 .args .store .now)) (c7 .args .slot))
     (rw (sym (c2 .event .ensures)) (lt-ltb _ _ (c .if2 .left))))
 
 pub record-rule-spec : {M : Type 1} → statement M

@@ -1,4 +1,4 @@
--- `store::control::record_waits` meets its contract: each test is one that the rule of slot x needs. Assumes nothing.
+-- `control::record_waits` meets its contract: each test is one that the rule of slot x needs. Assumes nothing.
 use mathlib.Core.Path.{sym}
 use borrow.Author.Needs.{needs}
 use borrow.Author.Tests.{le-leb}

@@ -1,4 +1,4 @@
--- `store::control::records` meets its contract. The loop's invariant: the rules of the slots passed are obeyed. Assumes nothing.
+-- `control::records` meets its contract. The loop's invariant: the rules of the slots passed are obeyed. Assumes nothing.
 use Prim.Native.Nat.{_+_, _-_, _≤_}
 use mathlib.Core.Path.{_≡_, sym, _∙_}
 use native.Mathlib.Omega.{arith}
@@ -26,7 +26,7 @@ add-slots c = search needs
 loop-holds : tie.Need-loop-holds Inv-loop μ-loop
 loop-holds c =
     let a = c .before .before .before .args in
-    (search needs, none-asked (recordRule (a .p .now) (view (a .store .now))))
+    (search needs, none-asked (recordRule (a .program .now) (view (a .store .now))))
 
 record-rule-requires : tie.Need-record-rule-requires Inv-loop μ-loop
 record-rule-requires c κs = search needs
@@ -44,11 +44,11 @@ returns c =
     let c4 = c3 .before in
     let c8 = c4 .before .before .before .before in
     let told = c .enum-told2 .given .1 in
-    told ∙ sym (stopped (recordRule (c8 .args .p .now) (view (c8 .args .store .now))) (word (c8 .args .store .now) 3 + 1)
-    (c4 .loop .x) (c3 .loop-test .taken) (c4 .loop .inv .1) (sym (c2 .record-rule .ensures) ∙ told))
+    told ∙ sym (stopped (recordRule (c8 .args .program .now) (view (c8 .args .store .now))) (word (c8 .args .store .now) 3 + 1)
+    (c4 .loop .slot) (c3 .loop-test .taken) (c4 .loop .inv .1) (sym (c2 .record-rule .ensures) ∙ told))
 
-add-x : tie.Need-add-x Inv-loop μ-loop
-add-x c = search needs
+add-slot : tie.Need-add-slot Inv-loop μ-loop
+add-slot c = search needs
 
 loop-less : tie.Need-loop-less Inv-loop μ-loop
 loop-less c = search needs
@@ -59,13 +59,13 @@ loop-again c =
     let c4 = c2 .before .before in
     let c8 = c4 .before .before .before .before in (
       search needs,
-      one-more (recordRule (c8 .args .p .now) (view (c8 .args .store .now))) (c4 .loop .x) (c4 .loop .inv .1)
+      one-more (recordRule (c8 .args .program .now) (view (c8 .args .store .now))) (c4 .loop .slot) (c4 .loop .inv .1)
           (sym (c2 .record-rule .ensures) ∙ c .enum-told .given .1),
     )
 
 returns-2 : tie.Need-returns-2 Inv-loop μ-loop
 returns-2 c =
-    let e : c .before .loop .x ≡ word (c .before .before .before .before .before .args .store .now) 3 + 1 = omega arith in
+    let e : c .before .loop .slot ≡ word (c .before .before .before .before .before .args .store .now) 3 + 1 = omega arith in
     sym (rw e at (c .before .loop .inv .1))
 
 pub records-spec : {M : Type 1} → statement M
@@ -81,7 +81,7 @@ records-spec =
     enum-told
     enum-told-2
     returns
-    add-x
+    add-slot
     loop-less
     loop-again
     returns-2)

@@ -1,4 +1,4 @@
--- `store::control::start_kept` meets its contract: its tests are those of an `or`. Assumes nothing.
+-- `control::start_kept` meets its contract: its tests are those of an `or`. Assumes nothing.
 use borrow.Author.Needs.{needs}
 use Rattle.model.specs.Test.{_or_}
 use Rattle.model.proofs.TestLaws.{tests}

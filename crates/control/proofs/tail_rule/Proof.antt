@@ -1,4 +1,4 @@
--- `store::control::tail_rule` meets its contract: its test is the rule's. Assumes nothing.
+-- `control::tail_rule` meets its contract: its test is the rule's. Assumes nothing.
 use borrow.Author.Needs.{needs}
 use Rattle.model.specs.Control.{obey, tailRule}
 use Rattle.model.specs.Test.{must, _and_}

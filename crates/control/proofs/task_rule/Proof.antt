@@ -1,4 +1,4 @@
--- `store::control::task_rule` meets its contract: its test is the rule's. Assumes nothing.
+-- `control::task_rule` meets its contract: its test is the rule's. Assumes nothing.
 use borrow.Author.Needs.{needs}
 use Rattle.model.specs.Control.{obey, taskRule}
 use Rattle.model.specs.Test.{must, _and_}

@@ -1,4 +1,4 @@
--- `store::control::whole` meets its contract: the answers of the rules, joined in their order, then those of the
+-- `control::whole` meets its contract: the answers of the rules, joined in their order, then those of the
 -- addresses and of the records. Assumes nothing.
 use Prim.Native.Nat.{_+_}
 use native.Mathlib.Omega.{arith}
@@ -113,9 +113,9 @@ returns c =
     let c21 = c20 .before in
     let c22 = c21 .before in
     let c25 = c22 .before .before .before in
-    rw (obeyAll-append (upTo (addressRule (c25 .args .p .now) (view (c25 .args .store .now)))
+    rw (obeyAll-append (upTo (addressRule (c25 .args .program .now) (view (c25 .args .store .now)))
     (word (c25 .args .store .now) 2))
-    (upTo (recordRule (c25 .args .p .now) (view (c25 .args .store .now))) (word (c25 .args .store .now) 3 + 1)))
+    (upTo (recordRule (c25 .args .program .now) (view (c25 .args .store .now))) (word (c25 .args .store .now) 3 + 1)))
     (last _ (c .first11 .ensures) (c .before .records .ensures)
     (next _ _ (c2 .first10 .ensures) (c3 .addresses .ensures)
     (next _ _ (c4 .first9 .ensures) (c5 .tail-rule .ensures)

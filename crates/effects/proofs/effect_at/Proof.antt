@@ -11,7 +11,7 @@ use Rattle.effects.proofs.effect_at.Tie as tie
 -- what the code answers
 answer : (c : tie.After-effect) →
     let a = c .before .before .before .args in
-    c .effect .result ≡ effectAt (now (a .p)) (a .i) (a .j) (now (a .r))
+    c .effect .result ≡ effectAt (now (a .program)) (a .body-number) (a .instruction) (now (a .registers))
 unfolding effectAt
 answer c =
     let instruction = c .before .instruction in
@@ -27,8 +27,8 @@ returns : tie.Need-returns
 returns c =
     let a = c .before .before .before .args in (
       answer c,
-      subst (LegalEffect (now (a .p)) (a .i) (a .j)) (sym (answer c))
-          (c .before .before .before .pre .1 .effect (now (a .r))),
+      subst (LegalEffect (now (a .program)) (a .body-number) (a .instruction)) (sym (answer c))
+          (c .before .before .before .pre .1 .effect (now (a .registers))),
     )
 
 pub effect-at-spec : {M : Type 1} → statement M

@@ -5,7 +5,7 @@ use Rattle.exports.proofs.OnDevice.{state-read, none-read}
 use Rattle.exports.specs.Exported.{totalsOf, totalsWords}
 use Rattle.model.specs.declared.Totals.{Totals}
 use Rattle.runtime.proofs.Told.{told-is-counted}
-use Rattle.totals.specs.Told.{told}
+use Rattle.totals.specs.Counted.{countedFrom}
 use borrow.Author.Needs.{needs}
 use Rattle.exports.proofs.runtime_step.Statement.{statement}
 use Rattle.exports.proofs.runtime_step.Tie as tie

@@ -60,7 +60,7 @@ use Rattle.totals.proofs.count as count
 use Rattle.totals.proofs.count.Met as count-met
 use Rattle.totals.proofs.count.Symbol as count-symbol
 use Rattle.totals.proofs.count.Symbol.{name as #count}
-use Rattle.totals.specs.Told.{told}
+use Rattle.totals.specs.Counted.{countedFrom}
 use Rattle.runtime.proofs.step as called
 use Rattle.runtime.proofs.step.Met as called-met
 use Rattle.runtime.proofs.step.Symbol as called-symbol
@@ -143,7 +143,7 @@ module _ {M : Type 1} (𝓤 : URA M) (H : Heap 𝓤) (A : Atoms 𝓤) (W : Given
         join ! $ frame ! $ done !
 
     -- at exit the words are z and the totals t′
-    exits : (r : Stepped) (z : List ℕ) (t′ : Totals) → Performed r z → t′ ≡ told (t .now) (r .answer) (r .stored) → length z ≡ length (s .now)
+    exits : (r : Stepped) (z : List ℕ) (t′ : Totals) → Performed r z → t′ ≡ countedFrom (t .now) (r .answer) (r .stored) → length z ≡ length (s .now)
         → ent 𝓤 (⋆ 𝓤 H A ((‵ (flft κp qp) ⊛ ‵ (flft κs qs) ⊛ ‵ ftrue) ∷ (‵ (flft κt qt) ⊛ ‵ ftrue) ∷ ‵ (finally u16 (s .name) z) ∷ ‵ (fres (t .name) (totals.the-row .coded .code t′)) ∷ ‵ (stepped.the-row .own r (steppedVal r ∷ [])) ∷ []))
         (Post (steppedVal r))
     exits r z t′ e e′ l =
@@ -189,8 +189,8 @@ module _ {M : Type 1} (𝓤 : URA M) (H : Heap 𝓤) (A : Atoms 𝓤) (W : Given
           move ! (25 ∷ 26 ∷ 0 ∷ []) $ join ! $ use2 W (raw (Count .pre (to-count (r .answer) (r .stored)))) (goes-count (r .answer) (r .stored)) $
           calls-at ! fm Count known-count (to-count (r .answer) (r .stored)) (and-then ! (load ! (from ! (stop !)) (look ! 5 refl)) (and-then ! (load ! (from ! (fld ! refl (stop !))) (look-in ! 13 (sub ! 0 refl (whole !)))) (and-then ! (load ! (from ! (fld ! refl (stop !))) (look-in ! 13 (sub ! 1 refl (whole !)))) (no-more !)))) (λ w.
           use1 W (later (some (λ (n : Unit {0}). ((‵ (flft κt qt) ⊛ ‵ ftrue) ⊛ ‵ (unit .own n (w ∷ []))) ⊛ raw (ensured 𝓤 H A count.ended (count.clauses 𝓤 H A at-mem run) (κt, tt) (t, (r .answer, (r .stored, tt))) tt n)))) (id⊢ 𝓤 _) $ await ! tt $ pick ! (λ n.
-          split ! $ move ! (1 ∷ []) $ use1 W (some (λ (ts : Totals × (Unit {0} × (Unit {0} × Unit {0}))). ‵ (lasts count.ended (κt, tt) (t, (r .answer, (r .stored, tt))) ts) ⊛ raw (fact 𝓤 (ts .0 ≡ told (t .now) (r .answer) (r .stored))))) (id⊢ 𝓤 _) $ pick ! (λ ts.
-          split ! $ move ! (1 ∷ []) $ heard ! (ts .0 ≡ told (t .now) (r .answer) (r .stored)) (λ e′. fsplit ! $
+          split ! $ move ! (1 ∷ []) $ use1 W (some (λ (ts : Totals × (Unit {0} × (Unit {0} × Unit {0}))). ‵ (lasts count.ended (κt, tt) (t, (r .answer, (r .stored, tt))) ts) ⊛ raw (fact 𝓤 (ts .0 ≡ countedFrom (t .now) (r .answer) (r .stored))))) (id⊢ 𝓤 _) $ pick ! (λ ts.
+          split ! $ move ! (1 ∷ []) $ heard ! (ts .0 ≡ countedFrom (t .now) (r .answer) (r .stored)) (λ e′. fsplit ! $
           move ! (2 ∷ []) $ split ! $ move ! (1 ∷ []) $ peeks ! unit (Is unit) (shows 𝓤 H A unit) n (w ∷ []) (λ is′.
           land ! (from ! (stop !)) (init ! 10 refl (nothing-lawful 𝓤 H A W .typed n _ is′ .0)) $
           -- [..; the token of t; the last totals; ..; what r owns; the tokens of p and s; the last words; ..; _9; ..; _8; ..; _7; ..; _6; ..; _5; ..; _4; ..; _3; ..; _2; ..; _1; ..; _0; ..]

@@ -21,7 +21,7 @@ use Rattle.model.specs.declared.Totals.{Totals}
 use Rattle.runtime.proofs.Runs.{refusalOf, ended, run-spent, run-stops, run-goes}
 use Rattle.model.proofs.LookStays.{look-stays}
 use Rattle.model.specs.Claims.{soundAfter}
-use Rattle.totals.specs.Told.{told}
+use Rattle.totals.specs.Counted.{countedFrom}
 use borrow.Author.Needs.{needs}
 use Rattle.runtime.proofs.run_in.Statement.{statement}
 use Rattle.runtime.proofs.run_in.Tie as tie
@@ -112,7 +112,7 @@ loop-again c =
       omega (arith, c .before .before .before .before .before .before .before .before .before .before .before .loop-test .taken),
       ap (λ (x : Result). length (x .store)) q ∙ settled-length s _ ∙ c .before .before .before .before .before .before .before .before .before .before .before .before .loop .inv .1,
       ap (λ (x : Totals). runFrom p j (n + 1) (c .before .before .before .before .before .before .before .before .step-known .last .1 .0) (device (c .before .before .before .before .before .before .before .before .step-known .result .core) (c .before .before .before .before .before .before .before .before .step-known .last .1 .1 .0)) x) (c .before .counted .ensures)
-          ∙ ap (λ (x : Result). runFrom p j (n + 1) (x .store) (x .device) (told t (x .answer) (x .stored))) q
+          ∙ ap (λ (x : Result). runFrom p j (n + 1) (x .store) (x .device) (countedFrom t (x .answer) (x .stored))) q
           ∙ sym (run-goes p k j n s d t left (ap (λ (x : Result). refusalOf (x .answer)) (sym q) ∙ sym (c .before .before .before .before .refusal .ensures) ∙ c .before .before .enum-told .given .1))
           ∙ c .before .before .before .before .before .before .before .before .before .before .before .before .loop .inv .2,
       λ known.

@@ -81,11 +81,11 @@ module _ (z e : ℤ) (k : ℕ) (small : mag z < 32768) (fits : k < 16) (is-d : e
 
 -- ---- The needs
 
-negative : (c : tie.Then1) → c .before .before .args .z ≡ negsuc (mag (c .before .before .args .z))
-negative c = below-zero (c .before .before .args .z) _ (omega arith) refl (c .if1 .taken)
+negative : (c : tie.Then1) → c .before .before .args .number ≡ negsuc (mag (c .before .before .args .number))
+negative c = below-zero (c .before .before .args .number) _ (omega arith) refl (c .if1 .taken)
 
-other : (c : tie.Else1) → c .before .before .args .z ≡ pos (mag (c .before .before .args .z))
-other c = from-zero (c .before .before .args .z) _ (omega arith) refl (c .if1 .left)
+other : (c : tie.Else1) → c .before .before .args .number ≡ pos (mag (c .before .before .args .number))
+other c = from-zero (c .before .before .args .number) _ (omega arith) refl (c .if1 .left)
 
 power-requires : tie.Need-power-requires
 power-requires c κs = search needs
@@ -94,17 +94,17 @@ add-result : tie.Need-add-result
 add-result c =
     let a = c .before .before .args in
     let p = c .before .before .pre in
-    rw (plus (a .z) (c .before .power .result) (a .k) (p .0) (p .1) (c .before .power .ensures) (negative c))
-    (omega (arith, mag-minus (mag (a .z))))
+    rw (plus (a .number) (c .before .power .result) (a .exponent) (p .0) (p .1) (c .before .power .ensures) (negative c))
+    (omega (arith, mag-minus (mag (a .number))))
 
 div-result : tie.Need-div-result
 div-result c =
     let a = c .before .before .args in
     let p = c .before .before .pre in
     let d = c .before .power in (
-      some (a .z) (d .result) (a .k) (p .0) (p .1) (d .ensures),
-      rw (divides (a .z) (d .result) (a .k) (p .0) (p .1) (d .ensures) (negative c))
-          (omega (arith, mag-minus (mag (a .z) / 2 ^ a .k), div-le-self (mag (a .z)) (2 ^ a .k))),
+      some (a .number) (d .result) (a .exponent) (p .0) (p .1) (d .ensures),
+      rw (divides (a .number) (d .result) (a .exponent) (p .0) (p .1) (d .ensures) (negative c))
+          (omega (arith, mag-minus (mag (a .number) / 2 ^ a .exponent), div-le-self (mag (a .number)) (2 ^ a .exponent))),
     )
 
 sub-result : tie.Need-sub-result
@@ -112,30 +112,30 @@ sub-result c =
     let a = c .before .before .args in
     let p = c .before .before .pre in
     let d = c .before .power in
-    rw (rounds (a .z) (d .result) (a .k) (p .0) (p .1) (d .ensures) (negative c))
-    (omega (arith, div-le-self (mag (a .z)) (2 ^ a .k)))
+    rw (rounds (a .number) (d .result) (a .exponent) (p .0) (p .1) (d .ensures) (negative c))
+    (omega (arith, div-le-self (mag (a .number)) (2 ^ a .exponent)))
 
 div-result-2 : tie.Need-div-result-2
 div-result-2 c =
     let a = c .before .before .args in
     let p = c .before .before .pre in
     let d = c .before .power in (
-      some (a .z) (d .result) (a .k) (p .0) (p .1) (d .ensures),
-      rw (divides-up (a .z) (d .result) (a .k) (p .0) (p .1) (d .ensures) (other c))
-          (omega (arith, div-le-self (mag (a .z)) (2 ^ a .k))),
+      some (a .number) (d .result) (a .exponent) (p .0) (p .1) (d .ensures),
+      rw (divides-up (a .number) (d .result) (a .exponent) (p .0) (p .1) (d .ensures) (other c))
+          (omega (arith, div-le-self (mag (a .number)) (2 ^ a .exponent))),
     )
 
 returns : tie.Need-returns
 returns c =
     let a = c .before .before .args in
     let p = c .before .before .pre in
-    down (a .z) (c .before .power .result) (a .k) (p .0) (p .1) (c .before .power .ensures) (negative c)
+    down (a .number) (c .before .power .result) (a .exponent) (p .0) (p .1) (c .before .power .ensures) (negative c)
 
 returns-2 : tie.Need-returns-2
 returns-2 c =
     let a = c .before .before .args in
     let p = c .before .before .pre in
-    up (a .z) (c .before .power .result) (a .k) (p .0) (p .1) (c .before .power .ensures) (other c)
+    up (a .number) (c .before .power .result) (a .exponent) (p .0) (p .1) (c .before .power .ensures) (other c)
 
 pub divided-spec : {M : Type 1} → statement M
 divided-spec = tie.close (tie.spec power-requires add-result div-result sub-result div-result-2 returns returns-2)

@@ -16,8 +16,8 @@ signed-requires-2 c κs = search needs
 returns : tie.Need-returns
 unfolding less
 returns c =
-    let x = c .before .before .args .x in
-    let y = c .before .before .args .y in
+    let x = c .before .before .args .left in
+    let y = c .before .before .args .right in
     rw (
       c .before .signed .ensures,
       c .signed2 .ensures,

@@ -31,7 +31,7 @@ array-copy-out-result : tie.Need-array-copy-out-result
 array-copy-out-result c = search needs
 
 returns : tie.Need-returns
-returns c = within Right 0 16 (c .before .args .k) right zero-le (omega arith)
+returns c = within Right 0 16 (c .before .args .exponent) right zero-le (omega arith)
 
 pub power-spec : {M : Type 1} → statement M
 power-spec = tie.close (tie.spec mul-result array-copy-out-result returns)

@@ -22,14 +22,14 @@ cast-result-2 : tie.Need-cast-result-2
 cast-result-2 c = search needs
 
 sub-result : tie.Need-sub-result
-sub-result c = rw (lowered (c .before .args .x) (omega arith)) (omega arith)
+sub-result c = rw (lowered (c .before .args .word) (omega arith)) (omega arith)
 
 returns : tie.Need-returns
-returns c = read-word (c .before .args .x) (omega arith) ∙ sym (signed-low (c .before .args .x) (omega arith))
+returns c = read-word (c .before .args .word) (omega arith) ∙ sym (signed-low (c .before .args .word) (omega arith))
 
 returns-2 : tie.Need-returns-2
 returns-2 c =
-    let x = c .before .args .x in
+    let x = c .before .args .word in
     rw (lowered x (omega arith), signed-high x (omega arith)) (read-back (negsuc (65535 - x)) (omega arith))
 
 pub signed-spec : {M : Type 1} → statement M

@@ -46,7 +46,7 @@ use Rattle.model.proofs.Totals.Laws as totals-laws
 use Rattle.model.specs.declared.Answer.{Answer}
 use Rattle.model.specs.declared.Stored.{Stored}
 use Rattle.model.specs.declared.Totals.{Totals}
-use Rattle.totals.specs.Told.{told}
+use Rattle.totals.specs.Counted.{countedFrom}
 use Rattle.totals.proofs.counted as counted
 use Rattle.totals.proofs.counted.Met as counted-met
 use Rattle.totals.proofs.counted.Symbol as counted-symbol
@@ -87,8 +87,8 @@ module _ {M : Type 1} (𝓤 : URA M) (H : Heap 𝓤) (A : Atoms 𝓤) (W : Given
   abbrev Ensured : Totals → Answer → Stored → Totals → SProp 𝓤
   Ensured t a w r = ensured 𝓤 H A counted.ended (counted.clauses 𝓤 H A at-mem run) tt (t, (a, (w, tt))) tt r
 
-  learnt : (t : Totals) (a : Answer) (w : Stored) (r : Totals) → ent 𝓤 (Ensured t a w r) (fact 𝓤 (r ≡ told t a w))
-  learnt t a w r = exE 𝓤 _ (λ ws. snd∗ 𝓤 (sem 𝓤 H A (lasts counted.ended tt (t, (a, (w, tt))) ws)) (fact 𝓤 (r ≡ told t a w)))
+  learnt : (t : Totals) (a : Answer) (w : Stored) (r : Totals) → ent 𝓤 (Ensured t a w r) (fact 𝓤 (r ≡ countedFrom t a w))
+  learnt t a w r = exE 𝓤 _ (λ ws. snd∗ 𝓤 (sem 𝓤 H A (lasts counted.ended tt (t, (a, (w, tt))) ws)) (fact 𝓤 (r ≡ countedFrom t a w)))
 
   -- the reference to totals t, under the name γ at the lifetime κ, the answer a and the word stored w
   module _ (κ : Lft) (q : Share) (b o : ℕ) (γ : GName) (t : Totals) (a : Answer) (w : Stored) (is-answer : Is answer.the-row a (answerVal a ∷ [])) (is-stored : Is stored.the-row w (storedVal w ∷ [])) where
@@ -115,7 +115,7 @@ module _ {M : Type 1} (𝓤 : URA M) (H : Heap 𝓤) (A : Atoms 𝓤) (W : Given
         fjoin ! $ nothing ! $ join ! $ frame ! $ done !
 
     -- at exit the reference stands at r
-    exits : (r : Totals) → r ≡ told t a w
+    exits : (r : Totals) → r ≡ countedFrom t a w
         → ent 𝓤 (sep 𝓤 (A .obs γ (totals.the-row .coded .code r)) (sep 𝓤 (A .bor κ (Body (mem totals.the-row) b o γ)) (A .lft κ q))) (Post vunit)
     exits r e =
         qed W (‵ (fobs γ (totals.the-row .coded .code r)) ∷ ‵ (fbor κ (Body (mem totals.the-row) b o γ)) ∷ ‵ (flft κ q) ∷ []) ∵
@@ -145,7 +145,7 @@ module _ {M : Type 1} (𝓤 : URA M) (H : Heap 𝓤) (A : Atoms 𝓤) (W : Given
           nothing ! $ move ! (19 ∷ 0 ∷ []) $ fjoin ! $ move ! (18 ∷ 0 ∷ []) $ fjoin ! $ move ! (2 ∷ 0 ∷ []) $ use2 W (raw (Counted .pre to-counted)) goes-counted $
           calls-at ! fm Counted known to-counted (and-then ! (load ! (from ! (stop !)) (look ! 5 refl)) (and-then ! (load ! (from ! (stop !)) (look ! 11 refl)) (and-then ! (load ! (from ! (stop !)) (look ! 9 refl)) (no-more !)))) (λ v.
           use1 W (later (some (λ (r : Totals). (‵ ftrue ⊛ ‵ (totals.the-row .own r (v ∷ []))) ⊛ raw (Ensured t a w r)))) (id⊢ 𝓤 _) $ await ! tt $ pick ! (λ r.
-          split ! $ move ! (1 ∷ []) $ use1 W (raw (fact 𝓤 (r ≡ told t a w))) (learnt t a w r) $ heard ! (r ≡ told t a w) (λ e. split ! $ drop ! $
+          split ! $ move ! (1 ∷ []) $ use1 W (raw (fact 𝓤 (r ≡ countedFrom t a w))) (learnt t a w r) $ heard ! (r ≡ countedFrom t a w) (λ e. split ! $ drop ! $
           peeks ! totals.the-row (Is totals.the-row) (shows 𝓤 H A totals.the-row) r (v ∷ []) (λ is′.
           -- [what r owns; the totals' cell; the open borrow; what observes, what holds; _5; ..; _4; ..; _3; ..; _2; ..; _1; ..; _0; ..]
           land ! (from ! (stop !)) (init ! 7 refl (totals-lawful .typed r _ is′ .0)) $

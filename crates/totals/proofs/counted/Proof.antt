@@ -1,6 +1,6 @@
 -- `counted` meets its contract: each total by its number. Assumes nothing.
 use borrow.Author.Needs.{needs}
-use Rattle.totals.specs.Told.{told}
+use Rattle.totals.specs.Counted.{countedFrom}
 use Rattle.totals.proofs.counted.Statement.{statement}
 use Rattle.totals.proofs.counted.Tie as tie
 
@@ -23,7 +23,7 @@ more-by-requires-3 : tie.Need-more-by-requires-3
 more-by-requires-3 c κs = search needs
 
 returns : tie.Need-returns
-unfolding told
+unfolding countedFrom
 returns c = simp (c .more-by3 .ensures, c .before .stores .ensures, c .before .before .more-by2 .ensures, c .before .before .before .accepted-events .ensures, c .before .before .before .before .more-by .ensures, c .before .before .before .before .before .committed-bodies .ensures)
 
 pub counted-spec : {M : Type 1} → statement M

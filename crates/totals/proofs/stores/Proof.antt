@@ -1,5 +1,5 @@
 -- `stores` meets its contract, by what was stored. Assumes nothing.
-use Rattle.totals.specs.Told.{stores}
+use Rattle.totals.specs.Counted.{stores}
 use borrow.Author.Needs.{needs}
 use Rattle.totals.proofs.stores.Statement.{statement}
 use Rattle.totals.proofs.stores.Tie as tie

@@ -30,8 +30,8 @@ slice-read-head c = search needs
 slice-read-after : tie.Need-slice-read-after
 slice-read-after c = search needs
 
-after-requires : tie.Need-after-requires
-after-requires c κs = search needs
+slot-after-requires : tie.Need-slot-after-requires
+slot-after-requires c κs = search needs
 
 slice-write-store-2 : tie.Need-slice-write-store-2
 slice-write-store-2 c = search needs
@@ -44,7 +44,7 @@ same-length-2 c = search needs
 
 returns-2 : tie.Need-returns-2
 unfolding act storing eventStores moved settled storedWord index pick
-returns-2 c = λ p. simp (c .before .before .before .before .if2 .taken, c .stored2 .ensures, c .before .after .ensures)
+returns-2 c = λ p. simp (c .before .before .before .before .if2 .taken, c .stored2 .ensures, c .before .slot-after .ensures)
 
 slice-write-store-3 : tie.Need-slice-write-store-3
 slice-write-store-3 c = search needs
@@ -72,7 +72,7 @@ end-event-spec =
     returns
     slice-read-head
     slice-read-after
-    after-requires
+    slot-after-requires
     slice-write-store-2
     stored-requires-2
     same-length-2

@@ -20,8 +20,8 @@ enum-told-4 c = search needs
 enum-known-effect : tie.Need-enum-known-effect
 enum-known-effect c = search needs
 
-used-requires : tie.Need-used-requires
-used-requires c κs = record { rows = c .before .before .before .before .pre .0; body = omega (arith, c .before .before .before .before .pre .1 _ (c .before .effect .given .1)) }
+usable-requires : tie.Need-usable-requires
+usable-requires c κs = record { rows = c .before .before .before .before .pre .0; body = omega (arith, c .before .before .before .before .pre .1 _ (c .before .effect .given .1)) }
 
 enum-told-5 : tie.Need-enum-told-5
 enum-told-5 c = search needs
@@ -47,7 +47,7 @@ returns-4 c = rw (c .enum-told4 .given .1)
 
 returns-5 : tie.Need-returns-5
 unfolding namedRow
-returns-5 c = rw (c .before .before .effect .given .1) (c .used .ensures .0)
+returns-5 c = rw (c .before .before .effect .given .1) (c .usable .ensures .0)
 
 returns-6 : tie.Need-returns-6
 unfolding namedRow
@@ -66,7 +66,7 @@ named-row-spec =
     enum-told-3
     enum-told-4
     enum-known-effect
-    used-requires
+    usable-requires
     enum-told-5
     enum-told-6
     returns

@@ -33,11 +33,11 @@ returns-2 c = answered (row-given (c .before .before .before .before .before .be
 body-number-requires : tie.Need-body-number-requires
 body-number-requires c κs = search needs
 
-used-requires : tie.Need-used-requires
-used-requires c κs = record { rows = c .before .before .before .inside .ensures .1 (c .before .enum-told3 .given .1); body = rw (c .body-number .ensures) (c .before .before .before .before .before .before .before .before .before .pre .body) }
+usable-requires : tie.Need-usable-requires
+usable-requires c κs = record { rows = c .before .before .before .inside .ensures .1 (c .before .enum-told3 .given .1); body = rw (c .body-number .ensures) (c .before .before .before .before .before .before .before .before .before .pre .body) }
 
 returns-3 : tie.Need-returns-3
-returns-3 c = answered (row-given (c .before .before .before .before .before .before .before .before .before .before .args .program .now) (c .before .before .before .before .before .before .before .before .before .before .args .store .now) (c .before .before .before .before .before .before .before .before .before .before .args .body) (c .before .before .before .before .before .before .before .before .before .before .pre)) ((rw (c .before .body-number .ensures) at (c .used .ensures .0)) ∙ then-go _ _ (c .before .before .before .before .inside .ensures .0) (c .before .before .enum-told3 .given .1) ∙ then-go _ _ (c .before .before .before .before .before .before .before .head-sound .ensures) (c .before .before .before .before .before .enum-told .given .1))
+returns-3 c = answered (row-given (c .before .before .before .before .before .before .before .before .before .before .args .program .now) (c .before .before .before .before .before .before .before .before .before .before .args .store .now) (c .before .before .before .before .before .before .before .before .before .before .args .body) (c .before .before .before .before .before .before .before .before .before .before .pre)) ((rw (c .before .body-number .ensures) at (c .usable .ensures .0)) ∙ then-go _ _ (c .before .before .before .before .inside .ensures .0) (c .before .before .enum-told3 .given .1) ∙ then-go _ _ (c .before .before .before .before .before .before .before .head-sound .ensures) (c .before .before .before .before .before .enum-told .given .1))
 
 pub row-sound-spec : {M : Type 1} → statement M
 row-sound-spec =
@@ -52,5 +52,5 @@ row-sound-spec =
     enum-told-4
     returns-2
     body-number-requires
-    used-requires
+    usable-requires
     returns-3)

@@ -42,11 +42,11 @@ returns c =
     let loop = c .before .before .before .before .loop in
     let loop-test = c .before .before .before .loop-test in
     let rule = c .before .before .rule in
-    each-stop (instructionRule (now (args .p)) (args .i)) _ _ (loop-test .taken) (rule .ensures .0) (c .enum-told2 .given .1)
+    each-stop (instructionRule (now (args .program)) (args .body-number)) _ _ (loop-test .taken) (rule .ensures .0) (c .enum-told2 .given .1)
     ∙ loop .inv .2
 
-add-j : tie.Need-add-j Inv-loop μ-loop
-add-j c = search needs
+add-instruction : tie.Need-add-instruction Inv-loop μ-loop
+add-instruction c = search needs
 
 loop-less : tie.Need-loop-less Inv-loop μ-loop
 loop-less c = search needs
@@ -59,7 +59,7 @@ loop-again c =
     let rule = c .before .before .rule in (
       loop .inv .0,
       omega arith,
-      each-go (instructionRule (now (args .p)) (args .i)) _ _ (loop-test .taken) (rule .ensures .0) (c .enum-told .given .1)
+      each-go (instructionRule (now (args .program)) (args .body-number)) _ _ (loop-test .taken) (rule .ensures .0) (c .enum-told .given .1)
           ∙ loop .inv .2,
     )
 
@@ -67,7 +67,7 @@ returns-2 : tie.Need-returns-2 Inv-loop μ-loop
 returns-2 c =
     let args = c .before .before .before .before .args in
     let loop = c .before .loop in
-    each-none (instructionRule (now (args .p)) (args .i)) _ _ (c .loop-test .left) ∙ loop .inv .2
+    each-none (instructionRule (now (args .program)) (args .body-number)) _ _ (c .loop-test .left) ∙ loop .inv .2
 
 pub body-spec : {M : Type 1} → statement M
 body-spec =
@@ -81,7 +81,7 @@ body-spec =
     enum-told
     enum-told-2
     returns
-    add-j
+    add-instruction
     loop-less
     loop-again
     returns-2)

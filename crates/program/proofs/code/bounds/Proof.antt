@@ -69,30 +69,30 @@ returns-10 : tie.Need-returns-10
 unfolding bounds
 returns-10 c =
     let a = c .before .before .args in
-    within (λ (op : ℕ). asBounds (8, 8, 1) ≡ bounds (a .m) (a .t) (a .n) (a .is-task) op) 1 6 (a .op)
+    within (λ (op : ℕ). asBounds (8, 8, 1) ≡ bounds (a .memory-words) (a .tasks) (a .instructions) (a .is-task) op) 1 6 (a .opcode)
     (refl, (refl, (refl, (refl, (refl, (refl, tt))))))
-    (past _ (a .op) 0 1 zero-le (c .before .match .rest .0 .0 .0 .0 .0 .0)) (c .if3 .taken)
+    (past _ (a .opcode) 0 1 zero-le (c .before .match .rest .0 .0 .0 .0 .0 .0)) (c .if3 .taken)
 
 returns-11 : tie.Need-returns-11
 unfolding bounds
 returns-11 c =
     let a = c .before .before .before .args in
-    within (λ (op : ℕ). asBounds (8, 1, a .m) ≡ bounds (a .m) (a .t) (a .n) (a .is-task) op) 8 2 (a .op)
+    within (λ (op : ℕ). asBounds (8, 1, a .memory-words) ≡ bounds (a .memory-words) (a .tasks) (a .instructions) (a .is-task) op) 8 2 (a .opcode)
     (refl, (refl, tt))
-    (past _ (a .op) 7 1 (c .before .if3 .left) (c .before .before .match .rest .0 .0 .0 .0 .0)) (c .if4 .taken)
+    (past _ (a .opcode) 7 1 (c .before .if3 .left) (c .before .before .match .rest .0 .0 .0 .0 .0)) (c .if4 .taken)
 
 returns-12 : tie.Need-returns-12
 unfolding bounds
 returns-12 c =
     let a = c .before .before .before .before .args in
-    within (λ (op : ℕ). asBounds (8, 8, a .m) ≡ bounds (a .m) (a .t) (a .n) (a .is-task) op) 10 2 (a .op)
+    within (λ (op : ℕ). asBounds (8, 8, a .memory-words) ≡ bounds (a .memory-words) (a .tasks) (a .instructions) (a .is-task) op) 10 2 (a .opcode)
     (refl, (refl, tt))
     (c .before .if4 .left) (c .if5 .taken)
 
 returns-13 : tie.Need-returns-13
 unfolding bounds
 returns-13 c =
-    let op = c .before .before .before .before .args .op in
+    let op = c .before .before .before .before .args .opcode in
     let unknown : 17 ≤ op = past _ op 12 5 (c .if5 .left) (c .before .before .before .match .rest) in
     rw List·getD-eq-default
 

@@ -77,7 +77,7 @@ returns-17 c = rw (c .match .keys17)
 returns-18 : tie.Need-returns-18
 unfolding decode
 returns-18 c =
-    let unknown : 17 ≤ c .before .args .op = past (Unit {0}) (c .before .args .op) 0 17 zero-le (c .match .rest) in
+    let unknown : 17 ≤ c .before .args .opcode = past (Unit {0}) (c .before .args .opcode) 0 17 zero-le (c .match .rest) in
     rw List·getD-eq-default
 
 pub decode-spec : {M : Type 1} → statement M

@@ -25,7 +25,7 @@ fieldsTest p i j =
 -- is the one that the code makes
 fits : (c : tie.After-fields-fit) →
     let a = c .before .before .before .before .before .before .before .before .before .before .args in
-    c .fields-fit .result ≡ fieldsTest (now (a .p)) (a .i) (a .j)
+    c .fields-fit .result ≡ fieldsTest (now (a .program)) (a .body-number) (a .instruction)
 unfolding fieldsTest
 fits c =
     let code-call = c .before .before .before .before .before .before .before .before .code in

@@ -18,7 +18,7 @@ returns : tie.Need-returns
 returns c =
     let args = c .before .before .before .args in
     let if1 = c .before .if1 in
-    c .first-body .ensures ∙ sym (due-first (now (args .p)) (if1 .taken))
+    c .first-body .ensures ∙ sym (due-first (now (args .program)) (if1 .taken))
 
 sub-before : tie.Need-sub-before
 sub-before c = search needs
@@ -43,9 +43,9 @@ add-result c = search needs
 
 returns-2 : tie.Need-returns-2
 returns-2 c =
-    let i = c .before .before .before .before .args .i in
+    let i = c .before .before .before .before .args .body-number in
     simp (c .before .start .ensures, c .instructions .ensures)
-    (sym (due-next (now (c .before .before .before .before .args .p)) (i - 1) (omega arith)))
+    (sym (due-next (now (c .before .before .before .before .args .program)) (i - 1) (omega arith)))
 
 pub due-spec : {M : Type 1} → statement M
 due-spec =

@@ -45,14 +45,14 @@ returns-2 c =
     answered (rows-passed _ pre)
     (then-stop _ _ (rules .ensures) (c .enum-told4 .given .1) ∙ then-go _ _ (inside .ensures .0) (enum-told .given .1))
 
-shared-slice-read-n : tie.Need-shared-slice-read-n
-shared-slice-read-n c = search needs
+shared-slice-read-bodies : tie.Need-shared-slice-read-bodies
+shared-slice-read-bodies c = search needs
 
-shared-slice-read-n-2 : tie.Need-shared-slice-read-n-2
-shared-slice-read-n-2 c = search needs
+shared-slice-read-bodies-2 : tie.Need-shared-slice-read-bodies-2
+shared-slice-read-bodies-2 c = search needs
 
-add-n : tie.Need-add-n
-add-n c = search needs
+add-bodies : tie.Need-add-bodies
+add-bodies c = search needs
 
 due-requires : tie.Need-due-requires
 due-requires c κs =
@@ -102,9 +102,9 @@ rows-spec =
     enum-told-3
     enum-told-4
     returns-2
-    shared-slice-read-n
-    shared-slice-read-n-2
-    add-n
+    shared-slice-read-bodies
+    shared-slice-read-bodies-2
+    add-bodies
     due-requires
     shared-slice-read-if1
     cast-if1

@@ -20,14 +20,14 @@ Inv-loop p n i₀ i =
 abbrev μ-loop : tie.MeasureT-loop
 μ-loop p n i₀ i = n - i
 
-shared-slice-read-n : tie.Need-shared-slice-read-n Inv-loop μ-loop
-shared-slice-read-n c = search needs
+shared-slice-read-bodies : tie.Need-shared-slice-read-bodies Inv-loop μ-loop
+shared-slice-read-bodies c = search needs
 
-shared-slice-read-n-2 : tie.Need-shared-slice-read-n-2 Inv-loop μ-loop
-shared-slice-read-n-2 c = search needs
+shared-slice-read-bodies-2 : tie.Need-shared-slice-read-bodies-2 Inv-loop μ-loop
+shared-slice-read-bodies-2 c = search needs
 
-add-n : tie.Need-add-n Inv-loop μ-loop
-add-n c = search needs
+add-bodies : tie.Need-add-bodies Inv-loop μ-loop
+add-bodies c = search needs
 
 loop-holds : tie.Need-loop-holds Inv-loop μ-loop
 loop-holds c = (refl, zero-le, rw sub-zero)
@@ -47,10 +47,10 @@ returns c =
     let loop = c .before .before .before .before .loop in
     let loop-test = c .before .before .before .loop-test in
     let rule = c .before .before .rule in
-    each-stop (rowRule (now (args .p))) _ _ (loop-test .taken) (rule .ensures) (c .enum-told2 .given .1) ∙ loop .inv .2
+    each-stop (rowRule (now (args .program))) _ _ (loop-test .taken) (rule .ensures) (c .enum-told2 .given .1) ∙ loop .inv .2
 
-add-i : tie.Need-add-i Inv-loop μ-loop
-add-i c = search needs
+add-body-number : tie.Need-add-body-number Inv-loop μ-loop
+add-body-number c = search needs
 
 loop-less : tie.Need-loop-less Inv-loop μ-loop
 loop-less c = search needs
@@ -63,14 +63,14 @@ loop-again c =
     let rule = c .before .before .rule in (
       refl,
       omega arith,
-      each-go (rowRule (now (args .p))) _ _ (loop-test .taken) (rule .ensures) (c .enum-told .given .1) ∙ loop .inv .2,
+      each-go (rowRule (now (args .program))) _ _ (loop-test .taken) (rule .ensures) (c .enum-told .given .1) ∙ loop .inv .2,
     )
 
 returns-2 : tie.Need-returns-2 Inv-loop μ-loop
 returns-2 c =
     let args = c .before .before .before .before .before .args in
     let loop = c .before .loop in
-    each-none (rowRule (now (args .p))) _ _ (c .loop-test .left) ∙ loop .inv .2
+    each-none (rowRule (now (args .program))) _ _ (c .loop-test .left) ∙ loop .inv .2
 
 pub rules-spec : {M : Type 1} → statement M
 rules-spec =
@@ -78,15 +78,15 @@ rules-spec =
     (tie.spec
     Inv-loop
     μ-loop
-    shared-slice-read-n
-    shared-slice-read-n-2
-    add-n
+    shared-slice-read-bodies
+    shared-slice-read-bodies-2
+    add-bodies
     loop-holds
     rule-requires
     enum-told
     enum-told-2
     returns
-    add-i
+    add-body-number
     loop-less
     loop-again
     returns-2)

@@ -6,7 +6,7 @@ use Rattle.runtime.proofs.steps.handler_step.Tie as tie
 use Rattle.runtime.proofs.steps.handler_step.Reads as reads
 use Rattle.runtime.proofs.steps.handler_step.Lts as lts
 use Rattle.runtime.proofs.steps.working.Reads as working-reads
-use Rattle.store.proofs.queue.after.Reads as after-reads
+use Rattle.store.proofs.queue.slot_after.Reads as slot-after-reads
 use Rattle.store.proofs.queue.write_datum.Reads as write-datum-reads
 use Rattle.store.proofs.queue.write_event.Reads as write-event-reads
 
@@ -34,11 +34,11 @@ working-requires-2 c κs = search needs
 enum-told-3 : tie.Need-enum-told-3
 enum-told-3 c = search needs
 
-slice-read-after : tie.Need-slice-read-after
-slice-read-after c = search needs
+slice-read-slot-after : tie.Need-slice-read-slot-after
+slice-read-slot-after c = search needs
 
-after-requires : tie.Need-after-requires
-after-requires c κs = search needs
+slot-after-requires : tie.Need-slot-after-requires
+slot-after-requires c κs = search needs
 
 slice-write-s : tie.Need-slice-write-s
 slice-write-s c = search needs
@@ -65,7 +65,7 @@ same-length-3 c = search needs
 
 returns-3 : tie.Need-returns-3
 unfolding handlerStep handled settled storedWord index
-returns-3 c = λ r. simp (c .before .before .before .enum-told3 .given .1, c .working3 .ensures, c .before .after .ensures)
+returns-3 c = λ r. simp (c .before .before .before .enum-told3 .given .1, c .working3 .ensures, c .before .slot-after .ensures)
 
 pub handler-step-spec : {M : Type 1} → statement M
 handler-step-spec =
@@ -79,8 +79,8 @@ handler-step-spec =
     write-datum-requires
     working-requires-2
     enum-told-3
-    slice-read-after
-    after-requires
+    slice-read-slot-after
+    slot-after-requires
     slice-write-s
     working-requires-3
     same-length

@@ -15,7 +15,7 @@ returns : tie.Need-returns
 unfolding storeRule storeMark must _then_
 returns c =
     let a = c .before .before .before .args in
-    answered (store-passed (a .p .now) (a .store .now) (c .before .before .before .pre)) (search tests)
+    answered (store-passed (a .program .now) (a .store .now) (c .before .before .before .pre)) (search tests)
 
 shared-slice-read-if2 : tie.Need-shared-slice-read-if2
 shared-slice-read-if2 c = search needs
@@ -24,10 +24,10 @@ returns-2 : tie.Need-returns-2
 unfolding storeRule storeMark must _then_
 returns-2 c =
     let a = c .before .before .before .before .before .args in
-    answered (store-passed (a .p .now) (a .store .now) (c .before .before .before .before .before .pre)) (search tests)
+    answered (store-passed (a .program .now) (a .store .now) (c .before .before .before .before .before .pre)) (search tests)
 
-shared-slice-read-m : tie.Need-shared-slice-read-m
-shared-slice-read-m c = search needs
+shared-slice-read-memory-words : tie.Need-shared-slice-read-memory-words
+shared-slice-read-memory-words c = search needs
 
 shared-slice-read-if3 : tie.Need-shared-slice-read-if3
 shared-slice-read-if3 c = search needs
@@ -36,13 +36,13 @@ returns-3 : tie.Need-returns-3
 unfolding storeRule storeMark must _then_
 returns-3 c =
     let c8 = c .before .before .before .before .before .before .before .before in
-    answered (store-passed (c8 .args .p .now) (c8 .args .store .now) (c8 .pre)) (search tests)
+    answered (store-passed (c8 .args .program .now) (c8 .args .store .now) (c8 .pre)) (search tests)
 
-shared-slice-read-l : tie.Need-shared-slice-read-l
-shared-slice-read-l c = search needs
+shared-slice-read-log-pairs : tie.Need-shared-slice-read-log-pairs
+shared-slice-read-log-pairs c = search needs
 
-shared-slice-read-q : tie.Need-shared-slice-read-q
-shared-slice-read-q c = search needs
+shared-slice-read-queue-records : tie.Need-shared-slice-read-queue-records
+shared-slice-read-queue-records c = search needs
 
 sizes-requires : tie.Need-sizes-requires
 sizes-requires c κs = search needs
@@ -51,7 +51,7 @@ returns-4 : tie.Need-returns-4
 unfolding storeRule storeMark must _then_
 returns-4 c =
     let c12 = c .before .before .before .before .before .before .before .before .before .before .before .before in
-    answered (store-passed (c12 .args .p .now) (c12 .args .store .now) (c12 .pre))
+    answered (store-passed (c12 .args .program .now) (c12 .args .store .now) (c12 .pre))
     (search (tests, failed (c .before .sizes .ensures) (c .if4 .taken)))
 
 shared-slice-read-if5 : tie.Need-shared-slice-read-if5
@@ -63,7 +63,7 @@ returns-5 c =
     let c2 = c .before .before in
     let c3 = c2 .before in
     let c14 = c3 .before .before .before .before .before .before .before .before .before .before .before in
-    answered (store-passed (c14 .args .p .now) (c14 .args .store .now) (c14 .pre))
+    answered (store-passed (c14 .args .program .now) (c14 .args .store .now) (c14 .pre))
     (search (tests, passed (c3 .sizes .ensures) (c2 .if4 .left)))
 
 shared-slice-read-if6 : tie.Need-shared-slice-read-if6
@@ -75,7 +75,7 @@ returns-6 c =
     let c4 = c .before .before .before .before in
     let c5 = c4 .before in
     let c16 = c5 .before .before .before .before .before .before .before .before .before .before .before in
-    answered (store-passed (c16 .args .p .now) (c16 .args .store .now) (c16 .pre))
+    answered (store-passed (c16 .args .program .now) (c16 .args .store .now) (c16 .pre))
     (search (tests, passed (c5 .sizes .ensures) (c4 .if4 .left)))
 
 shared-slice-read-if7 : tie.Need-shared-slice-read-if7
@@ -95,7 +95,7 @@ returns-7 c =
     let c14 = c11 .before .before .before in
     let c16 = c14 .before .before in
     let c19 = c16 .before .before .before in
-    answered (store-passed (c19 .args .p .now) (c19 .args .store .now) (c19 .pre))
+    answered (store-passed (c19 .args .program .now) (c19 .args .store .now) (c19 .pre))
     (simp (
       le-leb _ _ (c16 .if1 .left),
       eq-eqb _ _ (c14 .if2 .left),
@@ -129,7 +129,7 @@ returns-8 c =
     let c17 = c14 .before .before .before in
     let c19 = c17 .before .before in
     let c22 = c19 .before .before .before in
-    answered (store-passed (c22 .args .p .now) (c22 .args .store .now) (c22 .pre))
+    answered (store-passed (c22 .args .program .now) (c22 .args .store .now) (c22 .pre))
     (simp (
       le-leb _ _ (c19 .if1 .left),
       eq-eqb _ _ (c17 .if2 .left),
@@ -166,7 +166,7 @@ returns-9 c =
     let c19 = c16 .before .before .before in
     let c21 = c19 .before .before in
     let c24 = c21 .before .before .before in
-    answered (store-passed (c24 .args .p .now) (c24 .args .store .now) (c24 .pre))
+    answered (store-passed (c24 .args .program .now) (c24 .args .store .now) (c24 .pre))
     (simp (
       le-leb _ _ (c21 .if1 .left),
       eq-eqb _ _ (c19 .if2 .left),
@@ -194,7 +194,7 @@ returns-10 c =
     let c19 = c16 .before .before .before in
     let c21 = c19 .before .before in
     let c24 = c21 .before .before .before in
-    answered (store-passed (c24 .args .p .now) (c24 .args .store .now) (c24 .pre))
+    answered (store-passed (c24 .args .program .now) (c24 .args .store .now) (c24 .pre))
     (simp (
       le-leb _ _ (c21 .if1 .left),
       eq-eqb _ _ (c19 .if2 .left),
@@ -214,11 +214,11 @@ store-rule-spec =
     returns
     shared-slice-read-if2
     returns-2
-    shared-slice-read-m
+    shared-slice-read-memory-words
     shared-slice-read-if3
     returns-3
-    shared-slice-read-l
-    shared-slice-read-q
+    shared-slice-read-log-pairs
+    shared-slice-read-queue-records
     sizes-requires
     returns-4
     shared-slice-read-if5

@@ -26,8 +26,8 @@ mul-store c = search needs
 slice-write-store : tie.Need-slice-write-store Inv-loop μ-loop
 slice-write-store c = search needs
 
-add-i : tie.Need-add-i Inv-loop μ-loop
-add-i c = search needs
+add-index : tie.Need-add-index Inv-loop μ-loop
+add-index c = search needs
 
 loop-less : tie.Need-loop-less Inv-loop μ-loop
 loop-less c = search needs
@@ -38,7 +38,7 @@ loop-again c =
       omega arith,
       simp length-set (c .before .loop .inv .1),
       rw (c .before .loop .inv .2)
-          (fill-more (c .before .loop .i) 0 (c2 .args .store .now) (omega arith)),
+          (fill-more (c .before .loop .index) 0 (c2 .args .store .now) (omega arith)),
     )
 
 same-length : tie.Need-same-length Inv-loop μ-loop
@@ -46,7 +46,7 @@ same-length c = search needs
 
 returns : tie.Need-returns Inv-loop μ-loop
 returns c =
-    let e : c .before .loop .i ≡ length (c .before .before .args .store .now) = omega arith in
+    let e : c .before .loop .index ≡ length (c .before .before .args .store .now) = omega arith in
     c .before .loop .inv .2 ∙ rw (e, drop-length (c .before .before .args .store .now)) (append-nil _)
 
 pub clear-spec : {M : Type 1} → statement M
@@ -58,7 +58,7 @@ clear-spec =
     loop-holds
     mul-store
     slice-write-store
-    add-i
+    add-index
     loop-less
     loop-again
     same-length

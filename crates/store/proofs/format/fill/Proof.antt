@@ -22,8 +22,8 @@ filled p l q zeros log queue =
     let e : storeLength (memoryWords p) l q ≡ 10 + rest = omega arith in
     rw (zeros, log, queue, ap (λ (n : ℕ). replicate n 0) e ∙ sym (replicate-append-replicate {A = ℕ} 10 rest 0))
 
-shared-slice-read-m : tie.Need-shared-slice-read-m
-shared-slice-read-m c = search needs
+shared-slice-read-memory-words : tie.Need-shared-slice-read-memory-words
+shared-slice-read-memory-words c = search needs
 
 shared-slice-read-entry : tie.Need-shared-slice-read-entry
 shared-slice-read-entry c = search needs
@@ -73,7 +73,7 @@ returns c =
     let c4 = c .before .before .before .before in
     let c10 = c4 .before .before .before .before .before .before in
     let a = c10 .args in
-    filled (a .p .now) (a .l) (a .q) (c4 .clear .ensures ∙ ap (λ (n : ℕ). replicate n 0) (c10 .pre .1 .1))
+    filled (a .program .now) (a .log-pairs) (a .queue-records) (c4 .clear .ensures ∙ ap (λ (n : ℕ). replicate n 0) (c10 .pre .1 .1))
     (c .before .log-start .ensures)
     (c .queue-start .ensures)
 
@@ -81,7 +81,7 @@ pub fill-spec : {M : Type 1} → statement M
 fill-spec =
     tie.close
     (tie.spec
-    shared-slice-read-m
+    shared-slice-read-memory-words
     shared-slice-read-entry
     clear-requires
     slice-write-store

@@ -44,7 +44,7 @@ unfolding formatCheck
 returns c =
     let c2 = c .before .before in
     let c5 = c2 .before .before .before in
-    refused-call (c5 .args .p .now) (c5 .args .l) (c5 .args .q) (c5 .args .store .now)
+    refused-call (c5 .args .program .now) (c5 .args .log-pairs) (c5 .args .queue-records) (c5 .args .store .now)
     (then-stop _ _ (c2 .check .ensures .0) (c .enum-told2 .given .1)) (c .enum-told2 .given .1)
 
 sizes-requires : tie.Need-sizes-requires
@@ -56,7 +56,7 @@ returns-2 c =
     let c2 = c .before .before in
     let c4 = c2 .before .before in
     let c7 = c4 .before .before .before in
-    refused-call (c7 .args .p .now) (c7 .args .l) (c7 .args .q) (c7 .args .store .now)
+    refused-call (c7 .args .program .now) (c7 .args .log-pairs) (c7 .args .queue-records) (c7 .args .store .now)
     (simp (sym (c4 .check .ensures .0) ∙ c2 .enum-told .given .1, failed (c .before .sizes .ensures) (c .if1 .taken)))
     refl
 
@@ -85,7 +85,7 @@ returns-3 c =
     let c5 = c4 .before in
     let c7 = c5 .before .before in
     let c10 = c7 .before .before .before in
-    refused-call (c10 .args .p .now) (c10 .args .l) (c10 .args .q) (c10 .args .store .now)
+    refused-call (c10 .args .program .now) (c10 .args .log-pairs) (c10 .args .queue-records) (c10 .args .store .now)
     (simp (
       sym (c7 .check .ensures .0) ∙ c5 .enum-told .given .1,
       passed (c4 .sizes .ensures) (c3 .if1 .left),
@@ -121,7 +121,7 @@ returns-4 c =
     let c9 = c8 .before in
     let c11 = c9 .before .before in
     let c14 = c11 .before .before .before in
-    accepted-call (c14 .args .p .now) (c14 .args .l) (c14 .args .q) (c14 .args .store .now)
+    accepted-call (c14 .args .program .now) (c14 .args .log-pairs) (c14 .args .queue-records) (c14 .args .store .now)
     (simp (
       sym (c11 .check .ensures .0) ∙ c9 .enum-told .given .1,
       passed (c8 .sizes .ensures) (c7 .if1 .left),

@@ -27,7 +27,7 @@ shared-slice-read-result c = search needs
 returns : tie.Need-returns
 returns c =
     let a = c .before .before .args in
-    log-word (a .store .now) (c .before .before .pre .0) (2 * a .j) (omega arith)
+    log-word (a .store .now) (c .before .before .pre .0) (2 * a .pair) (omega arith)
 
 pub address-spec : {M : Type 1} → statement M
 address-spec =

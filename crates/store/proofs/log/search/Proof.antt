@@ -53,8 +53,8 @@ mul-if2-2 c = search needs
 shared-slice-read-if2 : tie.Need-shared-slice-read-if2 Inv-loop μ-loop
 shared-slice-read-if2 c = search needs
 
-add-i : tie.Need-add-i Inv-loop μ-loop
-add-i c = search needs
+add-pair : tie.Need-add-pair Inv-loop μ-loop
+add-pair c = search needs
 
 loop-less : tie.Need-loop-less Inv-loop μ-loop
 loop-less c = search needs
@@ -64,14 +64,14 @@ loop-again c =
     let c3 = c .before .before .before in
     let c4 = c3 .before in (
       search needs,
-      c3 .loop .inv .1 ∙ missed (c4 .args .log .now) (c4 .args .a) (c3 .loop .i) (omega arith)
+      c3 .loop .inv .1 ∙ missed (c4 .args .log .now) (c4 .args .address) (c3 .loop .pair) (omega arith)
           (c .if2 .left),
     )
 
 returns : tie.Need-returns Inv-loop μ-loop
 returns c =
     let a = c .before .before .args in (
-      sym (c .before .loop .inv .1 ∙ ended (a .log .now) (a .a) (c .before .loop .i) (omega arith)),
+      sym (c .before .loop .inv .1 ∙ ended (a .log .now) (a .address) (c .before .loop .pair) (omega arith)),
       λ i e. impossible (cc),
     )
 
@@ -79,8 +79,8 @@ returns-2 : tie.Need-returns-2 Inv-loop μ-loop
 returns-2 c =
     let c3 = c .before .before .before in
     let c4 = c3 .before in (
-      sym (c3 .loop .inv .1 ∙ hit (c4 .args .log .now) (c4 .args .a) (c3 .loop .i) (omega arith) (c .if2 .taken)),
-      λ i e. let z : c3 .loop .i ≡ i = cc in omega arith,
+      sym (c3 .loop .inv .1 ∙ hit (c4 .args .log .now) (c4 .args .address) (c3 .loop .pair) (omega arith) (c .if2 .taken)),
+      λ i e. let z : c3 .loop .pair ≡ i = cc in omega arith,
     )
 
 pub search-spec : {M : Type 1} → statement M
@@ -94,7 +94,7 @@ search-spec =
     mul-if2
     mul-if2-2
     shared-slice-read-if2
-    add-i
+    add-pair
     loop-less
     loop-again
     returns

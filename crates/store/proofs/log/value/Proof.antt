@@ -30,7 +30,7 @@ shared-slice-read-result c = search needs
 returns : tie.Need-returns
 returns c =
     let a = c .before .before .args in
-    log-word (a .store .now) (c .before .before .pre .0) (2 * a .j + 1) (omega arith)
+    log-word (a .store .now) (c .before .before .pre .0) (2 * a .pair + 1) (omega arith)
 
 pub value-spec : {M : Type 1} → statement M
 value-spec =

@@ -49,7 +49,7 @@ unfolding settled storedWord index
 returns c =
     record {
       store =
-          log-written (c .before .before .before .before .before .before .before .args .store .now) (c .before .before .before .before .before .before .before .pre .0) (2 * c .before .before .before .before .before .before .before .args .j) (c .before .before .before .before .before .before .before .args .a) (c .before .before .save-address .last .0)
+          log-written (c .before .before .before .before .before .before .before .args .store .now) (c .before .before .before .before .before .before .before .pre .0) (2 * c .before .before .before .before .before .before .before .args .pair) (c .before .before .before .before .before .before .before .args .address) (c .before .before .save-address .last .0)
           (omega arith) (c .before .before .save-address .ensures);
       stored = rw (c .before .before .before .before .before .before .before .pre .0 .log-start);
     }

@@ -52,7 +52,7 @@ unfolding settled storedWord index
 returns c =
     record {
       store =
-          log-written (c .before .before .before .before .before .before .before .args .store .now) (c .before .before .before .before .before .before .before .pre .0) (2 * c .before .before .before .before .before .before .before .args .j + 1) (c .before .before .before .before .before .before .before .args .x) (c .before .before .save-value .last .0)
+          log-written (c .before .before .before .before .before .before .before .args .store .now) (c .before .before .before .before .before .before .before .pre .0) (2 * c .before .before .before .before .before .before .before .args .pair + 1) (c .before .before .before .before .before .before .before .args .value) (c .before .before .save-value .last .0)
           (omega arith) (c .before .before .save-value .ensures);
       stored = rw (c .before .before .before .before .before .before .before .pre .0 .log-start);
     }

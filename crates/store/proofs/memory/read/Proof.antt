@@ -18,7 +18,7 @@ shared-slice-read-result : tie.Need-shared-slice-read-result
 shared-slice-read-result c = search needs
 
 returns : tie.Need-returns
-returns c = word-part (c .before .args .store .now) memoryAt _ (c .before .args .a) (c .before .pre .1)
+returns c = word-part (c .before .args .store .now) memoryAt _ (c .before .args .address) (c .before .pre .1)
 
 pub read-spec : {M : Type 1} → statement M
 read-spec =

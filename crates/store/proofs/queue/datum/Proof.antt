@@ -30,7 +30,7 @@ shared-slice-read-result c = search needs
 returns : tie.Need-returns
 returns c =
     let a = c .before .before .args in
-    queue-word (a .store .now) (c .before .before .pre .0) (2 * a .x + 1) (omega arith)
+    queue-word (a .store .now) (c .before .before .pre .0) (2 * a .slot + 1) (omega arith)
 
 pub datum-spec : {M : Type 1} → statement M
 datum-spec =

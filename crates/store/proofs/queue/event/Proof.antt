@@ -27,7 +27,7 @@ shared-slice-read-result c = search needs
 returns : tie.Need-returns
 returns c =
     let a = c .before .before .args in
-    queue-word (a .store .now) (c .before .before .pre .0) (2 * a .x) (omega arith)
+    queue-word (a .store .now) (c .before .before .pre .0) (2 * a .slot) (omega arith)
 
 pub event-spec : {M : Type 1} → statement M
 event-spec =

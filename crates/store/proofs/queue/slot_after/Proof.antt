@@ -1,10 +1,10 @@
--- `store::queue::after` meets its contract: its test is the definition's. Assumes nothing.
+-- `store::queue::slot_after` meets its contract: its test is the definition's. Assumes nothing.
 use borrow.Author.Needs.{needs}
 use Rattle.model.specs.Store.{after}
 use Rattle.model.specs.Test.{pick}
 use Rattle.model.proofs.TestLaws.{tests}
-use Rattle.store.proofs.queue.after.Statement.{statement}
-use Rattle.store.proofs.queue.after.Tie as tie
+use Rattle.store.proofs.queue.slot_after.Statement.{statement}
+use Rattle.store.proofs.queue.slot_after.Tie as tie
 
 add-result : tie.Need-add-result
 add-result c = search needs
@@ -17,8 +17,8 @@ returns-2 : tie.Need-returns-2
 unfolding after pick
 returns-2 c = search tests
 
-pub after-spec : {M : Type 1} → statement M
-after-spec =
+pub slot-after-spec : {M : Type 1} → statement M
+slot-after-spec =
     tie.close
     (tie.spec
     add-result

@@ -1,6 +1,6 @@
 -- Document 01: "The host's totals (bodies committed, events accepted, stores made; 32 bits, staying at the largest value) are one
 -- record that the host lends and a step updates." The totals by what a step tells: its answer, and the word that it stored.
--- proofs/Told.antt shows that these are the totals that the definition counts. Assumes nothing.
+-- proofs/CountLaws.antt shows that these are the totals that the definition counts. Assumes nothing.
 use Prim.Native.Nat.{ℕ}
 use Rattle.model.specs.Calls.{moreBy, oneIf, isCommit, acceptedEvents}
 use Rattle.model.specs.declared.Answer.{Answer}
@@ -13,8 +13,8 @@ stores Stored.Nothing = 0
 stores (Stored.Word i) = 1
 
 -- the totals after a step with this answer, which stored this word
-unfoldable pub told : Totals → Answer → Stored → Totals
-told t a w =
+unfoldable pub countedFrom : Totals → Answer → Stored → Totals
+countedFrom t a w =
     record {
       committed = moreBy (t .committed) (oneIf (isCommit a));
       accepted = moreBy (t .accepted) (acceptedEvents a);

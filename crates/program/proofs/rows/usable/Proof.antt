@@ -1,12 +1,12 @@
--- `rows::used` meets its contract: the row's limits, then where its body lies. Assumes nothing.
+-- `rows::usable` meets its contract: the row's limits, then where its body lies. Assumes nothing.
 use native.Mathlib.Omega.{arith}
 use borrow.Author.Needs.{needs}
 use Rattle.model.specs.Check.{rowUsed}
 use Rattle.model.specs.Test.{must, _then_}
 use Rattle.model.proofs.ProgramLaws.{used-passed}
 use Rattle.model.proofs.TestLaws.{tests, answered, then-stop}
-use Rattle.program.proofs.rows.used.Statement.{statement}
-use Rattle.program.proofs.rows.used.Tie as tie
+use Rattle.program.proofs.rows.usable.Statement.{statement}
+use Rattle.program.proofs.rows.usable.Tie as tie
 
 limits-requires : tie.Need-limits-requires
 limits-requires c κs = search needs
@@ -86,8 +86,8 @@ returns-4 c =
     answered (used-passed _ _ pre)
     (rw (← limits .ensures, enum-told .given .1, ← first-body .ensures, ← instructions .ensures, ← start .ensures) (search tests))
 
-pub used-spec : {M : Type 1} → statement M
-used-spec =
+pub usable-spec : {M : Type 1} → statement M
+usable-spec =
     tie.close
     (tie.spec
     limits-requires
