@@ -37,7 +37,7 @@ enum-known-place-2 c = search needs
 
 save-rest-requires : tie.Need-save-rest-requires
 unfolding bodyAt instructionAt
-save-rest-requires c κs = let g = rw (c .before .before .place2 .given .1) at (c .before .before .before .before .before .before .pre .1 .1 .1) in (c .before .before .before .before .before .before .pre .0 .shaped .shaped, (pair-left (c .before .before .before .before .before .before .args .program .now) (c .before .before .before .before .before .before .args .store .now) _ (c .before .before .before .before .before .before .pre .0) _ _ (c .before .before .place2 .given .1), omega (arith, g .instruction .place, g .instruction .body .most)))
+save-rest-requires c κs = let g = rw (c .before .before .place2 .given .1) at (c .before .before .before .before .before .before .pre .1 .1 .1) in (c .before .before .before .before .before .before .pre .0 .shaped .shaped, (pair-left (c .before .before .before .before .before .before .args .program .now) (c .before .before .before .before .before .before .args .store .now) _ (c .before .before .before .before .before .before .pre .0) _ _ (c .before .before .place2 .given .1), omega (arith, g .instruction .place, g .instruction .body .usable .most-instructions)))
 
 returns-2 : tie.Need-returns-2
 returns-2 c = absurd (c .before .before .before .before .before .pre .1 .0 _ (c .before .enum-told .given .1))

@@ -27,8 +27,8 @@ returns c = λ p. simp (c .before .if1 .taken, c .stored .ensures)
 slice-read-head : tie.Need-slice-read-head
 slice-read-head c = search needs
 
-slice-read-after : tie.Need-slice-read-after
-slice-read-after c = search needs
+slice-read-slot-after : tie.Need-slice-read-slot-after
+slice-read-slot-after c = search needs
 
 slot-after-requires : tie.Need-slot-after-requires
 slot-after-requires c κs = search needs
@@ -71,7 +71,7 @@ end-event-spec =
     same-length
     returns
     slice-read-head
-    slice-read-after
+    slice-read-slot-after
     slot-after-requires
     slice-write-store-2
     stored-requires-2
