@@ -11,11 +11,11 @@ ghost use mathlib.Core.List.{List};
 ghost use Prim.Native.Nat.{ℕ, _+_, _<_, _≤_};
 ghost use lib.Dec.{eqb};
 ghost use Rattle.model.specs.Control.{obey, obeyAll, inPhase, committing, phaseRule, taskRule, openRule, openServing, countRule, pendingTaskRule, pendingHeadRule, pendingOpenRule, headRule, tailRule, addressRule, recordRule, rules, earlyRules};
-ghost use Rattle.control.specs.Groups.{commitRules, addressRules, recordRules};
 ghost use Rattle.model.specs.Program.{word, tasks, transaction};
 ghost use Rattle.model.specs.Store.{view};
 ghost use Rattle.model.specs.Test.{_or_, _then_};
 ghost use Rattle.model.specs.Accepted.{Contents, RowsInside, Shaped, ShapedFor};
+ghost use Rattle.control.specs.Groups.{commitRules, addressRules, recordRules};
 
 pub mod single;
 

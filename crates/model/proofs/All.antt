@@ -1,6 +1,6 @@
 -- All that is claimed of the definitions (specs/Demand3.antt, specs/Claims.antt), with the theorems. Demand 3 stands first, then the rows:
--- the prover goes through the files in this order, so a wrong definition is refused at demand 3's own fact or at a row, and not at a
--- law that repeats the definitions (DeviceLaws). Assumes nothing.
+-- the prover begins with this file, the first by name, and goes through the others in this order, so a wrong definition is refused at
+-- demand 3's own fact or at a row, and not at a law that repeats the definitions (DeviceLaws, Passed). Assumes nothing.
 use Rattle.model.proofs.Demand3.{demand3}
 use Rattle.model.proofs.Observed.{observed}
 use Rattle.model.proofs.Starred.{starred}

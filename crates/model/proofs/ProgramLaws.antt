@@ -120,12 +120,12 @@ module _ {A B : Type 0} (P : ℕ → A → B → Type 0) where
   Rows i (x ∷ xs) [] = ⊥
   Rows i (x ∷ xs) (y ∷ ys) = P i x y × Rows (suc i) xs ys
 
-  in-tables : (n i : ℕ) (xs : List A) (ys : List B) (d : A) (e : B) → Rows i xs ys → ((m : ℕ) → P m d e) → P (i + n) (getD xs n d) (getD ys n e)
-  in-tables n i [] [] d e rs past = past (i + n)
-  in-tables n i [] (y ∷ ys) d e rs past = absurd rs
-  in-tables n i (x ∷ xs) [] d e rs past = absurd rs
-  in-tables zero i (x ∷ xs) (y ∷ ys) d e rs past = rw add-zero (rs .0)
-  in-tables (suc n) i (x ∷ xs) (y ∷ ys) d e rs past = rw (add-suc i n, ← suc-add i n) (in-tables n (suc i) xs ys d e (rs .1) past)
+  in-tables : (n i : ℕ) (xs : List A) (ys : List B) (x₀ : A) (y₀ : B) → Rows i xs ys → ((m : ℕ) → P m x₀ y₀) → P (i + n) (getD xs n x₀) (getD ys n y₀)
+  in-tables n i [] [] x₀ y₀ rs past = past (i + n)
+  in-tables n i [] (y ∷ ys) x₀ y₀ rs past = absurd rs
+  in-tables n i (x ∷ xs) [] x₀ y₀ rs past = absurd rs
+  in-tables zero i (x ∷ xs) (y ∷ ys) x₀ y₀ rs past = rw add-zero (rs .0)
+  in-tables (suc n) i (x ∷ xs) (y ∷ ys) x₀ y₀ rs past = rw (add-suc i n, ← suc-add i n) (in-tables n (suc i) xs ys x₀ y₀ (rs .1) past)
 
 -- one row, and the rows after it
 infixr 20 _&_
