@@ -5,7 +5,7 @@ use mathlib.Core.Bool.{true}
 use mathlib.Core.List.{List}
 use mathlib.Core.Path.{_≡_}
 use Rattle.model.specs.Control.{Rule, rules, blames}
-use Rattle.model.specs.Device.{Out, boot, post}
+use Rattle.model.specs.Device.{Out, boot, post, step}
 use Rattle.model.specs.Store.{view, settled, storedWord}
 use Rattle.model.specs.declared.Answer.{Answer}
 use Rattle.model.specs.declared.Device.{Device}
@@ -31,3 +31,7 @@ BootPerforms p s d r = Performs p s (boot p s d) (ofCall r s)
 
 abbrev pub PostPerforms : List ℕ → List ℕ → Device → ℕ → ℕ → CallResult → Type 0
 PostPerforms p s d e x r = Performs p s (post p s d e x) (ofCall r s)
+
+-- A step, which left the words z.
+abbrev pub StepPerforms : List ℕ → List ℕ → Device → CallResult → List ℕ → Type 0
+StepPerforms p s d r z = Performs p s (step p s d) (ofCall r z)

@@ -1,2 +1,2 @@
--- What a step and a run promise with lent totals.
+-- What a step promises with lent totals.
 pub mod Counts

@@ -1,4 +1,4 @@
 -- The laws that belong to no one function.
 pub mod Cases
 pub mod Runs
-pub mod Told
+pub mod Counted

@@ -9,14 +9,15 @@ ghost use mathlib.Core.Path.{_≡_};
 ghost use Rattle.model.specs.Calls.{unlessRefused, run};
 ghost use Rattle.model.specs.Claims.{soundAfter};
 ghost use Rattle.model.specs.Device.{look, step};
-ghost use Rattle.device.specs.Agree.{Performs};
-ghost use Rattle.device.specs.Turn.{device, after, afterCall, result};
-ghost use Rattle.runtime.specs.Ran.{afterTurns, afterLast, RunPerforms};
+ghost use Rattle.device.specs.Agree.{StepPerforms};
+ghost use Rattle.device.specs.Result.{device, ofCore, ofCall, ofOutcome};
+ghost use Rattle.runtime.specs.RunResult.{coreRunResult, ofLast, CoreRuns, RunPerforms};
+use device::CallResult;
 use device::Core;
-use device::Stepped;
-use device::Turn;
+use device::CoreResult;
+use device::core_of;
 use device::look;
-use device::turns;
+use device::results;
 use model::Answer;
 use model::Checked;
 use model::Device;
@@ -29,7 +30,7 @@ mod steps;
 
 // What steps leave: the answer of the last one, refused or not, and which word it stored; how many were made and how they ended; the
 // device, apart from its registers, and the totals.
-struct Turns {
+struct CoreRunResult {
     pub last: Answer,
     pub stored: Stored,
     pub steps: u32,
@@ -39,7 +40,7 @@ struct Turns {
 }
 
 // What a run answers, with the whole device and the totals after it.
-pub struct Ran {
+pub struct RunResult {
     pub steps: u32,
     pub ended: Ended,
     pub device: Device,
@@ -47,10 +48,10 @@ pub struct Ran {
 }
 
 // Is an answer a refusal?
-fn refusal(a: Answer) -> Checked
-    ensures { λ x. ⌜ x ≡ unlessRefused a Checked.Refused Checked.Accepted ⌝ }
+fn refusal(answer: Answer) -> Checked
+    ensures { λ r. ⌜ r ≡ unlessRefused answer Checked.Refused Checked.Accepted ⌝ }
 {
-    match a {
+    match answer {
         Answer::Done => Checked::Accepted,
         Answer::Chosen(_) => Checked::Accepted,
         Answer::Worked => Checked::Accepted,
@@ -62,10 +63,10 @@ fn refusal(a: Answer) -> Checked
 }
 
 // Do the early checks of the next step pass after this answer?
-fn sound_after(a: Answer) -> bool
-    ensures { λ x. ⌜ x ≡ soundAfter a ⌝ }
+fn sound_after(answer: Answer) -> bool
+    ensures { λ r. ⌜ r ≡ soundAfter answer ⌝ }
 {
-    match a {
+    match answer {
         Answer::Done => false,
         Answer::Chosen(_) => true,
         Answer::Worked => true,
@@ -77,94 +78,123 @@ fn sound_after(a: Answer) -> bool
 }
 
 // The early checks of a step, unless they are known to pass.
-fn look_unless(p: &[u16], s: &[u16], r: &[u16; 8], c: Core, known: bool) -> Checked
-    requires { ⌜ (known ≡ true → look (now p) (now s) (device c (now r)) ≡ Checked.Accepted) ⌝ }
-    ensures { λ x. ⌜ x ≡ look (now (p .entry)) (now (s .entry)) (device c (now (r .entry))) ⌝ }
+fn look_unless(
+    program: &[u16],
+    store: &[u16],
+    registers: &[u16; 8],
+    core: Core,
+    known: bool,
+) -> Checked
+    requires { ⌜ (known ≡ true → look (now program) (now store) (device core (now registers)) ≡ Checked.Accepted) ⌝ }
+    ensures { λ found. ⌜ found ≡ look (now (program .entry)) (now (store .entry)) (device core (now (registers .entry))) ⌝ }
 {
     if known {
         return Checked::Accepted;
     }
-    look::look(p, s, r, c)
+    look::look(program, store, registers, core)
 }
 
 // A step on lent registers.
-fn step_known(p: &[u16], s: &mut [u16], r: &mut [u16; 8], c: Core, known: bool) -> Turn
-    requires { ⌜ (known ≡ true → look (now p) (now s) (device c (now r)) ≡ Checked.Accepted) ⌝ }
-    ensures { λ t. ⌜ after t (now (r .exit)) (now (s .exit)) ≡ result (now (s .entry)) (step (now (p .entry)) (now (s .entry)) (device c (now (r .entry)))) ⌝ }
+fn step_known(
+    program: &[u16],
+    store: &mut [u16],
+    registers: &mut [u16; 8],
+    core: Core,
+    known: bool,
+) -> CoreResult
+    requires { ⌜ (known ≡ true → look (now program) (now store) (device core (now registers)) ≡ Checked.Accepted) ⌝ }
+    ensures { λ r. ⌜ ofCore r (now (registers .exit)) (now (store .exit))
+        ≡ ofOutcome (now (store .entry))
+        (step (now (program .entry)) (now (store .entry)) (device core (now (registers .entry)))) ⌝ }
 {
-    let found = look_unless(p, s, r, c, known);
+    let found = look_unless(program, store, registers, core, known);
     match found {
-        Checked::Accepted => steps::next_step(p, s, r, c),
-        Checked::Refused(why) => turns::refused(c, why),
+        Checked::Accepted => steps::next_step(program, store, registers, core),
+        Checked::Refused(why) => results::refused(core, why),
     }
 }
 
-// Steps on lent registers, up to a budget. A single step is a budget of 1: so the code of a step stands in one place, in the loop, and
-// what it leaves needs no copy from step to step.
-fn run_in(p: &[u16], s: &mut [u16], r: &mut [u16; 8], c: Core, t: Totals, budget: u32) -> Turns
-    ensures { λ x. ⌜ afterTurns x (now (r .exit)) (now (s .exit)) ≡ run (now (p .entry)) budget (now (s .entry)) (device c (now (r .entry))) t ⌝ }
-    ensures { λ x. ⌜ (budget ≡ 1 → afterLast x (now (r .exit)) (now (s .exit)) ≡ result (now (s .entry)) (step (now (p .entry)) (now (s .entry)) (device c (now (r .entry))))) ⌝ }
+// What the steps made so far leave, with how they end.
+fn run_result(
+    last: Answer,
+    stored: Stored,
+    steps: u32,
+    ended: Ended,
+    core: Core,
+    totals: Totals,
+) -> CoreRunResult
+    ensures { λ r. ⌜ r ≡ coreRunResult last stored steps ended core totals ⌝ }
 {
-    let mut last = Answer::Done;
-    let mut stored = Stored::Nothing;
-    let mut core = c;
-    let mut totals = t;
-    let mut steps: u32 = 0;
-    let mut known = false;
-    while steps < budget {
-        let turn = step_known(p, s, r, core, known);
-        last = turn.answer;
-        stored = turn.stored;
-        core = turn.core;
-        let found = refusal(last);
-        if let Checked::Refused(why) = found {
-            return Turns {
-                last,
-                stored,
-                steps,
-                ended: Ended::Refused(why),
-                core,
-                totals,
-            };
-        }
-        totals = totals::counted(totals, last, stored);
-        known = sound_after(last);
-        steps += 1;
-    }
-    Turns {
+    CoreRunResult {
         last,
         stored,
         steps,
-        ended: Ended::Spent,
+        ended,
         core,
         totals,
     }
 }
 
-// A device from its core and its registers.
-fn whole(c: Core, regs: [u16; 8]) -> Device
-    ensures { λ d. ⌜ d ≡ device c regs ⌝ }
+// Steps on lent registers, up to a budget. A single step is a budget of 1: so the code of a step stands in one place, in the loop, and
+// what it leaves needs no copy from step to step.
+fn run_in(
+    program: &[u16],
+    store: &mut [u16],
+    registers: &mut [u16; 8],
+    core: Core,
+    totals: Totals,
+    budget: u32,
+) -> CoreRunResult
+    ensures { λ r.
+        ⌜ CoreRuns (now (program .entry)) budget (now (store .entry)) (device core (now (registers .entry))) totals
+        r (now (registers .exit)) (now (store .exit)) ⌝ }
 {
-    let place = c.place;
-    let h = c.handler;
+    let mut last = Answer::Done;
+    let mut stored = Stored::Nothing;
+    let mut core = core;
+    let mut totals = totals;
+    let mut steps: u32 = 0;
+    let mut known = false;
+    while steps < budget {
+        let step = step_known(program, store, registers, core, known);
+        last = step.answer;
+        stored = step.stored;
+        core = step.core;
+        let found = refusal(last);
+        if let Checked::Refused(why) = found {
+            return run_result(last, stored, steps, Ended::Refused(why), core, totals);
+        }
+        totals = totals::counted(totals, last, stored);
+        known = sound_after(last);
+        steps += 1;
+    }
+    run_result(last, stored, steps, Ended::Spent, core, totals)
+}
+
+// A device from its core and its registers.
+fn whole(core: Core, registers: [u16; 8]) -> Device
+    ensures { λ r. ⌜ r ≡ device core registers ⌝ }
+{
+    let place = core.place;
+    let handler = core.handler;
     Device {
-        on: c.on,
-        regs,
+        on: core.on,
+        regs: registers,
         place,
-        count: c.count,
-        handler: h,
+        count: core.count,
+        handler,
     }
 }
 
 // The last answer and the word stored, with the whole device.
-fn packed(t: Turns, regs: [u16; 8]) -> Stepped
-    ensures { λ x. ⌜ ((s : List ℕ) → afterCall x s ≡ afterLast t regs s) ⌝ }
+fn packed(steps: CoreRunResult, registers: [u16; 8]) -> CallResult
+    ensures { λ r. ⌜ ((s : List ℕ) → ofCall r s ≡ ofLast steps registers s) ⌝ }
 {
-    let answer = t.last;
-    let stored = t.stored;
-    let core = t.core;
-    let device = whole(core, regs);
-    Stepped {
+    let answer = steps.last;
+    let stored = steps.stored;
+    let core = steps.core;
+    let device = whole(core, registers);
+    CallResult {
         answer,
         stored,
         device,
@@ -172,32 +202,41 @@ fn packed(t: Turns, regs: [u16; 8]) -> Stepped
 }
 
 // Step: at most one store, on the lent words. Which word that was is told.
-pub fn step(p: &[u16], s: &mut [u16], d: Device) -> Stepped
-    ensures { λ x. ⌜ Performs (now (p .entry)) (now (s .entry)) (step (now (p .entry)) (now (s .entry)) d) (afterCall x (now (s .exit))) ⌝ }
+pub fn step(program: &[u16], store: &mut [u16], device: Device) -> CallResult
+    ensures { λ r. ⌜ StepPerforms (now (program .entry)) (now (store .entry)) device r (now (store .exit)) ⌝ }
 {
-    let mut r = d.regs;
+    let mut registers = device.regs;
     let zero = Totals {
         committed: 0,
         accepted: 0,
         stores: 0,
     };
-    let t = run_in(p, s, &mut r, look::core_of(d), zero, 1);
-    packed(t, r)
+    let core = core_of(device);
+    let steps = run_in(program, store, &mut registers, core, zero, 1);
+    packed(steps, registers)
 }
 
 // Run, on the lent words.
-pub fn run(p: &[u16], s: &mut [u16], d: Device, t: Totals, budget: u32) -> Ran
-    ensures { λ x. ⌜ RunPerforms (now (p .entry)) (run (now (p .entry)) budget (now (s .entry)) d t) x (now (s .exit)) ⌝ }
+pub fn run(
+    program: &[u16],
+    store: &mut [u16],
+    device: Device,
+    totals: Totals,
+    budget: u32,
+) -> RunResult
+    ensures { λ r. ⌜ RunPerforms (now (program .entry))
+        (run (now (program .entry)) budget (now (store .entry)) device totals) r (now (store .exit)) ⌝ }
 {
-    let mut r = d.regs;
-    let turns = run_in(p, s, &mut r, look::core_of(d), t, budget);
-    let ended = turns.ended;
-    let core = turns.core;
-    let totals = turns.totals;
-    Ran {
-        steps: turns.steps,
+    let mut registers = device.regs;
+    let core = core_of(device);
+    let steps = run_in(program, store, &mut registers, core, totals, budget);
+    let ended = steps.ended;
+    let core = steps.core;
+    let totals = steps.totals;
+    RunResult {
+        steps: steps.steps,
         ended,
-        device: whole(core, r),
+        device: whole(core, registers),
         totals,
     }
 }

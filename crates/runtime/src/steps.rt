@@ -1,131 +1,155 @@
 // A step past its early checks: document 01's four cases, "first that applies". Each makes its own store, at most one, on the lent words.
 // A commit's stores in phases 1 and 2 are in copying.rt, a running body's in the crate body.
-ghost use Prim.Native.Nat.{ℕ, _≤_};
-ghost use mathlib.Core.List.{List};
+ghost use Prim.Native.Nat.{_≤_, _<_};
 ghost use mathlib.Core.Path.{_≡_};
-ghost use Rattle.model.specs.Device.{handlerStep, chooseStep, begun, placeStep, nextStep};
+ghost use Rattle.model.specs.Device.{handlerStep, chooseStep, placeStep};
 ghost use Rattle.model.specs.Program.{word};
-ghost use Rattle.model.specs.Store.{view};
 ghost use Rattle.model.specs.Accepted.{Shaped, Looked};
-ghost use Rattle.device.specs.Turn.{device, after, result, turn};
+ghost use Rattle.device.specs.Result.{device, coreResult, ofCore, leaves, placeStepOf, nextStepOf, OnAnyRegisters};
 use super::copying;
 use body;
+use control::single;
 use device::Core;
-use device::Turn;
-use device::turns;
+use device::CoreResult;
+use device::results;
 use model::Answer;
 use model::Body;
+use model::Checked;
 use model::Handler;
-use model::Next;
 use model::Place;
-use model::Refusal;
 use model::Stored;
 use store::queue;
 
-// "A handler at work makes its next store: event, data, then tail. The tail store accepts the event."
-pub fn handler_step(s: &mut [u16], c: Core, n: Next, e: u16, x: u16) -> Turn
-    requires { ⌜ Shaped (now s) ⌝ }
-    requires { ⌜ word (now s) 15 ≤ word (now s) 3 ⌝ }
-    ensures { λ t. ⌜ ((r : List ℕ) → after t r (now (s .exit)) ≡ result (now (s .entry)) (handlerStep (view (now (s .entry))) (device c r) n e x)) ⌝ }
+// "A handler at work makes its next store: event, data, then tail. The tail store accepts the event": so many of them are made.
+pub fn handler_step(store: &mut [u16], core: Core, made: u16, event: u16, datum: u16) -> CoreResult
+    requires { ⌜ Shaped (now store) ⌝ }
+    requires { ⌜ (word (now store) 15 ≤ word (now store) 3) × (made < 3) ⌝ }
+    ensures { λ r. ⌜ OnAnyRegisters core r (now (store .exit))
+        (leaves (λ v d. handlerStep v d made event datum) (now (store .entry))) ⌝ }
 {
-    let tail = s[15];
-    match n {
-        Next::Event => {
-            let word = queue::write_event(s, tail, e);
-            working(c, Handler::Storing(Next::Data, e, x), Answer::Stored, word)
-        }
-        Next::Data => {
-            let word = queue::write_datum(s, tail, x);
-            working(c, Handler::Storing(Next::Tail, e, x), Answer::Stored, word)
-        }
-        Next::Tail => {
-            s[15] = queue::slot_after(s[3], tail);
-            working(c, Handler::Resting, Answer::Accepted, Stored::Word(15))
-        }
+    let tail = store[15];
+    if made == 0 {
+        let word = queue::write_event(store, tail, event);
+        return handler_result(
+            core,
+            Handler::Storing(1, event, datum),
+            Answer::Stored,
+            word,
+        );
     }
+    if made == 1 {
+        let word = queue::write_datum(store, tail, datum);
+        return handler_result(
+            core,
+            Handler::Storing(2, event, datum),
+            Answer::Stored,
+            word,
+        );
+    }
+    store[15] = queue::slot_after(store[3], tail);
+    handler_result(core, Handler::Resting, Answer::Accepted, Stored::Word(15))
 }
 
 // The device with another handler, an answer and the word stored.
-fn working(c: Core, h: Handler, a: Answer, word: Stored) -> Turn
-    ensures { λ t. ⌜ t ≡ turn a word (record { on = c .on; place = c .place; count = c .count; handler = h }) ⌝ }
+fn handler_result(core: Core, handler: Handler, answer: Answer, stored: Stored) -> CoreResult
+    ensures { λ r. ⌜ r ≡ coreResult answer stored
+        (record { on = core .on; place = core .place; count = core .count; handler = handler }) ⌝ }
 {
-    let place = c.place;
-    Turn {
-        answer: a,
-        stored: word,
+    let place = core.place;
+    CoreResult {
+        answer,
+        stored,
         core: Core {
-            on: c.on,
+            on: core.on,
             place,
-            count: c.count,
-            handler: h,
+            count: core.count,
+            handler,
         },
     }
 }
 
-// "Registers become 0, except that register 0 gets an event's data. The log count becomes 0."
-fn begin(r: &mut [u16; 8], c: Core, b: Body, x: u16) -> Turn
-    ensures { λ t. ⌜ ((s : List ℕ) → after t (now (r .exit)) s ≡ record { answer = Answer.Chosen b; stored = Stored.Nothing; device = begun (device c (now (r .entry))) b x; store = s }) ⌝ }
-{
-    *r = [x, 0, 0, 0, 0, 0, 0, 0];
-    let m = turns::moved(c, Place::Run(b, 0, 0), 0);
-    Turn {
-        answer: Answer::Chosen(b),
-        stored: Stored::Nothing,
-        core: m,
-    }
-}
-
 // "if word 10 is 0 and the queue isn't empty, the event at head; otherwise the current task"
-pub fn choose_step(p: &[u16], s: &[u16], r: &mut [u16; 8], c: Core) -> Turn
-    requires { ⌜ Looked (now p) (now s) (device c (now r)) ⌝ }
-    ensures { λ t. ⌜ after t (now (r .exit)) (now (s .entry)) ≡ result (now (s .entry)) (chooseStep (now (p .entry)) (view (now (s .entry))) (device c (now (r .entry)))) ⌝ }
+pub fn choose_step(
+    program: &[u16],
+    store: &[u16],
+    registers: &mut [u16; 8],
+    core: Core,
+) -> CoreResult
+    requires { ⌜ Looked (now program) (now store) (device core (now registers)) ⌝ }
+    ensures { λ r. ⌜ ofCore r (now (registers .exit)) (now (store .entry))
+        ≡ leaves (chooseStep (now (program .entry))) (now (store .entry)) (device core (now (registers .entry))) ⌝ }
 {
-    if s[10] != 0 {
-        return begin(r, c, Body::Task(s[9]), 0);
+    if store[10] != 0 {
+        return results::begin(registers, core, Body::Task(store[9]), 0);
     }
-    if queue::is_empty(s) {
-        return begin(r, c, Body::Task(s[9]), 0);
+    if queue::is_empty(store) {
+        return results::begin(registers, core, Body::Task(store[9]), 0);
     }
-    let head = s[14];
-    let e = queue::event(s, head);
-    if e >= p[2] {
-        return turns::refused(c, Refusal::Control(s[7] + 2 * head));
+    let found = single::record_at_head(program, store);
+    if let Checked::Refused(why) = found {
+        return results::refused(core, why);
     }
-    begin(r, c, Body::Event(e), queue::datum(s, head))
+    let event = queue::head_event(store);
+    results::begin(
+        registers,
+        core,
+        Body::Event(event),
+        queue::head_datum(store),
+    )
 }
 
 // With no body running: in phase 0 one is chosen, else a commit makes its next store.
-fn free_step(p: &[u16], s: &mut [u16], r: &mut [u16; 8], c: Core, n: u16) -> Turn
-    requires { ⌜ Looked (now p) (now s) (device c (now r)) ⌝ }
-    requires { ⌜ c .place ≡ Place.Free n ⌝ }
-    ensures { λ t. ⌜ after t (now (r .exit)) (now (s .exit)) ≡ result (now (s .entry)) (placeStep (now (p .entry)) (view (now (s .entry))) (device c (now (r .entry))) (Place.Free n)) ⌝ }
+fn free_step(
+    program: &[u16],
+    store: &mut [u16],
+    registers: &mut [u16; 8],
+    core: Core,
+    made: u16,
+) -> CoreResult
+    requires { ⌜ Looked (now program) (now store) (device core (now registers)) ⌝ }
+    requires { ⌜ core .place ≡ Place.Free made ⌝ }
+    ensures { λ r. ⌜ ofCore r (now (registers .exit)) (now (store .exit))
+        ≡ leaves (λ v d. placeStep (now (program .entry)) v d (Place.Free made))
+        (now (store .entry)) (device core (now (registers .entry))) ⌝ }
 {
-    if s[8] == 0 {
-        return choose_step(p, s, r, c);
+    if store[8] == 0 {
+        return choose_step(program, store, registers, core);
     }
-    copying::copy_step(p, s, r, c, n)
+    copying::copy_step(program, store, registers, core, made)
 }
 
 // The step of a handler at rest.
-fn place_step(p: &[u16], s: &mut [u16], r: &mut [u16; 8], c: Core) -> Turn
-    requires { ⌜ Looked (now p) (now s) (device c (now r)) ⌝ }
-    ensures { λ t. ⌜ after t (now (r .exit)) (now (s .exit)) ≡ result (now (s .entry)) (placeStep (now (p .entry)) (view (now (s .entry))) (device c (now (r .entry))) (c .place)) ⌝ }
+fn place_step(
+    program: &[u16],
+    store: &mut [u16],
+    registers: &mut [u16; 8],
+    core: Core,
+) -> CoreResult
+    requires { ⌜ Looked (now program) (now store) (device core (now registers)) ⌝ }
+    ensures { λ r. ⌜ ofCore r (now (registers .exit)) (now (store .exit))
+        ≡ leaves (placeStepOf (now (program .entry))) (now (store .entry)) (device core (now (registers .entry))) ⌝ }
 {
-    let place = c.place;
-    let Place::Free(n) = place else {
-        return body::body_step(p, s, r, c);
+    let place = core.place;
+    let Place::Free(made) = place else {
+        return body::body_step(program, store, registers, core);
     };
-    free_step(p, s, r, c, n)
+    free_step(program, store, registers, core, made)
 }
 
 // "First that applies", after the early checks.
-pub fn next_step(p: &[u16], s: &mut [u16], r: &mut [u16; 8], c: Core) -> Turn
-    requires { ⌜ Looked (now p) (now s) (device c (now r)) ⌝ }
-    ensures { λ t. ⌜ after t (now (r .exit)) (now (s .exit)) ≡ result (now (s .entry)) (nextStep (now (p .entry)) (view (now (s .entry))) (device c (now (r .entry))) (c .handler)) ⌝ }
+pub fn next_step(
+    program: &[u16],
+    store: &mut [u16],
+    registers: &mut [u16; 8],
+    core: Core,
+) -> CoreResult
+    requires { ⌜ Looked (now program) (now store) (device core (now registers)) ⌝ }
+    ensures { λ r. ⌜ ofCore r (now (registers .exit)) (now (store .exit))
+        ≡ leaves (nextStepOf (now (program .entry))) (now (store .entry)) (device core (now (registers .entry))) ⌝ }
 {
-    let handler = c.handler;
+    let handler = core.handler;
     match handler {
-        Handler::Resting => place_step(p, s, r, c),
-        Handler::Storing(n, e, x) => handler_step(s, c, n, e, x),
+        Handler::Resting => place_step(program, store, registers, core),
+        Handler::Storing(made, event, datum) => handler_step(store, core, made, event, datum),
     }
 }

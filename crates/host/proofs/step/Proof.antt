@@ -29,7 +29,7 @@ use denote.Plain.{nothing-lawful}
 use denote.RattleType.{owns}
 use denote.Ref.{RefT, MutRef, ptr-vals, mut-tells}
 use denote.Signature.{plain, shrSliceOf}
-use denote.Slice.{ShrSlice, MutSlice, slice-vals, shr-slice-tells, mut-slice-tells, Room, finally}
+use denote.Slice.{sliceVal, ShrSlice, MutSlice, slice-vals, shr-slice-tells, mut-slice-tells, Room, finally}
 use denote.Steps.{only, owned, peeks, heard, nothing}
 use denote.Struct.Laws as struct
 use denote.Triple.Call.{calls-at}
@@ -51,11 +51,11 @@ use Rattle.model.specs.declared.Answer.{Answer}
 use Rattle.model.specs.declared.Device.{Device}
 use Rattle.model.specs.declared.Stored.{Stored}
 use Rattle.model.specs.declared.Totals.{Totals}
-use Rattle.device.proofs.Stepped as stepped
-use Rattle.device.proofs.Stepped.Laws as stepped-laws
-use Rattle.device.specs.Agree.{Performs}
-use Rattle.device.specs.Turn.{afterCall}
-use Rattle.device.specs.declared.Stepped.{Stepped}
+use Rattle.device.proofs.CallResult as result
+use Rattle.device.proofs.CallResult.Laws as result-laws
+use Rattle.device.specs.Agree.{StepPerforms}
+use Rattle.device.specs.Result.{ofCall}
+use Rattle.device.specs.declared.CallResult.{CallResult}
 use Rattle.totals.proofs.count as count
 use Rattle.totals.proofs.count.Met as count-met
 use Rattle.totals.proofs.count.Symbol as count-symbol
@@ -65,8 +65,7 @@ use Rattle.runtime.proofs.step as called
 use Rattle.runtime.proofs.step.Met as called-met
 use Rattle.runtime.proofs.step.Symbol as called-symbol
 use Rattle.runtime.proofs.step.Symbol.{name as #called}
-use Rattle.runtime.proofs.Told.{told-is-counted}
-use Rattle.host.proofs.Values.{deviceVal, sliceOf}
+use Rattle.runtime.proofs.Counted.{counted-as-told}
 use Rattle.host.proofs.step as this
 use Rattle.host.proofs.step.Code as code
 use Rattle.host.proofs.step.Key.{name as #this}
@@ -83,14 +82,20 @@ stayed = (
 )
 
 -- the machine values
+abbrev deviceVal : Device → Val
+deviceVal d = struct.val device.the-type device-laws.the-laws d
+
+abbrev sliceOf : RefT (List ℕ) → Val
+sliceOf x = sliceVal (x .ptr) (length (x .now))
+
 abbrev answerVal : Answer → Val
 answerVal a = enum.val answer.the-type answer-laws.the-laws a
 
 abbrev storedVal : Stored → Val
 storedVal w = enum.val stored.the-type stored-laws.the-laws w
 
-abbrev steppedVal : Stepped → Val
-steppedVal r = struct.val stepped.the-type stepped-laws.the-laws r
+abbrev resultVal : CallResult → Val
+resultVal r = struct.val result.the-type result-laws.the-laws r
 
 abbrev refOf : RefT Totals → Val
 refOf x = vptr (x .ptr .0) (x .ptr .1)
@@ -99,8 +104,8 @@ module _ {M : Type 1} (𝓤 : URA M) (H : Heap 𝓤) (A : Atoms 𝓤) (W : Given
   device-lawful : Lawful 𝓤 H A device.the-row
   device-lawful = struct.lawful device.the-type device-laws.the-laws 𝓤 H A W
 
-  stepped-lawful : Lawful 𝓤 H A stepped.the-row
-  stepped-lawful = struct.lawful stepped.the-type stepped-laws.the-laws 𝓤 H A W
+  result-lawful : Lawful 𝓤 H A result.the-row
+  result-lawful = struct.lawful result.the-type result-laws.the-laws 𝓤 H A W
 
   -- the contracts that the walk cites
   abbrev Step : Contract 𝓤
@@ -121,8 +126,8 @@ module _ {M : Type 1} (𝓤 : URA M) (H : Heap 𝓤) (A : Atoms 𝓤) (W : Given
     Post = walkOf 𝓤 H A this.ended stayed (this.clauses 𝓤 H A at-mem run) .post (((κp, (κs, (κt, tt))), (qp, (qs, (qt, tt))), tt, args, vals), tt)
 
     -- what the runtime's `step` tells
-    abbrev Performed : Stepped → List ℕ → Type 0
-    Performed r z = Performs (p .now) (s .now) (step (p .now) (s .now) d) (afterCall r z)
+    abbrev Performed : CallResult → List ℕ → Type 0
+    Performed r z = StepPerforms (p .now) (s .now) d r z
 
     -- what it is called with
     abbrev to-step : Step .Ghost
@@ -143,13 +148,13 @@ module _ {M : Type 1} (𝓤 : URA M) (H : Heap 𝓤) (A : Atoms 𝓤) (W : Given
         join ! $ frame ! $ done !
 
     -- at exit the words are z and the totals t′
-    exits : (r : Stepped) (z : List ℕ) (t′ : Totals) → Performed r z → t′ ≡ countedFrom (t .now) (r .answer) (r .stored) → length z ≡ length (s .now)
-        → ent 𝓤 (⋆ 𝓤 H A ((‵ (flft κp qp) ⊛ ‵ (flft κs qs) ⊛ ‵ ftrue) ∷ (‵ (flft κt qt) ⊛ ‵ ftrue) ∷ ‵ (finally u16 (s .name) z) ∷ ‵ (fres (t .name) (totals.the-row .coded .code t′)) ∷ ‵ (stepped.the-row .own r (steppedVal r ∷ [])) ∷ []))
-        (Post (steppedVal r))
+    exits : (r : CallResult) (z : List ℕ) (t′ : Totals) → Performed r z → t′ ≡ countedFrom (t .now) (r .answer) (r .stored) → length z ≡ length (s .now)
+        → ent 𝓤 (⋆ 𝓤 H A ((‵ (flft κp qp) ⊛ ‵ (flft κs qs) ⊛ ‵ ftrue) ∷ (‵ (flft κt qt) ⊛ ‵ ftrue) ∷ ‵ (finally u16 (s .name) z) ∷ ‵ (fres (t .name) (totals.the-row .coded .code t′)) ∷ ‵ (result.the-row .own r (resultVal r ∷ [])) ∷ []))
+        (Post (resultVal r))
     exits r z t′ e e′ l =
-        qed W ((‵ (flft κp qp) ⊛ ‵ (flft κs qs) ⊛ ‵ ftrue) ∷ (‵ (flft κt qt) ⊛ ‵ ftrue) ∷ ‵ (finally u16 (s .name) z) ∷ ‵ (fres (t .name) (totals.the-row .coded .code t′)) ∷ ‵ (stepped.the-row .own r (steppedVal r ∷ [])) ∷ []) ∵
-        suffices ! _ (ends-at 𝓤 H A this.ended stayed (this.clauses 𝓤 H A at-mem run) W (((κp, (κs, (κt, tt))), (qp, (qs, (qt, tt))), tt, args, vals), tt) (steppedVal r) r (tt, (z, (tt, (t′, tt)))) (tt, (l, (tt, (tt, tt))))) $
-        says ! (record { performs = e; totals = e′ ∙ told-is-counted (p .now) (s .now) (step (p .now) (s .now) d) (afterCall r z) (t .now) e }) $
+        qed W ((‵ (flft κp qp) ⊛ ‵ (flft κs qs) ⊛ ‵ ftrue) ∷ (‵ (flft κt qt) ⊛ ‵ ftrue) ∷ ‵ (finally u16 (s .name) z) ∷ ‵ (fres (t .name) (totals.the-row .coded .code t′)) ∷ ‵ (result.the-row .own r (resultVal r ∷ [])) ∷ []) ∵
+        suffices ! _ (ends-at 𝓤 H A this.ended stayed (this.clauses 𝓤 H A at-mem run) W (((κp, (κs, (κt, tt))), (qp, (qs, (qt, tt))), tt, args, vals), tt) (resultVal r) r (tt, (z, (tt, (t′, tt)))) (tt, (l, (tt, (tt, tt))))) $
+        says ! (record { performs = e; totals = e′ ∙ counted-as-told (p .now) (s .now) (step (p .now) (s .now) d) (ofCall r z) (t .now) e }) $
         -- the tokens
         split ! $ move ! (1 ∷ []) $ split ! $ move ! (0 ∷ 3 ∷ []) $ join ! $ move ! (2 ∷ 0 ∷ []) $ join ! $ frame ! $
         -- [..; the last words; the last totals; the result]
@@ -174,18 +179,18 @@ module _ {M : Type 1} (𝓤 : URA M) (H : Heap 𝓤) (A : Atoms 𝓤) (W : Given
           nothing ! $ move ! (23 ∷ 0 ∷ []) $ fjoin ! $ move ! (22 ∷ 0 ∷ []) $ fjoin ! $ move ! (21 ∷ 0 ∷ []) $ fjoin ! $
           nothing ! $ move ! (24 ∷ 0 ∷ []) $ join ! $ move ! (23 ∷ 0 ∷ []) $ join ! $ use2 W (raw (Step .pre to-step)) goes-step $
           calls-at ! fm Step known-step to-step (and-then ! (load ! (from ! (stop !)) (look ! 17 refl)) (and-then ! (load ! (from ! (stop !)) (look ! 5 refl)) (and-then ! (load ! (from ! (stop !)) (look ! 13 refl)) (no-more !)))) (λ v.
-          use1 W (later (some (λ (r : Stepped). ((‵ (flft κp qp) ⊛ ‵ (flft κs qs) ⊛ ‵ ftrue) ⊛ ‵ (stepped.the-row .own r (v ∷ []))) ⊛ raw (ensured 𝓤 H A called.ended (called.clauses 𝓤 H A at-mem run) (κp, (κs, tt)) (p, (s, (d, tt))) tt r)))) (id⊢ 𝓤 _) $ await ! tt $ pick ! (λ r.
+          use1 W (later (some (λ (r : CallResult). ((‵ (flft κp qp) ⊛ ‵ (flft κs qs) ⊛ ‵ ftrue) ⊛ ‵ (result.the-row .own r (v ∷ []))) ⊛ raw (ensured 𝓤 H A called.ended (called.clauses 𝓤 H A at-mem run) (κp, (κs, tt)) (p, (s, (d, tt))) tt r)))) (id⊢ 𝓤 _) $ await ! tt $ pick ! (λ r.
           split ! $ move ! (1 ∷ []) $ use1 W (some (λ (zs : Unit {0} × (List ℕ × (Unit {0} × Unit {0}))). ‵ (lasts called.ended (κp, (κs, tt)) (p, (s, (d, tt))) zs) ⊛ raw (fact 𝓤 (Performed r (zs .1 .0))))) (id⊢ 𝓤 _) $ pick ! (λ zs.
           split ! $ move ! (1 ∷ []) $ heard ! (Performed r (zs .1 .0)) (λ e. fsplit ! $ drop ! $ fsplit ! $ fsplit ! $ move ! (1 ∷ []) $ feqL ! (λ l.
-          move ! (2 ∷ []) $ split ! $ move ! (1 ∷ []) $ peeks ! stepped.the-row (Is stepped.the-row) (shows 𝓤 H A stepped.the-row) r (v ∷ []) (λ is.
-          land ! (from ! (stop !)) (init ! 12 refl (stepped-lawful .typed r _ is .0)) $
-          rewrite ! 12 (λ (u : Val). ‵ (fat fullShare stepped-laws.mir l₅ 0 u)) (ap only (struct.tells stepped.the-type stepped-laws.the-laws r _ is)) refl $
-          rewrite ! 0 (λ (us : List Val). ‵ (stepped.the-row .own r us)) (struct.tells stepped.the-type stepped-laws.the-laws r _ is) refl $
+          move ! (2 ∷ []) $ split ! $ move ! (1 ∷ []) $ peeks ! result.the-row (Is result.the-row) (shows 𝓤 H A result.the-row) r (v ∷ []) (λ is.
+          land ! (from ! (stop !)) (init ! 12 refl (result-lawful .typed r _ is .0)) $
+          rewrite ! 12 (λ (u : Val). ‵ (fat fullShare result-laws.mir l₅ 0 u)) (ap only (struct.tells result.the-type result-laws.the-laws r _ is)) refl $
+          rewrite ! 0 (λ (us : List Val). ‵ (result.the-row .own r us)) (struct.tells result.the-type result-laws.the-laws r _ is) refl $
           -- [what r owns; the tokens of p and s; the last words; ..; _9; ..; _8; ..; _7; ..; _6; ..; _5; ..; _4; ..; _3; ..; _2; ..; _1; ..; _0; ..; what t owns; its token; ..]
           assigns ! (addr ! (from ! (hop ! (look ! 14 refl) (stop !)))) (from ! (stop !)) (init ! 4 refl (tt, tt)) $
           -- `count`
-          nothing ! $ owned ! stored.the-row (Is stored.the-row) (enum.makes stored.the-type stored-laws.the-plain 𝓤 H A) (r .stored) _ (struct.owed stepped.the-type stepped-laws.the-laws r _ is .1 .0) $ fjoin ! $
-          owned ! answer.the-row (Is answer.the-row) (enum.makes answer.the-type answer-laws.the-plain 𝓤 H A) (r .answer) _ (struct.owed stepped.the-type stepped-laws.the-laws r _ is .0) $ fjoin ! $ move ! (25 ∷ 0 ∷ []) $ fjoin ! $
+          nothing ! $ owned ! stored.the-row (Is stored.the-row) (enum.makes stored.the-type stored-laws.the-plain 𝓤 H A) (r .stored) _ (struct.owed result.the-type result-laws.the-laws r _ is .1 .0) $ fjoin ! $
+          owned ! answer.the-row (Is answer.the-row) (enum.makes answer.the-type answer-laws.the-plain 𝓤 H A) (r .answer) _ (struct.owed result.the-type result-laws.the-laws r _ is .0) $ fjoin ! $ move ! (25 ∷ 0 ∷ []) $ fjoin ! $
           move ! (25 ∷ 26 ∷ 0 ∷ []) $ join ! $ use2 W (raw (Count .pre (to-count (r .answer) (r .stored)))) (goes-count (r .answer) (r .stored)) $
           calls-at ! fm Count known-count (to-count (r .answer) (r .stored)) (and-then ! (load ! (from ! (stop !)) (look ! 5 refl)) (and-then ! (load ! (from ! (fld ! refl (stop !))) (look-in ! 13 (sub ! 0 refl (whole !)))) (and-then ! (load ! (from ! (fld ! refl (stop !))) (look-in ! 13 (sub ! 1 refl (whole !)))) (no-more !)))) (λ w.
           use1 W (later (some (λ (n : Unit {0}). ((‵ (flft κt qt) ⊛ ‵ ftrue) ⊛ ‵ (unit .own n (w ∷ []))) ⊛ raw (ensured 𝓤 H A count.ended (count.clauses 𝓤 H A at-mem run) (κt, tt) (t, (r .answer, (r .stored, tt))) tt n)))) (id⊢ 𝓤 _) $ await ! tt $ pick ! (λ n.
@@ -194,7 +199,7 @@ module _ {M : Type 1} (𝓤 : URA M) (H : Heap 𝓤) (A : Atoms 𝓤) (W : Given
           move ! (2 ∷ []) $ split ! $ move ! (1 ∷ []) $ peeks ! unit (Is unit) (shows 𝓤 H A unit) n (w ∷ []) (λ is′.
           land ! (from ! (stop !)) (init ! 10 refl (nothing-lawful 𝓤 H A W .typed n _ is′ .0)) $
           -- [..; the token of t; the last totals; ..; what r owns; the tokens of p and s; the last words; ..; _9; ..; _8; ..; _7; ..; _6; ..; _5; ..; _4; ..; _3; ..; _2; ..; _1; ..; _0; ..]
-          assigns ! (of-opd ! (load ! (from ! (stop !)) (look ! 16 refl))) (from ! (stop !)) (init ! 26 refl (stepped-lawful .typed r _ (struct.owes stepped.the-type stepped-laws.the-laws r (struct.owed stepped.the-type stepped-laws.the-laws r _ is)) .0)) $
+          assigns ! (of-opd ! (load ! (from ! (stop !)) (look ! 16 refl))) (from ! (stop !)) (init ! 26 refl (result-lawful .typed r _ (struct.owes result.the-type result-laws.the-laws r (struct.owed result.the-type result-laws.the-laws r _ is)) .0)) $
           returns ! (look ! 26 refl) $ forget ! 8 refl $ forget ! 10 refl $ forget ! 12 refl $ forget ! 14 refl $ forget ! 16 refl $ forget ! 18 refl $ forget ! 20 refl $ forget ! 22 refl $ forget ! 24 refl $ forget ! 26 refl $
           move ! (26 ∷ 27 ∷ []) $ free1 ! $ move ! (24 ∷ 25 ∷ []) $ free1 ! $ move ! (22 ∷ 23 ∷ []) $ free1 ! $ move ! (20 ∷ 21 ∷ []) $ free1 ! $ move ! (18 ∷ 19 ∷ []) $ free1 ! $ move ! (16 ∷ 17 ∷ []) $ free1 ! $ move ! (14 ∷ 15 ∷ []) $ free1 ! $ move ! (12 ∷ 13 ∷ []) $ free1 ! $ move ! (10 ∷ 11 ∷ []) $ free1 ! $ move ! (8 ∷ 9 ∷ []) $ free1 ! $ free0 ! $
           keep ! (5 ∷ 1 ∷ 6 ∷ 2 ∷ 4 ∷ []) $ by ! (exits r (zs .1 .0) (ts .0) e e′ l))))))))))))))))))))))

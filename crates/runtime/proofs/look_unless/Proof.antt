@@ -1,4 +1,4 @@
--- `run::look_unless` meets its contract. Assumes nothing.
+-- `look_unless` meets its contract. Assumes nothing.
 use mathlib.Core.Path.{sym}
 use borrow.Author.Needs.{needs}
 use Rattle.runtime.proofs.look_unless.Statement.{statement}

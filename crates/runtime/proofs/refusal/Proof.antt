@@ -22,8 +22,8 @@ enum-told-5 c = search needs
 enum-told-6 : tie.Need-enum-told-6
 enum-told-6 c = search needs
 
-enum-known-a : tie.Need-enum-known-a
-enum-known-a c = search needs
+enum-known-answer : tie.Need-enum-known-answer
+enum-known-answer c = search needs
 
 returns : tie.Need-returns
 unfolding unlessRefused
@@ -51,7 +51,7 @@ returns-6 c = simp (c .enum-told6 .given .1)
 
 returns-7 : tie.Need-returns-7
 unfolding unlessRefused
-returns-7 c = simp (c .before .a .given .1)
+returns-7 c = simp (c .before .answer .given .1)
 
 pub refusal-spec : {M : Type 1} → statement M
 refusal-spec =
@@ -63,7 +63,7 @@ refusal-spec =
     enum-told-4
     enum-told-5
     enum-told-6
-    enum-known-a
+    enum-known-answer
     returns
     returns-2
     returns-3

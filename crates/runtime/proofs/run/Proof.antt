@@ -2,10 +2,11 @@
 use mathlib.Core.Path.{sym, ap, subst, _∙_}
 use denote.Ref.{now}
 use Rattle.device.specs.Agree.{Agrees}
+use Rattle.device.specs.Result.{device}
+use Rattle.device.specs.declared.Core.{Core}
 use Rattle.model.specs.Calls.{Ran, run}
 use Rattle.model.specs.Control.{rules}
 use Rattle.model.specs.Store.{view}
-use Rattle.model.specs.declared.Device.{Device}
 use Rattle.model.specs.declared.Ended.{Ended}
 use Rattle.runtime.proofs.Runs.{run-agrees}
 use borrow.Author.Needs.{needs}
@@ -26,15 +27,15 @@ same-length c = search needs
 
 returns : tie.Need-returns
 returns c =
-    let p = now (c .before .before .before .before .before .before .before .before .before .before .before .before .args .p) in
-    let s = now (c .before .before .before .before .before .before .before .before .before .before .before .before .args .s) in
-    let o = run p (c .before .before .before .before .before .before .before .before .before .before .before .before .args .budget) s (c .before .before .before .before .before .before .before .before .before .before .before .before .args .d) (c .before .before .before .before .before .before .before .before .before .before .before .before .args .t) in
-    let q = c .before .before .before .before .before .run-in .ensures .0 ∙ ap (λ (d : Device). run p (c .before .before .before .before .before .before .before .before .before .before .before .before .args .budget) s d (c .before .before .before .before .before .before .before .before .before .before .before .before .args .t)) (c .before .before .before .before .before .before .core-of .ensures) in
+    let p = now (c .before .before .before .before .before .before .before .before .before .before .before .before .args .program) in
+    let s = now (c .before .before .before .before .before .before .before .before .before .before .before .before .args .store) in
+    let o = run p (c .before .before .before .before .before .before .before .before .before .before .before .before .args .budget) s (c .before .before .before .before .before .before .before .before .before .before .before .before .args .device) (c .before .before .before .before .before .before .before .before .before .before .before .before .args .totals) in
+    let q = c .before .before .before .before .before .run-in .ensures .run ∙ ap (λ (x : Core). run p (c .before .before .before .before .before .before .before .before .before .before .before .before .args .budget) s (device x (c .before .before .before .before .before .before .before .before .before .before .before .before .args .device .regs)) (c .before .before .before .before .before .before .before .before .before .before .before .before .args .totals)) (c .before .before .before .before .before .before .before .before .core-of .ensures) in
     record {
       steps = ap (λ (x : Ran). x .steps) q;
       ended =
           subst (λ (x : Ran). Agrees (rules p (view (o .store))) Ended.Refused (o .ended) (x .ended)) (sym q)
-          (run-agrees p (c .before .before .before .before .before .before .before .before .before .before .before .before .args .budget) s (c .before .before .before .before .before .before .before .before .before .before .before .before .args .d) (c .before .before .before .before .before .before .before .before .before .before .before .before .args .t));
+          (run-agrees p (c .before .before .before .before .before .before .before .before .before .before .before .before .args .budget) s (c .before .before .before .before .before .before .before .before .before .before .before .before .args .device) (c .before .before .before .before .before .before .before .before .before .before .before .before .args .totals));
       device = c .whole .ensures ∙ ap (λ (x : Ran). x .device) q;
       store = ap (λ (x : Ran). x .store) q;
       totals = ap (λ (x : Ran). x .totals) q;

@@ -1,4 +1,4 @@
--- `run::run_in` meets its contract. The loop's invariant: what is left of the run, from here, is the run; where the early checks are known
+-- `run_in` meets its contract. The loop's invariant: what is left of the run, from here, is the run; where the early checks are known
 -- to pass, they do; before the first step, the step from here is the step, and after it, it is made. Assumes nothing.
 use Prim.Native.Nat.{ℕ, suc, _+_, _-_, _≤_}
 use mathlib.Core.Bool.{true}
@@ -7,7 +7,7 @@ use mathlib.Core.Path.{_≡_, refl, sym, ap, _∙_}
 use native.Mathlib.Omega.{arith}
 use denote.Ref.{now}
 use lib.ListN.{length}
-use Rattle.device.specs.Turn.{Result, device, result}
+use Rattle.device.specs.Result.{Result, device, ofOutcome}
 use Rattle.model.proofs.TestLaws.{clash}
 use Rattle.model.proofs.Words.{settled-length}
 use Rattle.model.specs.Calls.{run, runFrom}
@@ -26,8 +26,8 @@ use borrow.Author.Needs.{needs}
 use Rattle.runtime.proofs.run_in.Statement.{statement}
 use Rattle.runtime.proofs.run_in.Tie as tie
 
-abbrev leaves : Answer → Stored → Device → List ℕ → Result
-leaves a w d s = record { answer = a; stored = w; device = d; store = s }
+abbrev leaving : Answer → Stored → Device → List ℕ → Result
+leaving a w d s = record { answer = a; stored = w; device = d; store = s }
 
 abbrev Inv-loop : tie.InvT-loop
 Inv-loop p s₀ r₀ budget a₀ w₀ c₀ t₀ n₀ k₀ s r a w c t n known =
@@ -35,8 +35,8 @@ Inv-loop p s₀ r₀ budget a₀ w₀ c₀ t₀ n₀ k₀ s r a w c t n known =
     × (length s ≡ length s₀)
     × (runFrom p (budget - n) n s (device c r) t ≡ run p budget s₀ (device c₀ r₀) t₀)
     × (known ≡ true → look p s (device c r) ≡ Checked.Accepted)
-    × (n ≡ 0 → result s (step p s (device c r)) ≡ result s₀ (step p s₀ (device c₀ r₀)))
-    × (n ≡ 1 → leaves a w (device c r) s ≡ result s₀ (step p s₀ (device c₀ r₀)))
+    × (n ≡ 0 → ofOutcome s (step p s (device c r)) ≡ ofOutcome s₀ (step p s₀ (device c₀ r₀)))
+    × (n ≡ 1 → leaving a w (device c r) s ≡ ofOutcome s₀ (step p s₀ (device c₀ r₀)))
 
 abbrev μ-loop : tie.MeasureT-loop
 μ-loop p s₀ r₀ budget a₀ w₀ c₀ t₀ n₀ k₀ s r a w c t n known = budget - n
@@ -48,7 +48,7 @@ loop-holds c =
     let e : a .budget - 0 ≡ a .budget = omega arith in (
       omega arith,
       refl,
-      ap (λ (k : ℕ). runFrom (now (a .p)) k 0 (now (a .s)) (device (a .c) (now (a .r))) (a .t)) e,
+      ap (λ (k : ℕ). runFrom (now (a .program)) k 0 (now (a .store)) (device (a .core) (now (a .registers))) (a .totals)) e,
       λ known. clash known refl,
       λ z. refl,
       λ z. absurd (omega arith),
@@ -63,25 +63,29 @@ refusal-requires c κs = search needs
 enum-known-found : tie.Need-enum-known-found Inv-loop μ-loop
 enum-known-found c = search needs
 
+run-result-requires : tie.Need-run-result-requires Inv-loop μ-loop
+run-result-requires c κs = search needs
+
 same-length : tie.Need-same-length Inv-loop μ-loop
-same-length c = ap (λ (x : Result). length (x .store)) (c .before .before .before .before .before .before .before .step-known .ensures) ∙ settled-length (c .before .before .before .before .before .before .before .before .before .before .before .loop .s) _ ∙ c .before .before .before .before .before .before .before .before .before .before .before .loop .inv .1
+same-length c = ap (λ (x : Result). length (x .store)) (c .before .before .before .before .before .before .before .before .step-known .ensures) ∙ settled-length (c .before .before .before .before .before .before .before .before .before .before .before .before .loop .store) _ ∙ c .before .before .before .before .before .before .before .before .before .before .before .before .loop .inv .1
 
 returns : tie.Need-returns Inv-loop μ-loop
 returns c =
-    let p = now (c .before .before .before .before .before .before .before .before .before .before .before .before .before .before .args .p) in
-    let s = c .before .before .before .before .before .before .before .before .before .before .before .loop .s in
-    let d = device (c .before .before .before .before .before .before .before .before .before .before .before .loop .core) (c .before .before .before .before .before .before .before .before .before .before .before .loop .r) in
-    let n = c .before .before .before .before .before .before .before .before .before .before .before .loop .steps in
-    let t = c .before .before .before .before .before .before .before .before .before .before .before .loop .totals in
-    let k = c .before .before .before .before .before .before .before .before .before .before .before .before .before .before .args .budget - n in
-    let j = c .before .before .before .before .before .before .before .before .before .before .before .before .before .before .args .budget - (n + 1) in
-    let left : k ≡ suc j = omega (arith, c .before .before .before .before .before .before .before .before .before .before .loop-test .taken) in
-    let q = c .before .before .before .before .before .before .before .step-known .ensures in (
-      ap (λ (x : Result). ended n (Ended.Refused (c .before .found .given .0 .0)) (x .store) (x .device) t) q
-          ∙ sym (run-stops p k j n s d t left (ap (λ (x : Result). refusalOf (x .answer)) (sym q) ∙ sym (c .before .before .before .refusal .ensures) ∙ c .before .found .given .1))
-          ∙ c .before .before .before .before .before .before .before .before .before .before .before .loop .inv .2,
-      λ one. q ∙ c .before .before .before .before .before .before .before .before .before .before .before .loop .inv .4 (omega (arith, one, c .before .before .before .before .before .before .before .before .before .before .loop-test .taken)),
-    )
+    let p = now (c .before .before .before .before .before .before .before .before .before .before .before .before .before .before .before .args .program) in
+    let s = c .before .before .before .before .before .before .before .before .before .before .before .before .loop .store in
+    let d = device (c .before .before .before .before .before .before .before .before .before .before .before .before .loop .core) (c .before .before .before .before .before .before .before .before .before .before .before .before .loop .registers) in
+    let n = c .before .before .before .before .before .before .before .before .before .before .before .before .loop .steps in
+    let t = c .before .before .before .before .before .before .before .before .before .before .before .before .loop .totals in
+    let k = c .before .before .before .before .before .before .before .before .before .before .before .before .before .before .before .args .budget - n in
+    let j = c .before .before .before .before .before .before .before .before .before .before .before .before .before .before .before .args .budget - (n + 1) in
+    let left : k ≡ suc j = omega (arith, c .before .before .before .before .before .before .before .before .before .before .before .loop-test .taken) in
+    let q = c .before .before .before .before .before .before .before .before .step-known .ensures in
+    record {
+      run = rw (c .run-result .ensures) (ap (λ (x : Result). ended n (Ended.Refused (c .before .before .found .given .0 .0)) (x .store) (x .device) t) q
+          ∙ sym (run-stops p k j n s d t left (ap (λ (x : Result). refusalOf (x .answer)) (sym q) ∙ sym (c .before .before .before .before .refusal .ensures) ∙ c .before .before .found .given .1))
+          ∙ c .before .before .before .before .before .before .before .before .before .before .before .before .loop .inv .2);
+      single = λ one. rw (c .run-result .ensures) (q ∙ c .before .before .before .before .before .before .before .before .before .before .before .before .loop .inv .4 (omega (arith, one, c .before .before .before .before .before .before .before .before .before .before .before .loop-test .taken)));
+    }
 
 enum-told : tie.Need-enum-told Inv-loop μ-loop
 enum-told c = search needs
@@ -100,9 +104,9 @@ loop-less c = search needs
 
 loop-again : tie.Need-loop-again Inv-loop μ-loop
 loop-again c =
-    let p = now (c .before .before .before .before .before .before .before .before .before .before .before .before .before .before .before .args .p) in
-    let s = c .before .before .before .before .before .before .before .before .before .before .before .before .loop .s in
-    let d = device (c .before .before .before .before .before .before .before .before .before .before .before .before .loop .core) (c .before .before .before .before .before .before .before .before .before .before .before .before .loop .r) in
+    let p = now (c .before .before .before .before .before .before .before .before .before .before .before .before .before .before .before .args .program) in
+    let s = c .before .before .before .before .before .before .before .before .before .before .before .before .loop .store in
+    let d = device (c .before .before .before .before .before .before .before .before .before .before .before .before .loop .core) (c .before .before .before .before .before .before .before .before .before .before .before .before .loop .registers) in
     let n = c .before .before .before .before .before .before .before .before .before .before .before .before .loop .steps in
     let t = c .before .before .before .before .before .before .before .before .before .before .before .before .loop .totals in
     let k = c .before .before .before .before .before .before .before .before .before .before .before .before .before .before .before .args .budget - n in
@@ -122,18 +126,22 @@ loop-again c =
       λ one. q ∙ c .before .before .before .before .before .before .before .before .before .before .before .before .loop .inv .4 (omega (arith, one)),
     )
 
+run-result-requires-2 : tie.Need-run-result-requires-2 Inv-loop μ-loop
+run-result-requires-2 c κs = search needs
+
 same-length-2 : tie.Need-same-length-2 Inv-loop μ-loop
-same-length-2 c = c .before .loop .inv .1
+same-length-2 c = c .before .before .loop .inv .1
 
 returns-2 : tie.Need-returns-2 Inv-loop μ-loop
 returns-2 c =
-    let p = now (c .before .before .before .before .args .p) in
-    let n = c .before .loop .steps in
-    let d = device (c .before .loop .core) (c .before .loop .r) in
-    let e : 0 ≡ c .before .before .before .before .args .budget - n = omega (arith, c .loop-test .left) in (
-      sym (run-spent p n (c .before .loop .s) d (c .before .loop .totals)) ∙ ap (λ (k : ℕ). runFrom p k n (c .before .loop .s) d (c .before .loop .totals)) e ∙ c .before .loop .inv .2,
-      λ one. c .before .loop .inv .5 (omega (arith, one, c .loop-test .left, c .before .loop .inv .0)),
-    )
+    let p = now (c .before .before .before .before .before .args .program) in
+    let n = c .before .before .loop .steps in
+    let d = device (c .before .before .loop .core) (c .before .before .loop .registers) in
+    let e : 0 ≡ c .before .before .before .before .before .args .budget - n = omega (arith, c .before .loop-test .left) in
+    record {
+      run = rw (c .run-result2 .ensures) (sym (run-spent p n (c .before .before .loop .store) d (c .before .before .loop .totals)) ∙ ap (λ (k : ℕ). runFrom p k n (c .before .before .loop .store) d (c .before .before .loop .totals)) e ∙ c .before .before .loop .inv .2);
+      single = λ one. rw (c .run-result2 .ensures) (c .before .before .loop .inv .5 (omega (arith, one, c .before .loop-test .left, c .before .before .loop .inv .0)));
+    }
 
 pub run-in-spec : {M : Type 1} → statement M
 run-in-spec =
@@ -145,6 +153,7 @@ run-in-spec =
     step-known-requires
     refusal-requires
     enum-known-found
+    run-result-requires
     same-length
     returns
     enum-told
@@ -153,5 +162,6 @@ run-in-spec =
     add-steps
     loop-less
     loop-again
+    run-result-requires-2
     same-length-2
     returns-2)

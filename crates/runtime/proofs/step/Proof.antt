@@ -2,10 +2,10 @@
 use mathlib.Core.Path.{refl, ap, _∙_}
 use denote.Ref.{now}
 use Rattle.device.proofs.Agree.{performs}
-use Rattle.device.specs.Turn.{result}
+use Rattle.device.specs.Result.{device, ofOutcome}
+use Rattle.device.specs.declared.Core.{Core}
 use Rattle.model.specs.Calls.{Step, call}
 use Rattle.model.specs.Device.{step}
-use Rattle.model.specs.declared.Device.{Device}
 use borrow.Author.Needs.{needs}
 use Rattle.runtime.proofs.step.Statement.{statement}
 use Rattle.runtime.proofs.step.Tie as tie
@@ -25,9 +25,9 @@ same-length c = search needs
 returns : tie.Need-returns
 unfolding call step
 returns c =
-    let s = now (c .before .before .before .before .before .before .before .before .before .before .args .s) in
-    let p = now (c .before .before .before .before .before .before .before .before .before .before .args .p) in
-    performs p s (c .before .before .before .before .before .before .before .before .before .before .args .d) Step (c .packed .ensures _ ∙ c .before .before .before .run-in .ensures .1 refl ∙ ap (λ (d : Device). result s (step p s d)) (c .before .before .before .before .core-of .ensures))
+    let s = now (c .before .before .before .before .before .before .before .before .before .before .args .store) in
+    let p = now (c .before .before .before .before .before .before .before .before .before .before .args .program) in
+    performs p s (c .before .before .before .before .before .before .before .before .before .before .args .device) Step (c .packed .ensures _ ∙ c .before .before .before .run-in .ensures .single refl ∙ ap (λ (x : Core). ofOutcome s (step p s (device x (c .before .before .before .before .before .before .before .before .before .before .args .device .regs)))) (c .before .before .before .before .before .before .core-of .ensures))
 
 pub step-spec : {M : Type 1} → statement M
 step-spec =

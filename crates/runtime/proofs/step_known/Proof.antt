@@ -1,9 +1,9 @@
--- `run::step_known` meets its contract: the early checks, then the step. Assumes nothing.
+-- `step_known` meets its contract: the early checks, then the step. Assumes nothing.
 use mathlib.Core.Path.{sym, ap, _∙_}
 use denote.Ref.{now}
 use Rattle.model.proofs.Passed.{look-passed}
-use Rattle.device.specs.Turn.{device, after, result}
-use Rattle.device.specs.declared.Turn.{Turn}
+use Rattle.device.specs.Result.{device, ofCore, ofOutcome}
+use Rattle.device.specs.declared.CoreResult.{CoreResult}
 use Rattle.model.proofs.DeviceLaws.{step-goes, step-refused}
 use Rattle.model.specs.Device.{Out}
 use Rattle.model.specs.Store.{settled, storedWord}
@@ -31,10 +31,10 @@ same-length c = search needs
 
 returns : tie.Need-returns
 returns c =
-    let s = now (c .before .before .before .before .before .before .before .before .before .before .before .before .args .s) in
-    let p = now (c .before .before .before .before .before .before .before .before .before .before .before .before .args .p) in
-    let d = device (c .before .before .before .before .before .before .before .before .before .before .before .before .args .c) (now (c .before .before .before .before .before .before .before .before .before .before .before .before .args .r)) in
-    c .before .before .next-step .ensures ∙ ap (λ (o : Out). result s o) (sym (step-goes p s d (sym (c .before .before .before .before .before .before .before .look-unless .ensures) ∙ c .before .before .before .before .before .enum-told .given .1)))
+    let s = now (c .before .before .before .before .before .before .before .before .before .before .before .before .args .store) in
+    let p = now (c .before .before .before .before .before .before .before .before .before .before .before .before .args .program) in
+    let d = device (c .before .before .before .before .before .before .before .before .before .before .before .before .args .core) (now (c .before .before .before .before .before .before .before .before .before .before .before .before .args .registers)) in
+    c .before .before .next-step .ensures ∙ ap (λ (o : Out). ofOutcome s o) (sym (step-goes p s d (sym (c .before .before .before .before .before .before .before .look-unless .ensures) ∙ c .before .before .before .before .before .enum-told .given .1)))
 
 same-length-2 : tie.Need-same-length-2
 same-length-2 c = search needs
@@ -42,10 +42,10 @@ same-length-2 c = search needs
 returns-2 : tie.Need-returns-2
 unfolding settled storedWord
 returns-2 c =
-    let s = now (c .before .before .before .before .before .before .before .before .before .args .s) in
-    let p = now (c .before .before .before .before .before .before .before .before .before .args .p) in
-    let d = device (c .before .before .before .before .before .before .before .before .before .args .c) (now (c .before .before .before .before .before .before .before .before .before .args .r)) in
-    ap (λ (t : Turn). after t (now (c .before .before .before .before .before .before .before .before .before .args .r)) s) (c .refused .ensures) ∙ ap (λ (o : Out). result s o) (sym (step-refused p s d (sym (c .before .before .before .before .look-unless .ensures) ∙ c .before .before .found .given .1)))
+    let s = now (c .before .before .before .before .before .before .before .before .before .args .store) in
+    let p = now (c .before .before .before .before .before .before .before .before .before .args .program) in
+    let d = device (c .before .before .before .before .before .before .before .before .before .args .core) (now (c .before .before .before .before .before .before .before .before .before .args .registers)) in
+    ap (λ (x : CoreResult). ofCore x (now (c .before .before .before .before .before .before .before .before .before .args .registers)) s) (c .refused .ensures) ∙ ap (λ (o : Out). ofOutcome s o) (sym (step-refused p s d (sym (c .before .before .before .before .look-unless .ensures) ∙ c .before .before .found .given .1)))
 
 pub step-known-spec : {M : Type 1} → statement M
 step-known-spec =

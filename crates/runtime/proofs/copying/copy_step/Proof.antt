@@ -2,7 +2,7 @@
 use mathlib.Core.Path.{sym, ap, _∙_}
 use native.Mathlib.Omega.{arith}
 use denote.Ref.{now}
-use Rattle.device.specs.Turn.{device, result}
+use Rattle.device.specs.Result.{device, ofOutcome}
 use Rattle.model.proofs.DeviceLaws.{task-last, event-last}
 use Rattle.model.specs.Device.{Out}
 use Rattle.model.specs.Store.{view}
@@ -17,13 +17,13 @@ slice-read-copies c = search needs
 copy-requires : tie.Need-copy-requires
 copy-requires c κs =
     let h = c .before .before .before .before .before .pre .0 in
-    (h .contents, (h .shaped, (c .before .if1 .taken, copies-fit (now (c .before .before .before .before .before .args .p)) (now (c .before .before .before .before .before .args .s)) _ h (c .before .before .before .before .before .args .n) (c .before .before .before .before .before .pre .1 .0) (c .before .before .before .before .before .pre .1 .1))))
+    (h .contents, (h .shaped, (c .before .if1 .taken, copies-fit (now (c .before .before .before .before .before .args .program)) (now (c .before .before .before .before .before .args .store)) _ h (c .before .before .before .before .before .args .made) (c .before .before .before .before .before .pre .1 .0) (c .before .before .before .before .before .pre .1 .1))))
 
 same-length : tie.Need-same-length
 same-length c = search needs
 
 returns : tie.Need-returns
-returns c = c .before .before .copy .ensures (now (c .before .before .before .before .before .before .before .before .args .r))
+returns c = c .before .before .copy .ensures (now (c .before .before .before .before .before .before .before .before .args .registers))
 
 slice-read-if2 : tie.Need-slice-read-if2
 slice-read-if2 c = search needs
@@ -31,8 +31,8 @@ slice-read-if2 c = search needs
 task-last-requires : tie.Need-task-last-requires
 task-last-requires c κs =
     let h = c .before .before .before .before .before .before .before .before .pre .0 in
-    let fit = copies-fit (now (c .before .before .before .before .before .before .before .before .args .p)) (now (c .before .before .before .before .before .before .before .before .args .s)) _ h (c .before .before .before .before .before .before .before .before .args .n) (c .before .before .before .before .before .before .before .before .pre .1 .0) (c .before .before .before .before .before .before .before .before .pre .1 .1) in
-    let l = task-left (now (c .before .before .before .before .before .before .before .before .args .p)) (now (c .before .before .before .before .before .before .before .before .args .s)) _ h (c .before .before .before .before .before .before .before .before .args .n) (c .before .before .before .before .before .before .before .before .pre .1 .0) (c .before .before .before .before .before .before .before .before .pre .1 .1) (c .before .before .if2 .taken) in
+    let fit = copies-fit (now (c .before .before .before .before .before .before .before .before .args .program)) (now (c .before .before .before .before .before .before .before .before .args .store)) _ h (c .before .before .before .before .before .before .before .before .args .made) (c .before .before .before .before .before .before .before .before .pre .1 .0) (c .before .before .before .before .before .before .before .before .pre .1 .1) in
+    let l = task-left (now (c .before .before .before .before .before .before .before .before .args .program)) (now (c .before .before .before .before .before .before .before .before .args .store)) _ h (c .before .before .before .before .before .before .before .before .args .made) (c .before .before .before .before .before .before .before .before .pre .1 .0) (c .before .before .before .before .before .before .before .before .pre .1 .1) (c .before .before .if2 .taken) in
     (omega (arith, h .shaped .shaped .length-is), (omega (arith, c .before .before .before .before .if1 .left), omega (arith, h .shaped .shaped .sizes .most-pairs)))
 
 same-length-2 : tie.Need-same-length-2
@@ -40,14 +40,14 @@ same-length-2 c = search needs
 
 returns-2 : tie.Need-returns-2
 returns-2 c =
-    let s = now (c .before .before .before .before .before .before .before .before .before .before .before .args .s) in
-    c .before .before .task-last .ensures ∙ ap (λ (o : Out). result s o) (sym (task-last (now (c .before .before .before .before .before .before .before .before .before .before .before .args .p)) (view s) (device (c .before .before .before .before .before .before .before .before .before .before .before .args .c) (now (c .before .before .before .before .before .before .before .before .before .before .before .args .r))) (c .before .before .before .before .before .before .before .before .before .before .before .args .n) (c .before .before .before .before .before .before .before .if1 .left) (c .before .before .before .before .before .if2 .taken)))
+    let s = now (c .before .before .before .before .before .before .before .before .before .before .before .args .store) in
+    c .before .before .task-last .ensures ∙ ap (λ (o : Out). ofOutcome s o) (sym (task-last (now (c .before .before .before .before .before .before .before .before .before .before .before .args .program)) (view s) (device (c .before .before .before .before .before .before .before .before .before .before .before .args .core) (now (c .before .before .before .before .before .before .before .before .before .before .before .args .registers))) (c .before .before .before .before .before .before .before .before .before .before .before .args .made) (c .before .before .before .before .before .before .before .if1 .left) (c .before .before .before .before .before .if2 .taken)))
 
 event-last-requires : tie.Need-event-last-requires
 event-last-requires c κs =
     let h = c .before .before .before .before .before .before .before .before .pre .0 in
-    let fit = copies-fit (now (c .before .before .before .before .before .before .before .before .args .p)) (now (c .before .before .before .before .before .before .before .before .args .s)) _ h (c .before .before .before .before .before .before .before .before .args .n) (c .before .before .before .before .before .before .before .before .pre .1 .0) (c .before .before .before .before .before .before .before .before .pre .1 .1) in
-    let l = event-left (now (c .before .before .before .before .before .before .before .before .args .p)) (now (c .before .before .before .before .before .before .before .before .args .s)) _ h (c .before .before .before .before .before .before .before .before .args .n) (c .before .before .before .before .before .before .before .before .pre .1 .0) (c .before .before .before .before .before .before .before .before .pre .1 .1) (c .before .before .if2 .left) in
+    let fit = copies-fit (now (c .before .before .before .before .before .before .before .before .args .program)) (now (c .before .before .before .before .before .before .before .before .args .store)) _ h (c .before .before .before .before .before .before .before .before .args .made) (c .before .before .before .before .before .before .before .before .pre .1 .0) (c .before .before .before .before .before .before .before .before .pre .1 .1) in
+    let l = event-left (now (c .before .before .before .before .before .before .before .before .args .program)) (now (c .before .before .before .before .before .before .before .before .args .store)) _ h (c .before .before .before .before .before .before .before .before .args .made) (c .before .before .before .before .before .before .before .before .pre .1 .0) (c .before .before .before .before .before .before .before .before .pre .1 .1) (c .before .before .if2 .left) in
     (omega (arith, h .shaped .shaped .length-is), (omega (arith, c .before .before .before .before .if1 .left), omega (arith, h .shaped .shaped .sizes .most-pairs)))
 
 same-length-3 : tie.Need-same-length-3
@@ -55,8 +55,8 @@ same-length-3 c = search needs
 
 returns-3 : tie.Need-returns-3
 returns-3 c =
-    let s = now (c .before .before .before .before .before .before .before .before .before .before .before .args .s) in
-    c .before .before .event-last .ensures ∙ ap (λ (o : Out). result s o) (sym (event-last (now (c .before .before .before .before .before .before .before .before .before .before .before .args .p)) (view s) (device (c .before .before .before .before .before .before .before .before .before .before .before .args .c) (now (c .before .before .before .before .before .before .before .before .before .before .before .args .r))) (c .before .before .before .before .before .before .before .before .before .before .before .args .n) (c .before .before .before .before .before .before .before .if1 .left) (c .before .before .before .before .before .if2 .left)))
+    let s = now (c .before .before .before .before .before .before .before .before .before .before .before .args .store) in
+    c .before .before .event-last .ensures ∙ ap (λ (o : Out). ofOutcome s o) (sym (event-last (now (c .before .before .before .before .before .before .before .before .before .before .before .args .program)) (view s) (device (c .before .before .before .before .before .before .before .before .before .before .before .args .core) (now (c .before .before .before .before .before .before .before .before .before .before .before .args .registers))) (c .before .before .before .before .before .before .before .before .before .before .before .args .made) (c .before .before .before .before .before .before .before .if1 .left) (c .before .before .before .before .before .if2 .left)))
 
 pub copy-step-spec : {M : Type 1} → statement M
 copy-step-spec =

@@ -1,7 +1,7 @@
 -- `free_step` meets its contract, by the phase. Assumes nothing.
 use mathlib.Core.Path.{sym, ap, _∙_}
 use denote.Ref.{now}
-use Rattle.device.specs.Turn.{device, result}
+use Rattle.device.specs.Result.{device, ofOutcome}
 use Rattle.model.proofs.DeviceLaws.{free-chooses, free-copies}
 use Rattle.model.specs.Device.{Out}
 use Rattle.model.specs.Store.{view}
@@ -20,10 +20,10 @@ same-length c = search needs
 
 returns : tie.Need-returns
 returns c =
-    let s = now (c .before .before .before .before .before .before .before .args .s) in
-    let p = now (c .before .before .before .before .before .before .before .args .p) in
-    let d = device (c .before .before .before .before .before .before .before .args .c) (now (c .before .before .before .before .before .before .before .args .r)) in
-    c .choose-step .ensures ∙ ap (λ (o : Out). result s o) (sym (free-chooses p (view s) d (c .before .before .before .before .before .before .before .args .n) (c .before .before .before .if1 .taken)))
+    let s = now (c .before .before .before .before .before .before .before .args .store) in
+    let p = now (c .before .before .before .before .before .before .before .args .program) in
+    let d = device (c .before .before .before .before .before .before .before .args .core) (now (c .before .before .before .before .before .before .before .args .registers)) in
+    c .choose-step .ensures ∙ ap (λ (o : Out). ofOutcome s o) (sym (free-chooses p (view s) d (c .before .before .before .before .before .before .before .args .made) (c .before .before .before .if1 .taken)))
 
 copy-step-requires : tie.Need-copy-step-requires
 copy-step-requires c κs = (c .before .before .before .before .before .before .pre .0, (c .before .before .before .before .before .before .pre .1, c .before .before .if1 .left))
@@ -33,10 +33,10 @@ same-length-2 c = search needs
 
 returns-2 : tie.Need-returns-2
 returns-2 c =
-    let s = now (c .before .before .before .before .before .before .before .before .before .args .s) in
-    let p = now (c .before .before .before .before .before .before .before .before .before .args .p) in
-    let d = device (c .before .before .before .before .before .before .before .before .before .args .c) (now (c .before .before .before .before .before .before .before .before .before .args .r)) in
-    c .before .before .copy-step .ensures ∙ ap (λ (o : Out). result s o) (sym (free-copies p (view s) d (c .before .before .before .before .before .before .before .before .before .args .n) (c .before .before .before .before .before .if1 .left)))
+    let s = now (c .before .before .before .before .before .before .before .before .before .args .store) in
+    let p = now (c .before .before .before .before .before .before .before .before .before .args .program) in
+    let d = device (c .before .before .before .before .before .before .before .before .before .args .core) (now (c .before .before .before .before .before .before .before .before .before .args .registers)) in
+    c .before .before .copy-step .ensures ∙ ap (λ (o : Out). ofOutcome s o) (sym (free-copies p (view s) d (c .before .before .before .before .before .before .before .before .before .args .made) (c .before .before .before .before .before .if1 .left)))
 
 pub free-step-spec : {M : Type 1} → statement M
 free-step-spec =

@@ -1,38 +1,59 @@
-use Rattle.model.specs.Device.{handlerStep, handled}
-use Rattle.model.specs.Store.{settled, storedWord, index}
+-- `steps::handler_step` meets its contract, by how many of the three stores are made. Assumes nothing.
+use Prim.Native.Nat.{ℕ}
+use mathlib.Core.Path.{_≡_, ap}
+use native.Mathlib.Omega.{arith}
 use borrow.Author.Needs.{needs}
+use Rattle.device.specs.Result.{device}
+use Rattle.model.specs.Device.{out, storing, recordStores, withHandler, handlerStep}
+use Rattle.model.specs.Store.{Store, view, Tail, Event, Datum, to, after, carried, settled, storedWord, index}
+use Rattle.model.specs.Test.{pick}
+use Rattle.model.specs.declared.Answer.{Answer}
+use Rattle.model.specs.declared.Device.{Device}
+use Rattle.model.specs.declared.Handler.the-variants.{Resting, Storing}
 use Rattle.runtime.proofs.steps.handler_step.Statement.{statement}
 use Rattle.runtime.proofs.steps.handler_step.Tie as tie
-use Rattle.runtime.proofs.steps.handler_step.Reads as reads
-use Rattle.runtime.proofs.steps.handler_step.Lts as lts
-use Rattle.runtime.proofs.steps.working.Reads as working-reads
-use Rattle.store.proofs.queue.slot_after.Reads as slot-after-reads
-use Rattle.store.proofs.queue.write_datum.Reads as write-datum-reads
-use Rattle.store.proofs.queue.write_event.Reads as write-event-reads
+
+module _ (v : Store) (d : Device) (c e x : ℕ) where
+  event-store : c ≡ 0 → handlerStep v d c e x ≡ out (to (Event (v .tail)) e) (withHandler d (Storing 1 e x)) Answer.Stored
+  unfolding handlerStep storing recordStores carried pick
+  event-store h = ap (λ (n : ℕ). handlerStep v d n e x) h
+
+  datum-store : c ≡ 1 → handlerStep v d c e x ≡ out (to (Datum (v .tail)) x) (withHandler d (Storing 2 e x)) Answer.Stored
+  unfolding handlerStep storing recordStores carried pick
+  datum-store h = ap (λ (n : ℕ). handlerStep v d n e x) h
+
+  tail-store : c ≡ 2 → handlerStep v d c e x ≡ out (to Tail (after (v .records) (v .tail))) (withHandler d Resting) Answer.Accepted
+  unfolding handlerStep storing recordStores carried pick
+  tail-store h = ap (λ (n : ℕ). handlerStep v d n e x) h
 
 slice-read-tail : tie.Need-slice-read-tail
 slice-read-tail c = search needs
 
-enum-told : tie.Need-enum-told
-enum-told c = search needs
-
 write-event-requires : tie.Need-write-event-requires
 write-event-requires c κs = search needs
 
-working-requires : tie.Need-working-requires
-working-requires c κs = search needs
+handler-result-requires : tie.Need-handler-result-requires
+handler-result-requires c κs = search needs
 
-enum-told-2 : tie.Need-enum-told-2
-enum-told-2 c = search needs
+same-length : tie.Need-same-length
+same-length c = search needs
+
+returns : tie.Need-returns
+unfolding withHandler
+returns c = λ r. simp (event-store (view (c .before .before .before .before .before .before .before .before .args .store .now)) (device (c .before .before .before .before .before .before .before .before .args .core) r) (c .before .before .before .before .before .before .before .before .args .made) (c .before .before .before .before .before .before .before .before .args .event) (c .before .before .before .before .before .before .before .before .args .datum) (c .before .before .before .before .before .if1 .taken), c .handler-result .ensures, c .before .before .before .write-event .ensures .store, c .before .before .before .write-event .ensures .stored)
 
 write-datum-requires : tie.Need-write-datum-requires
 write-datum-requires c κs = search needs
 
-working-requires-2 : tie.Need-working-requires-2
-working-requires-2 c κs = search needs
+handler-result-requires-2 : tie.Need-handler-result-requires-2
+handler-result-requires-2 c κs = search needs
 
-enum-told-3 : tie.Need-enum-told-3
-enum-told-3 c = search needs
+same-length-2 : tie.Need-same-length-2
+same-length-2 c = search needs
+
+returns-2 : tie.Need-returns-2
+unfolding withHandler
+returns-2 c = λ r. simp (datum-store (view (c .before .before .before .before .before .before .before .before .before .args .store .now)) (device (c .before .before .before .before .before .before .before .before .before .args .core) r) (c .before .before .before .before .before .before .before .before .before .args .made) (c .before .before .before .before .before .before .before .before .before .args .event) (c .before .before .before .before .before .before .before .before .before .args .datum) (c .before .before .before .before .before .if2 .taken), c .handler-result2 .ensures, c .before .before .before .write-datum .ensures .store, c .before .before .before .write-datum .ensures .stored)
 
 slice-read-slot-after : tie.Need-slice-read-slot-after
 slice-read-slot-after c = search needs
@@ -40,52 +61,35 @@ slice-read-slot-after c = search needs
 slot-after-requires : tie.Need-slot-after-requires
 slot-after-requires c κs = search needs
 
-slice-write-s : tie.Need-slice-write-s
-slice-write-s c = search needs
+slice-write-store : tie.Need-slice-write-store
+slice-write-store c = search needs
 
-working-requires-3 : tie.Need-working-requires-3
-working-requires-3 c κs = search needs
-
-same-length : tie.Need-same-length
-same-length c = search needs
-
-returns : tie.Need-returns
-unfolding handlerStep handled
-returns c = λ r. simp (c .before .before .before .before .before .enum-told .given .1, c .working .ensures, c .before .before .before .write-event .ensures .store, c .before .before .before .write-event .ensures .stored)
-
-same-length-2 : tie.Need-same-length-2
-same-length-2 c = search needs
-
-returns-2 : tie.Need-returns-2
-unfolding handlerStep handled
-returns-2 c = λ r. simp (c .before .before .before .before .before .enum-told2 .given .1, c .working2 .ensures, c .before .before .before .write-datum .ensures .store, c .before .before .before .write-datum .ensures .stored)
+handler-result-requires-3 : tie.Need-handler-result-requires-3
+handler-result-requires-3 c κs = search needs
 
 same-length-3 : tie.Need-same-length-3
 same-length-3 c = search needs
 
 returns-3 : tie.Need-returns-3
-unfolding handlerStep handled settled storedWord index
-returns-3 c = λ r. simp (c .before .before .before .enum-told3 .given .1, c .working3 .ensures, c .before .slot-after .ensures)
+unfolding withHandler settled storedWord index
+returns-3 c = λ r. simp (tail-store (view (c .before .before .before .before .before .before .before .args .store .now)) (device (c .before .before .before .before .before .before .before .args .core) r) (c .before .before .before .before .before .before .before .args .made) (c .before .before .before .before .before .before .before .args .event) (c .before .before .before .before .before .before .before .args .datum) (omega (arith, c .before .before .before .before .if1 .left, c .before .before .before .if2 .left, c .before .before .before .before .before .before .before .pre .1 .1)), c .handler-result3 .ensures, c .before .slot-after .ensures)
 
 pub handler-step-spec : {M : Type 1} → statement M
 handler-step-spec =
     tie.close
     (tie.spec
     slice-read-tail
-    enum-told
     write-event-requires
-    working-requires
-    enum-told-2
-    write-datum-requires
-    working-requires-2
-    enum-told-3
-    slice-read-slot-after
-    slot-after-requires
-    slice-write-s
-    working-requires-3
+    handler-result-requires
     same-length
     returns
+    write-datum-requires
+    handler-result-requires-2
     same-length-2
     returns-2
+    slice-read-slot-after
+    slot-after-requires
+    slice-write-store
+    handler-result-requires-3
     same-length-3
     returns-3)

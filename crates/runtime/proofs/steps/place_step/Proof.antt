@@ -3,7 +3,7 @@ use mathlib.Core.Logic.{⊎-elim}
 use mathlib.Core.Path.{sym, ap, _∙_}
 use native.Mathlib.Omega.{arith}
 use denote.Ref.{now}
-use Rattle.device.specs.Turn.{device, result}
+use Rattle.device.specs.Result.{device, ofOutcome}
 use Rattle.model.specs.Device.{placeStep}
 use Rattle.model.specs.Store.{view}
 use Rattle.model.specs.declared.Place.{Place}
@@ -31,10 +31,10 @@ same-length-2 c = search needs
 
 returns-2 : tie.Need-returns-2
 returns-2 c =
-    let s = now (c .before .before .before .before .before .before .before .before .before .before .args .s) in
-    let p = now (c .before .before .before .before .before .before .before .before .before .before .args .p) in
-    let d = device (c .before .before .before .before .before .before .before .before .before .before .args .c) (now (c .before .before .before .before .before .before .before .before .before .before .args .r)) in
-    c .before .before .free-step .ensures ∙ ap (λ (x : Place). result s (placeStep p (view s) d x)) (sym (c .before .before .before .before .before .before .place .given .1))
+    let s = now (c .before .before .before .before .before .before .before .before .before .before .args .store) in
+    let p = now (c .before .before .before .before .before .before .before .before .before .before .args .program) in
+    let d = device (c .before .before .before .before .before .before .before .before .before .before .args .core) (now (c .before .before .before .before .before .before .before .before .before .before .args .registers)) in
+    c .before .before .free-step .ensures ∙ ap (λ (x : Place). ofOutcome s (placeStep p (view s) d x)) (sym (c .before .before .before .before .before .before .place .given .1))
 
 pub place-step-spec : {M : Type 1} → statement M
 place-step-spec =

@@ -9,12 +9,12 @@ use Rattle.model.specs.Test.{pick}
 use Rattle.model.specs.declared.Totals.{Totals}
 use Rattle.device.proofs.Agree.{same-number}
 use Rattle.device.specs.Agree.{Performs}
-use Rattle.device.specs.Turn.{Result}
+use Rattle.device.specs.Result.{Result}
 use Rattle.totals.proofs.CountLaws.{counted-is}
 use Rattle.totals.specs.Counted.{countedFrom}
 
-pub told-is-counted : (p s : List ℕ) (o : Out) (r : Result) (t : Totals) → Performs p s o r → countedFrom t (r .answer) (r .stored) ≡ counted t o
+pub counted-as-told : (p s : List ℕ) (o : Out) (r : Result) (t : Totals) → Performs p s o r → countedFrom t (r .answer) (r .stored) ≡ counted t o
 unfolding countedFrom oneIf isCommit acceptedEvents pick
-told-is-counted p s o r t h =
+counted-as-told p s o r t h =
     simp (same-number (λ a. oneIf (isCommit a)) (λ w. refl) (h .answer), same-number acceptedEvents (λ w. refl) (h .answer), h .stored)
     (sym (counted-is s t o))

@@ -1,0 +1,45 @@
+-- What a run leaves, from the code's result, and what it promises: steps, device, store and totals as defined, and the end as defined up
+-- to the place in 7. The rules that blame it are those of the store before the refused step, which is the store that the run leaves.
+-- Assumes nothing.
+use Prim.Native.Nat.{ℕ}
+use mathlib.Core.List.{List}
+use mathlib.Core.Path.{_≡_}
+use Rattle.device.specs.Agree.{Agrees}
+use Rattle.device.specs.Result.{Result, device, ofOutcome}
+use Rattle.device.specs.declared.Core.{Core}
+use Rattle.model.specs.Calls.{Ran as Defined, run}
+use Rattle.model.specs.Control.{rules}
+use Rattle.model.specs.Device.{step}
+use Rattle.model.specs.Store.{view}
+use Rattle.model.specs.declared.Answer.{Answer}
+use Rattle.model.specs.declared.Device.{Device}
+use Rattle.model.specs.declared.Ended.{Ended}
+use Rattle.model.specs.declared.Stored.{Stored}
+use Rattle.model.specs.declared.Totals.{Totals}
+use Rattle.runtime.specs.declared.CoreRunResult.{CoreRunResult}
+use Rattle.runtime.specs.declared.RunResult.{RunResult}
+
+abbrev pub coreRunResult : Answer → Stored → ℕ → Ended → Core → Totals → CoreRunResult
+coreRunResult a w n e c t = record { last = a; stored = w; steps = n; ended = e; core = c; totals = t }
+
+-- with registers r and the words s
+abbrev pub ofCoreRun : CoreRunResult → List ℕ → List ℕ → Defined
+ofCoreRun x r s = record { steps = x .steps; ended = x .ended; store = s; device = device (x .core) r; totals = x .totals }
+
+-- the answer of its last step, refused or not, and the word that this step stored, with the same
+abbrev pub ofLast : CoreRunResult → List ℕ → List ℕ → Result
+ofLast x r s = record { answer = x .last; stored = x .stored; device = device (x .core) r; store = s }
+
+-- Steps up to budget b of program p, on the words s, device d and totals t, left x with registers r and the words z. What the last one
+-- answered is told of a single step alone.
+pub record CoreRuns (p : List ℕ) (b : ℕ) (s : List ℕ) (d : Device) (t : Totals) (x : CoreRunResult) (r z : List ℕ) : Type 0 where
+  pub run : ofCoreRun x r z ≡ run p b s d t
+  pub single : b ≡ 1 → ofLast x r z ≡ ofOutcome s (step p s d)
+
+-- A run of program p left x and the words s, where o is defined.
+pub record RunPerforms (p : List ℕ) (o : Defined) (x : RunResult) (s : List ℕ) : Type 0 where
+  pub steps : x .steps ≡ o .steps
+  pub ended : Agrees (rules p (view (o .store))) Ended.Refused (o .ended) (x .ended)
+  pub device : x .device ≡ o .device
+  pub store : s ≡ o .store
+  pub totals : x .totals ≡ o .totals
