@@ -22,6 +22,7 @@ use model::Answer;
 use model::Checked;
 use model::Device;
 use model::Ended;
+use model::Refusal;
 use model::Stored;
 use model::Totals;
 
@@ -114,22 +115,22 @@ fn step_known(
     }
 }
 
-// What the steps made so far leave, with how they end.
-fn run_result(
+// What steps leave that a refusal ends.
+fn refused_run(
     last: Answer,
     stored: Stored,
     steps: u32,
-    ended: Ended,
+    why: Refusal,
     core: Core,
     totals: Totals,
 ) -> CoreRunResult
-    ensures { λ r. ⌜ r ≡ coreRunResult last stored steps ended core totals ⌝ }
+    ensures { λ r. ⌜ r ≡ coreRunResult last stored steps (Ended.Refused why) core totals ⌝ }
 {
     CoreRunResult {
         last,
         stored,
         steps,
-        ended,
+        ended: Ended::Refused(why),
         core,
         totals,
     }
@@ -145,8 +146,7 @@ fn run_in(
     totals: Totals,
     budget: u32,
 ) -> CoreRunResult
-    ensures { λ r.
-        ⌜ CoreRuns (now (program .entry)) budget (now (store .entry)) (device core (now (registers .entry))) totals
+    ensures { λ r. ⌜ CoreRuns (now (program .entry)) budget (now (store .entry)) (device core (now (registers .entry))) totals
         r (now (registers .exit)) (now (store .exit)) ⌝ }
 {
     let mut last = Answer::Done;
@@ -162,13 +162,20 @@ fn run_in(
         core = step.core;
         let found = refusal(last);
         if let Checked::Refused(why) = found {
-            return run_result(last, stored, steps, Ended::Refused(why), core, totals);
+            return refused_run(last, stored, steps, why, core, totals);
         }
         totals = totals::counted(totals, last, stored);
         known = sound_after(last);
         steps += 1;
     }
-    run_result(last, stored, steps, Ended::Spent, core, totals)
+    CoreRunResult {
+        last,
+        stored,
+        steps,
+        ended: Ended::Spent,
+        core,
+        totals,
+    }
 }
 
 // A device from its core and its registers.

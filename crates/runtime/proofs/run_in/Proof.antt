@@ -63,8 +63,8 @@ refusal-requires c κs = search needs
 enum-known-found : tie.Need-enum-known-found Inv-loop μ-loop
 enum-known-found c = search needs
 
-run-result-requires : tie.Need-run-result-requires Inv-loop μ-loop
-run-result-requires c κs = search needs
+refused-run-requires : tie.Need-refused-run-requires Inv-loop μ-loop
+refused-run-requires c κs = search needs
 
 same-length : tie.Need-same-length Inv-loop μ-loop
 same-length c = ap (λ (x : Result). length (x .store)) (c .before .before .before .before .before .before .before .before .step-known .ensures) ∙ settled-length (c .before .before .before .before .before .before .before .before .before .before .before .before .loop .store) _ ∙ c .before .before .before .before .before .before .before .before .before .before .before .before .loop .inv .1
@@ -81,10 +81,10 @@ returns c =
     let left : k ≡ suc j = omega (arith, c .before .before .before .before .before .before .before .before .before .before .before .loop-test .taken) in
     let q = c .before .before .before .before .before .before .before .before .step-known .ensures in
     record {
-      run = rw (c .run-result .ensures) (ap (λ (x : Result). ended n (Ended.Refused (c .before .before .found .given .0 .0)) (x .store) (x .device) t) q
+      run = rw (c .refused-run .ensures) (ap (λ (x : Result). ended n (Ended.Refused (c .before .before .found .given .0 .0)) (x .store) (x .device) t) q
           ∙ sym (run-stops p k j n s d t left (ap (λ (x : Result). refusalOf (x .answer)) (sym q) ∙ sym (c .before .before .before .before .refusal .ensures) ∙ c .before .before .found .given .1))
           ∙ c .before .before .before .before .before .before .before .before .before .before .before .before .loop .inv .2);
-      single = λ one. rw (c .run-result .ensures) (q ∙ c .before .before .before .before .before .before .before .before .before .before .before .before .loop .inv .4 (omega (arith, one, c .before .before .before .before .before .before .before .before .before .before .before .loop-test .taken)));
+      single = λ one. rw (c .refused-run .ensures) (q ∙ c .before .before .before .before .before .before .before .before .before .before .before .before .loop .inv .4 (omega (arith, one, c .before .before .before .before .before .before .before .before .before .before .before .loop-test .taken)));
     }
 
 enum-told : tie.Need-enum-told Inv-loop μ-loop
@@ -126,21 +126,18 @@ loop-again c =
       λ one. q ∙ c .before .before .before .before .before .before .before .before .before .before .before .before .loop .inv .4 (omega (arith, one)),
     )
 
-run-result-requires-2 : tie.Need-run-result-requires-2 Inv-loop μ-loop
-run-result-requires-2 c κs = search needs
-
 same-length-2 : tie.Need-same-length-2 Inv-loop μ-loop
-same-length-2 c = c .before .before .loop .inv .1
+same-length-2 c = c .before .loop .inv .1
 
 returns-2 : tie.Need-returns-2 Inv-loop μ-loop
 returns-2 c =
-    let p = now (c .before .before .before .before .before .args .program) in
-    let n = c .before .before .loop .steps in
-    let d = device (c .before .before .loop .core) (c .before .before .loop .registers) in
-    let e : 0 ≡ c .before .before .before .before .before .args .budget - n = omega (arith, c .before .loop-test .left) in
+    let p = now (c .before .before .before .before .args .program) in
+    let n = c .before .loop .steps in
+    let d = device (c .before .loop .core) (c .before .loop .registers) in
+    let e : 0 ≡ c .before .before .before .before .args .budget - n = omega (arith, c .loop-test .left) in
     record {
-      run = rw (c .run-result2 .ensures) (sym (run-spent p n (c .before .before .loop .store) d (c .before .before .loop .totals)) ∙ ap (λ (k : ℕ). runFrom p k n (c .before .before .loop .store) d (c .before .before .loop .totals)) e ∙ c .before .before .loop .inv .2);
-      single = λ one. rw (c .run-result2 .ensures) (c .before .before .loop .inv .5 (omega (arith, one, c .before .loop-test .left, c .before .before .loop .inv .0)));
+      run = (sym (run-spent p n (c .before .loop .store) d (c .before .loop .totals)) ∙ ap (λ (k : ℕ). runFrom p k n (c .before .loop .store) d (c .before .loop .totals)) e ∙ c .before .loop .inv .2);
+      single = λ one. (c .before .loop .inv .5 (omega (arith, one, c .loop-test .left, c .before .loop .inv .0)));
     }
 
 pub run-in-spec : {M : Type 1} → statement M
@@ -153,7 +150,7 @@ run-in-spec =
     step-known-requires
     refusal-requires
     enum-known-found
-    run-result-requires
+    refused-run-requires
     same-length
     returns
     enum-told
@@ -162,6 +159,5 @@ run-in-spec =
     add-steps
     loop-less
     loop-again
-    run-result-requires-2
     same-length-2
     returns-2)
