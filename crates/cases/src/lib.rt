@@ -4,7 +4,7 @@ ghost use mathlib.Core.List.{[], _∷_};
 ghost use mathlib.Core.Path.{_≡_};
 ghost use Rattle.model.specs.Starred.{counting};
 ghost use Rattle.cases.specs.Seen.{none, storeAfter, cutAfter, furtherPost};
-use device::look;
+use device::calls;
 use model::Answer;
 use model::Device;
 use model::Refusal;
@@ -14,7 +14,7 @@ use store::format;
 
 // "M 2, T 1, E 1, 26 words"
 pub fn counting() -> [u16; 26]
-    ensures { λ p. ⌜ p ≡ counting ⌝ }
+    ensures { λ program. ⌜ program ≡ counting ⌝ }
 {
     [
         0xC0B1,
@@ -47,7 +47,7 @@ pub fn counting() -> [u16; 26]
 }
 
 fn none() -> Totals
-    ensures { λ t. ⌜ t ≡ none ⌝ }
+    ensures { λ totals. ⌜ totals ≡ none ⌝ }
 {
     Totals {
         committed: 0,
@@ -56,26 +56,26 @@ fn none() -> Totals
     }
 }
 
-// On a store formatted with L and Q 1: boot, n steps, a cut, a boot, m steps.
-fn cut_in(p: &[u16], s: &mut [u16], n: u32, m: u32)
-    ensures { λ _. ⌜ now (s .exit) ≡ storeAfter (now (p .entry)) (now (s .entry)) n m ⌝ }
+// On a store formatted with L and Q 1: boot, steps, a cut, a boot, recovery steps.
+fn cut_in(program: &[u16], store: &mut [u16], steps: u32, recovery: u32)
+    ensures { λ _. ⌜ now (store .exit) ≡ storeAfter (now (program .entry)) (now (store .entry)) steps recovery ⌝ }
 {
-    let _ = format::format(p, 1, 1, s);
-    let on = look::boot(p, s, Device::OFF);
-    let _ = runtime::run(p, s, on.device, none(), n);
-    let off = look::cut();
-    let again = look::boot(p, s, off.device);
-    let _ = runtime::run(p, s, again.device, none(), m);
+    let _ = format::format(program, 1, 1, store);
+    let on = calls::boot(program, store, Device::OFF);
+    let _ = runtime::run(program, store, on.device, none(), steps);
+    let off = calls::cut();
+    let again = calls::boot(program, store, off.device);
+    let _ = runtime::run(program, store, again.device, none(), recovery);
 }
 
 // The phase, and memory words 0 and 1, after that.
-pub fn cut_after(n: u32, m: u32) -> [u16; 3]
-    ensures { λ r. ⌜ r ≡ cutAfter n m ⌝ }
+pub fn cut_after(steps: u32, recovery: u32) -> [u16; 3]
+    ensures { λ r. ⌜ r ≡ cutAfter steps recovery ⌝ }
 {
-    let p = counting();
-    let mut s = [0; 24];
-    cut_in(&p, &mut s, n, m);
-    [s[8], s[16], s[17]]
+    let program = counting();
+    let mut store = [0; 24];
+    cut_in(&program, &mut store, steps, recovery);
+    [store[8], store[16], store[17]]
 }
 
 // "Boot, 9 steps, cut: recovered memory 0, 0."
@@ -99,23 +99,24 @@ pub fn ten_steps_but_one() -> [u16; 3]
     cut_after(10, 3)
 }
 
-// On a store formatted with L and Q 1: boot, a post, n steps; what a further post answers.
-fn post_in(p: &[u16], s: &mut [u16], n: u32) -> Answer
-    ensures { λ a. ⌜ (furtherPost (now (p .entry)) (now (s .entry)) n ≡ Answer.Refused Refusal.QueueFull → a ≡ Answer.Refused Refusal.QueueFull) ⌝ }
+// On a store formatted with L and Q 1: boot, a post, steps; what a further post answers.
+fn post_in(program: &[u16], store: &mut [u16], steps: u32) -> Answer
+    ensures { λ answer. ⌜ (furtherPost (now (program .entry)) (now (store .entry)) steps ≡ Answer.Refused Refusal.QueueFull
+        → answer ≡ Answer.Refused Refusal.QueueFull) ⌝ }
 {
-    let _ = format::format(p, 1, 1, s);
-    let on = look::boot(p, s, Device::OFF);
-    let posted = look::post(p, s, on.device, 0, 7);
-    let ran = runtime::run(p, s, posted.device, none(), n);
-    let further = look::post(p, s, ran.device, 0, 7);
+    let _ = format::format(program, 1, 1, store);
+    let on = calls::boot(program, store, Device::OFF);
+    let posted = calls::post(program, store, on.device, 0, 7);
+    let ran = runtime::run(program, store, posted.device, none(), steps);
+    let further = calls::post(program, store, ran.device, 0, 7);
     further.answer
 }
 
 // "Post and 3 steps: accepted. A further post before the event commits: 21."
 pub fn further_post() -> Answer
-    ensures { λ a. ⌜ a ≡ Answer.Refused Refusal.QueueFull ⌝ }
+    ensures { λ answer. ⌜ answer ≡ Answer.Refused Refusal.QueueFull ⌝ }
 {
-    let p = counting();
-    let mut s = [0; 24];
-    post_in(&p, &mut s, 3)
+    let program = counting();
+    let mut store = [0; 24];
+    post_in(&program, &mut store, 3)
 }

@@ -7,8 +7,8 @@ use mathlib.Core.Logic.{_≢_}
 use mathlib.Core.Path.{_≡_, refl, sym, ap, _∙_, subst}
 use native.Mathlib.Omega.{arith}
 use Rattle.model.proofs.TestLaws.{impossible}
-use Rattle.exports.specs.Demand3.{Held, Exchange, single, run-of, Makes, MakesAll, callsOf, allCalls, Answered, AllAnswered, RecoversTo, ExportsObserved, atFirst, Demand3OfExports}
-use Rattle.exports.specs.Exported.{wordsOf, Told, RunTold, totalsOf, totalsWords}
+use Rattle.exports.specs.Demand3.{Exchange, single, run-of, Makes, MakesAll, callsOf, allCalls, Answered, AllAnswered, RecoversTo, ExportsObserved, atFirst, Demand3OfExports}
+use Rattle.exports.specs.Exported.{Held, wordsOf, PerformsInWords, RunPerformsInWords, totalsOf, totalsWords}
 use Rattle.model.proofs.CallLaws.{after-append, totals-append, boot-counts-nothing, cut-counts-nothing, post-counts-nothing, run-is-steps, totals-are-counts}
 use Rattle.model.proofs.Demand3.{demand3}
 use Rattle.model.proofs.Observed.{observed}
@@ -88,11 +88,11 @@ module _ (p : List ℕ) (ps : Words p) (l q : ℕ) (before : List ℕ) (e : form
 
     -- ---- a call of its own
 
-    did : (c : Call) (a : List ℕ) (g : Held) (z : List ℕ) → Told c p (h .store) (call p (h .store) D c) a (g .device) z → g .store ≡ z
+    did : (c : Call) (a : List ℕ) (g : Held) (z : List ℕ) → PerformsInWords c p (h .store) (call p (h .store) D c) a (g .device) z → g .store ≡ z
         → g .totals ≡ totalsWords (counted T (call p S D c)) → Did p s cs c a g
     did c a g z told stays totals =
         let (r, performs, said, device) =
-        subst (λ (u : List ℕ). Told c p u (call p u D c) a (g .device) z) (at .store) told in
+        subst (λ (u : List ℕ). PerformsInWords c p u (call p u D c) a (g .device) z) (at .store) told in
         record {
           answered =
               said
@@ -162,7 +162,7 @@ module _ (p : List ℕ) (ps : Words p) (l q : ℕ) (before : List ℕ) (e : form
           let met = demand3 p l q before e (cs ++ steps (ran .steps)) .refusals Step in
           no-control Step w _ (subst (λ (x : Now). Expected Step (call p (x .store) (x .device) Step .answer)) ran-now met) answered
 
-      did-run : (n : ℕ) (a : List ℕ) (g : Held) → RunTold p ran n a (g .device) (g .store) (g .totals)
+      did-run : (n : ℕ) (a : List ℕ) (g : Held) → RunPerformsInWords p ran n a g
           → Answered p s cs (run-of b n a) × At p s (cs ++ steps n) g
       did-run n a g (r, performs, count, said, device, totals) =
           let count-is : n ≡ ran .steps = count ∙ performs .steps in
@@ -182,10 +182,10 @@ module _ (p : List ℕ) (ps : Words p) (l q : ℕ) (before : List ℕ) (e : form
             subst (λ (k : ℕ). At p s (cs ++ steps k) g) (sym count-is) left,
           )
 
-    run-read : (b n : ℕ) (a : List ℕ) (g : Held) → Makes p h (run-of b n a) g → RunTold p (ran b) n a (g .device) (g .store) (g .totals)
+    run-read : (b n : ℕ) (a : List ℕ) (g : Held) → Makes p h (run-of b n a) g → RunPerformsInWords p (ran b) n a g
     run-read b n a g m =
-        let read-store = subst (λ (u : List ℕ). RunTold p (run p b u D (totalsOf (h .totals))) n a (g .device) (g .store) (g .totals)) (at .store) (m .state D read) in
-        subst (λ (t : Totals). RunTold p (run p b S D t) n a (g .device) (g .store) (g .totals)) (ap totalsOf (at .totals) ∙ totals-read T) read-store
+        let read-store = subst (λ (u : List ℕ). RunPerformsInWords p (run p b u D (totalsOf (h .totals))) n a g) (at .store) (m .state D read) in
+        subst (λ (t : Totals). RunPerformsInWords p (run p b S D t) n a g) (ap totalsOf (at .totals) ∙ totals-read T) read-store
 
     -- ---- an exported call
 

@@ -7,7 +7,7 @@ use lib.ListN.{replicate}
 use mathlib.Core.List.{List, [], _∷_, _++_}
 use mathlib.Core.Logic.{_≢_}
 use mathlib.Core.Path.{_≡_}
-use Rattle.exports.specs.Exported.{Formats, Boots, Posts, Cuts, Steps, Runs, wordsOf, totalsOf}
+use Rattle.exports.specs.Exported.{Held, holding, Formats, Boots, Posts, Cuts, Steps, Runs, wordsOf, totalsOf}
 use Rattle.model.specs.Calls.{Call, Boot, Step, Cut, Post, call, afterCalls, steps, noTotals, totalsAfter, run}
 use Rattle.model.specs.Claims.{Words, CallWords, AreCounts}
 use Rattle.model.specs.Demand3.{Left, recoverySteps, Observed}
@@ -17,12 +17,6 @@ use Rattle.model.specs.Store.{view, storedWord}
 use Rattle.model.specs.declared.Checked.{Checked}
 use Rattle.words.specs.Words.{deviceWords, endedWords, checkedWords}
 
--- what a host holds: the store's words, the device's 18 words and the totals' three numbers
-pub record Held : Type 0 where
-  pub store : List ℕ
-  pub device : List ℕ
-  pub totals : List ℕ
-
 -- an exported call with its answer: runtime_boot, runtime_step, runtime_post or runtime_cut; or runtime_run of a budget, with the steps returned
 pub data Exchange : Type 0 where
   single : Call → (answer : List ℕ) → Exchange
@@ -31,11 +25,11 @@ pub data Exchange : Type 0 where
 -- the promise of a call that a host makes, holding h before and g after it. What a function isn't lent stays.
 abbrev pub Makes : List ℕ → Held → Exchange → Held → Type 0
 Makes p h (single Boot a) g = Boots p (h .store) (h .device) a (g .device) × (g .store ≡ h .store) × (g .totals ≡ h .totals)
-Makes p h (single Step a) g = Steps p (h .store) (h .device) (h .totals) a (g .store) (g .device) (g .totals)
+Makes p h (single Step a) g = Steps p h a g
 Makes p h (single Cut a) g = Cuts a (g .device) × (g .store ≡ h .store) × (g .totals ≡ h .totals)
 Makes p h (single (Post e v) a) g =
     Posts p (h .store) (h .device) e v a (g .device) × (g .store ≡ h .store) × (g .totals ≡ h .totals) × CallWords (Post e v)
-Makes p h (run-of b n a) g = Runs p (h .store) (h .device) (h .totals) b n a (g .store) (g .device) (g .totals)
+Makes p h (run-of b n a) g = Runs p h b n a g
 
 -- a list of them, from h to g
 unfoldable pub MakesAll : List ℕ → Held → List Exchange → Held → Type 0
@@ -83,7 +77,7 @@ pub record ExportsObserved (p s : List ℕ) (xs : List Exchange) (g : Held) : Ty
 
 -- the words that a host has before its first call
 abbrev pub atFirst : List ℕ → Held
-atFirst s = record { store = s; device = replicate 18 0; totals = replicate 3 0 }
+atFirst s = holding s (replicate 18 0) (replicate 3 0)
 
 abbrev pub Demand3OfExports : Type 0
 Demand3OfExports =

@@ -6,8 +6,8 @@ use Prim.Native.Nat.{ℕ}
 use mathlib.Core.List.{List, [], _∷_}
 use mathlib.Core.Path.{_≡_}
 use Rattle.device.specs.Agree.{Performs}
-use Rattle.device.specs.Turn.{afterCall}
-use Rattle.device.specs.declared.Stepped.{Stepped}
+use Rattle.device.specs.Result.{ofCall}
+use Rattle.device.specs.declared.CallResult.{CallResult}
 use Rattle.model.specs.Calls.{Call, Boot, Step, Cut, Post, Ran as Defined, counted, run}
 use Rattle.model.specs.Check.{check}
 use Rattle.model.specs.Device.{Out, boot, post, step, off}
@@ -17,9 +17,18 @@ use Rattle.model.specs.declared.Answer.{Answer}
 use Rattle.model.specs.declared.Device.{Device}
 use Rattle.model.specs.declared.Stored.{Stored}
 use Rattle.model.specs.declared.Totals.{Totals}
-use Rattle.runtime.specs.Ran.{RunPerforms}
-use Rattle.runtime.specs.declared.Ran.{Ran}
+use Rattle.runtime.specs.RunResult.{RunPerforms}
+use Rattle.runtime.specs.declared.RunResult.{RunResult}
 use Rattle.words.specs.Words.{deviceOf, known, unknown, deviceWords, answerWords, endedWords, checkedWords, unknownWords, stepWords, unknownStepWords}
+
+-- what a host holds: the store's words, the device's 18 words and the totals' three numbers
+pub record Held : Type 0 where
+  pub store : List ℕ
+  pub device : List ℕ
+  pub totals : List ℕ
+
+abbrev pub holding : List ℕ → List ℕ → List ℕ → Held
+holding s x t = record { store = s; device = x; totals = t }
 
 -- K of the device state whose words these are; U where they are none's
 pub record OnDevice (w : List ℕ) (K : Device → Type 0) (U : Type 0) : Type 0 where
@@ -40,46 +49,60 @@ wordsOf Step a w = stepWords a w
 wordsOf Cut a w = answerWords a
 wordsOf (Post e v) a w = answerWords a
 
--- Call c of program p on the words s, for which o is defined, left the answer a, the device words x and the words z.
-abbrev pub Told : Call → List ℕ → List ℕ → Out → List ℕ → List ℕ → List ℕ → Type 0
-Told c p s o a x z =
-    (r : Stepped) × Performs p s o (afterCall r z) × (a ≡ wordsOf c (r .answer) (r .stored)) × (x ≡ deviceWords (r .device))
+-- Call c of program p on the words s, for which o is defined, left the answer a, the device words x and the words z: some result performs
+-- it, and these are its words.
+abbrev pub PerformsInWords : Call → List ℕ → List ℕ → Out → List ℕ → List ℕ → List ℕ → Type 0
+PerformsInWords c p s o a x z =
+    (r : CallResult) × Performs p s o (ofCall r z) × (a ≡ wordsOf c (r .answer) (r .stored)) × (x ≡ deviceWords (r .device))
 
--- A run of program p, for which o is defined, left n, the answer a, the device words x, the words z and the totals t.
-abbrev pub RunTold : List ℕ → Defined → ℕ → List ℕ → List ℕ → List ℕ → List ℕ → Type 0
-RunTold p o n a x z t =
-    (r : Ran) × RunPerforms p o r z × (n ≡ r .steps) × (a ≡ endedWords (r .ended)) × (x ≡ deviceWords (r .device)) × (t ≡ totalsWords (r .totals))
+-- A run of program p, for which o is defined, returned n and left the answer a and g, likewise.
+abbrev pub RunPerformsInWords : List ℕ → Defined → ℕ → List ℕ → Held → Type 0
+RunPerformsInWords p o n a g =
+    (r : RunResult)
+    × RunPerforms p o r (g .store)
+    × (n ≡ r .steps)
+    × (a ≡ endedWords (r .ended))
+    × (g .device ≡ deviceWords (r .device))
+    × (g .totals ≡ totalsWords (r .totals))
 
--- ---- What each function promises. Of program p, store s, device words x and totals t as they were: the answer a, and z, y and u, the store, the
--- device words and the totals as they are.
+-- ---- What each function promises, of program p: the answer a. Boot, post and cut: of store s and device words x as they were, and y, the
+-- device words as they are. Step and run: of what the host held, h, and holds, g.
 
 -- runtime_check
 abbrev pub Checks : List ℕ → List ℕ → Type 0
 Checks p a = a ≡ checkedWords (check p)
 
--- runtime_format, with L l and Q q
+-- runtime_format, with L l and Q q: the store was s and is z
 abbrev pub Formats : List ℕ → ℕ → ℕ → List ℕ → List ℕ → List ℕ → Type 0
 Formats p l q s a z = (a ≡ checkedWords (formatCheck p l q s)) × (z ≡ format p l q s)
 
 -- runtime_boot
 abbrev pub Boots : List ℕ → List ℕ → List ℕ → List ℕ → List ℕ → Type 0
-Boots p s x a y = OnDevice x (λ d. Told Boot p s (boot p s d) a y s) ((a ≡ unknownWords) × (y ≡ x))
+Boots p s x a y = OnDevice x (λ d. PerformsInWords Boot p s (boot p s d) a y s) ((a ≡ unknownWords) × (y ≡ x))
 
 -- runtime_post of event e with data v
 abbrev pub Posts : List ℕ → List ℕ → List ℕ → ℕ → ℕ → List ℕ → List ℕ → Type 0
-Posts p s x e v a y = OnDevice x (λ d. Told (Post e v) p s (post p s d e v) a y s) ((a ≡ unknownWords) × (y ≡ x))
+Posts p s x e v a y = OnDevice x (λ d. PerformsInWords (Post e v) p s (post p s d e v) a y s) ((a ≡ unknownWords) × (y ≡ x))
 
 -- runtime_cut
 abbrev pub Cuts : List ℕ → List ℕ → Type 0
 Cuts a y = (a ≡ answerWords Answer.Done) × (y ≡ deviceWords off)
 
+-- where nothing is changed of what a host holds
+abbrev pub Unchanged : Held → Held → Type 0
+Unchanged h g = (g .device ≡ h .device) × (g .store ≡ h .store) × (g .totals ≡ h .totals)
+
 -- runtime_step
-abbrev pub Steps : List ℕ → List ℕ → List ℕ → List ℕ → List ℕ → List ℕ → List ℕ → List ℕ → Type 0
-Steps p s x t a z y u =
-    OnDevice x (λ d. Told Step p s (step p s d) a y z × (u ≡ totalsWords (counted (totalsOf t) (step p s d))))
-    ((a ≡ unknownStepWords) × (y ≡ x) × (z ≡ s) × (u ≡ t))
+abbrev pub Steps : List ℕ → Held → List ℕ → Held → Type 0
+Steps p h a g =
+    OnDevice (h .device)
+    (λ d.
+    PerformsInWords Step p (h .store) (step p (h .store) d) a (g .device) (g .store)
+    × (g .totals ≡ totalsWords (counted (totalsOf (h .totals)) (step p (h .store) d))))
+    ((a ≡ unknownStepWords) × Unchanged h g)
 
 -- runtime_run with a budget of b, which returned n
-abbrev pub Runs : List ℕ → List ℕ → List ℕ → List ℕ → ℕ → ℕ → List ℕ → List ℕ → List ℕ → List ℕ → Type 0
-Runs p s x t b n a z y u =
-    OnDevice x (λ d. RunTold p (run p b s d (totalsOf t)) n a y z u) ((n ≡ 0) × (a ≡ unknownWords) × (y ≡ x) × (z ≡ s) × (u ≡ t))
+abbrev pub Runs : List ℕ → Held → ℕ → ℕ → List ℕ → Held → Type 0
+Runs p h b n a g =
+    OnDevice (h .device) (λ d. RunPerformsInWords p (run p b (h .store) d (totalsOf (h .totals))) n a g)
+    ((n ≡ 0) × (a ≡ unknownWords) × Unchanged h g)

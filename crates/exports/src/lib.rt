@@ -1,12 +1,10 @@
 // The functions that a bench links, from C or Rust: include/runtime.h declares them and docs/USING.md explains them.
 // No enum crosses: a device state is 18 words, an answer 5, a step's answer 6, the totals are 3 numbers (crates/words, specs/Exported.antt).
 ghost use mathlib.Core.Path.{_≡_};
-ghost use Rattle.exports.specs.Exported.{Checks, Formats, Boots, Posts, Cuts, Steps, Runs, totalsOf, totalsWords};
+ghost use Rattle.exports.specs.Exported.{holding, Checks, Formats, Boots, Posts, Cuts, Steps, Runs, totalsOf, totalsWords};
 ghost use Rattle.words.specs.Words.{deviceWords, answerWords};
-use device::Stepped;
-use device::look;
-use model::Answer;
-use model::Device;
+use device::CallResult;
+use device::calls;
 use model::Totals;
 use runtime;
 use store::format;
@@ -23,24 +21,28 @@ pub extern "C" fn runtime_check(program: &[u16], answer: &mut [u16; 5])
 #[no_mangle]
 pub extern "C" fn runtime_format(
     program: &[u16],
-    pairs: u16,
-    records: u16,
+    log_pairs: u16,
+    queue_records: u16,
     store: &mut [u16],
     answer: &mut [u16; 5],
 )
-    ensures { λ _. ⌜ Formats (now (program .entry)) pairs records (now (store .entry)) (now (answer .exit)) (now (store .exit)) ⌝ }
+    ensures { λ _. ⌜ Formats (now (program .entry)) «log_pairs» «queue_records» (now (store .entry))
+        (now (answer .exit)) (now (store .exit)) ⌝ }
 {
-    words::write_checked(answer, format::format(program, pairs, records, store));
+    words::write_checked(
+        answer,
+        format::format(program, log_pairs, queue_records, store),
+    );
 }
 
 // A result in words.
-fn tell(r: Stepped, device: &mut [u16; 18], answer: &mut [u16; 5])
-    ensures { λ _. ⌜ (now (answer .exit) ≡ answerWords (r .answer)) × (now (device .exit) ≡ deviceWords (r .device)) ⌝ }
+fn tell(result: CallResult, device: &mut [u16; 18], answer: &mut [u16; 5])
+    ensures { λ _. ⌜ (now (answer .exit) ≡ answerWords (result .answer)) × (now (device .exit) ≡ deviceWords (result .device)) ⌝ }
 {
-    let a = r.answer;
-    let d = r.device;
-    words::write_answer(answer, a);
-    words::write_device(device, d);
+    let answered = result.answer;
+    let next = result.device;
+    words::write_answer(answer, answered);
+    words::write_device(device, next);
 }
 
 // boot: 1 to 7, 26.
@@ -51,15 +53,15 @@ pub extern "C" fn runtime_boot(
     device: &mut [u16; 18],
     answer: &mut [u16; 5],
 )
-    ensures { λ _. ⌜ Boots (now (program .entry)) (now (store .entry)) (now (device .entry)) (now (answer .exit)) (now (device .exit)) ⌝ }
+    ensures { λ _. ⌜ Boots (now (program .entry)) (now (store .entry)) (now (device .entry))
+        (now (answer .exit)) (now (device .exit)) ⌝ }
 {
-    let read = words::read_device(device);
-    if !read.found {
+    if !words::is_state(device) {
         words::write_unknown(answer);
         return;
     }
-    let d = read.device;
-    tell(look::boot(program, store, d), device, answer);
+    let state = words::state_of(device);
+    tell(calls::boot(program, store, state), device, answer);
 }
 
 // post: 1, 2, 3, 6, 7, 25, 22, then 8, 20, 21.
@@ -72,15 +74,19 @@ pub extern "C" fn runtime_post(
     datum: u16,
     answer: &mut [u16; 5],
 )
-    ensures { λ _. ⌜ Posts (now (program .entry)) (now (store .entry)) (now (device .entry)) event datum (now (answer .exit)) (now (device .exit)) ⌝ }
+    ensures { λ _. ⌜ Posts (now (program .entry)) (now (store .entry)) (now (device .entry)) event datum
+        (now (answer .exit)) (now (device .exit)) ⌝ }
 {
-    let read = words::read_device(device);
-    if !read.found {
+    if !words::is_state(device) {
         words::write_unknown(answer);
         return;
     }
-    let d = read.device;
-    tell(look::post(program, store, d, event, datum), device, answer);
+    let state = words::state_of(device);
+    tell(
+        calls::post(program, store, state, event, datum),
+        device,
+        answer,
+    );
 }
 
 // cut: whatever the device words were, they become those of the off value. "A cut refuses nothing."
@@ -88,23 +94,23 @@ pub extern "C" fn runtime_post(
 pub extern "C" fn runtime_cut(device: &mut [u16; 18], answer: &mut [u16; 5])
     ensures { λ _. ⌜ Cuts (now (answer .exit)) (now (device .exit)) ⌝ }
 {
-    tell(look::cut(), device, answer);
+    tell(calls::cut(), device, answer);
 }
 
-fn totals_of(t: &[u32; 3]) -> Totals
-    ensures { λ r. ⌜ r ≡ totalsOf (now (t .entry)) ⌝ }
+fn totals_of(words: &[u32; 3]) -> Totals
+    ensures { λ totals. ⌜ totals ≡ totalsOf (now (words .entry)) ⌝ }
 {
     Totals {
-        committed: t[0],
-        accepted: t[1],
-        stores: t[2],
+        committed: words[0],
+        accepted: words[1],
+        stores: words[2],
     }
 }
 
-fn write_totals(w: &mut [u32; 3], t: Totals)
-    ensures { λ _. ⌜ now (w .exit) ≡ totalsWords t ⌝ }
+fn write_totals(words: &mut [u32; 3], totals: Totals)
+    ensures { λ _. ⌜ now (words .exit) ≡ totalsWords totals ⌝ }
 {
-    *w = [t.committed, t.accepted, t.stores];
+    *words = [totals.committed, totals.accepted, totals.stores];
 }
 
 // step: 1, 2, 3, 6, 7, 25, 22, then what it uses; with the totals. The answer's sixth word is the index of the word stored, or 65535.
@@ -116,21 +122,22 @@ pub extern "C" fn runtime_step(
     totals: &mut [u32; 3],
     answer: &mut [u16; 6],
 )
-    ensures { λ _. ⌜ Steps (now (program .entry)) (now (store .entry)) (now (device .entry)) (now (totals .entry)) (now (answer .exit)) (now (store .exit)) (now (device .exit)) (now (totals .exit)) ⌝ }
+    ensures { λ _. ⌜ Steps (now (program .entry)) (holding (now (store .entry)) (now (device .entry)) (now (totals .entry)))
+        (now (answer .exit)) (holding (now (store .exit)) (now (device .exit)) (now (totals .exit))) ⌝ }
 {
     if !words::is_state(device) {
         words::write_unknown_step(answer);
         return;
     }
-    let d = words::state_of(device);
-    let r = runtime::step(program, store, d);
-    let a = r.answer;
-    let stored = r.stored;
-    let e = r.device;
-    let t = totals::counted(totals_of(totals), a, stored);
-    write_totals(totals, t);
-    words::write_step(answer, a, stored);
-    words::write_device(device, e);
+    let state = words::state_of(device);
+    let result = runtime::step(program, store, state);
+    let answered = result.answer;
+    let stored = result.stored;
+    let after = result.device;
+    let counted = totals::counted(totals_of(totals), answered, stored);
+    write_totals(totals, counted);
+    words::write_step(answer, answered, stored);
+    words::write_device(device, after);
 }
 
 // run: steps up to the budget; returns the count of steps made.
@@ -143,20 +150,21 @@ pub extern "C" fn runtime_run(
     budget: u32,
     answer: &mut [u16; 5],
 ) -> u32
-    ensures { λ n. ⌜ Runs (now (program .entry)) (now (store .entry)) (now (device .entry)) (now (totals .entry)) budget n (now (answer .exit)) (now (store .exit)) (now (device .exit)) (now (totals .exit)) ⌝ }
+    ensures { λ steps.
+        ⌜ Runs (now (program .entry)) (holding (now (store .entry)) (now (device .entry)) (now (totals .entry))) budget steps
+        (now (answer .exit)) (holding (now (store .exit)) (now (device .exit)) (now (totals .exit))) ⌝ }
 {
-    let read = words::read_device(device);
-    if !read.found {
+    if !words::is_state(device) {
         words::write_unknown(answer);
         return 0;
     }
-    let d = read.device;
-    let r = runtime::run(program, store, d, totals_of(totals), budget);
-    let ended = r.ended;
-    let e = r.device;
-    let t = r.totals;
+    let state = words::state_of(device);
+    let result = runtime::run(program, store, state, totals_of(totals), budget);
+    let ended = result.ended;
+    let after = result.device;
+    let counted = result.totals;
     words::write_ended(answer, ended);
-    words::write_device(device, e);
-    write_totals(totals, t);
-    r.steps
+    words::write_device(device, after);
+    write_totals(totals, counted);
+    result.steps
 }

@@ -8,9 +8,9 @@ use mathlib.Core.List.{List}
 use native.Mathlib.Omega.{arith}
 use borrow.Author.Tests.{eqb-true, eqb-false, lt-ltb, le-leb, eq-eqb, ne-eqb}
 use lib.Dec.{eqb}
-use Rattle.model.proofs.Passed.{look-passed}
+use Rattle.model.proofs.Passed.{look-passed, early-are}
 use Rattle.model.proofs.RingLaws.{known-passes}
-use Rattle.model.proofs.RuleLaws.{obey-if, early-are}
+use Rattle.model.proofs.RuleLaws.{obey-if}
 use Rattle.model.proofs.TestLaws.{pick-case, pick-true, clash, and-true, and-left, or-true-left, or-true-right, not-false, must-true, then-passed, then-first, then-rest}
 use Rattle.model.specs.Accepted.{ControlledBy, Controlled, MayRun, Stands, Attends, Looked}
 use Rattle.model.specs.Check.{contentsRule}

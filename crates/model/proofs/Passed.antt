@@ -1,26 +1,26 @@
 -- What the other accepted checks give, by the names of specs/Accepted.antt: an instruction's registers, the store's contents, the early
 -- control words, what step and post look at, and a body at an instruction. Nothing that demand 3 rests on. Assumes nothing.
-use Prim.Native.Nat.{ℕ, _≤_, _<_}
+use Prim.Native.Nat.{ℕ, zero, suc, _+_, _≤_, _<_}
 use mathlib.Core.Path.{_≡_, refl, sym, _∙_}
 use mathlib.Core.Logic.{_⊎_, inl, inr, ⊎-elim}
 use mathlib.Core.Bool.{Bool, true, false}
-use mathlib.Core.List.{List}
+use mathlib.Core.List.{List, [], _∷_, _++_}
 use native.Mathlib.Omega.{arith}
 use borrow.Author.Tests.{ltb-true, leb-true, eqb-true, eqb-false, eq-eqb, ne-eqb, not-true}
 use lib.Dec.{ltb}
 use lib.ListN.{length}
 use Rattle.model.proofs.ProgramLaws.{_&_, by-opcode, Fits, contents-passed, row-passed, instruction-leads}
 use Rattle.model.proofs.RingLaws.{known-passed}
-use Rattle.model.proofs.RuleLaws.{obeyed, early-are}
+use Rattle.model.proofs.RuleLaws.{obeyed}
 use Rattle.model.proofs.StoreLaws.{Sized}
 use Rattle.model.proofs.TestLaws.{pick-true, pick-false, same-or, and-true, and-left, and-right, or-true-left, or-true-right, must-passed, must-then, then-first, then-rest}
 use Rattle.model.specs.Accepted.{Contents, Registers, Legal, Sizes, ShapedFor, Controlled, MayRun, Stands, Attends, Looked, BodyIs}
 use Rattle.model.specs.Check.{fieldsFit, instructionRule}
-use Rattle.model.specs.Control.{obeyAll, phaseRule, taskRule, openServing, countRule, pendingTaskRule, headRule, tailRule, pendingHeadRule, earlyRules}
+use Rattle.model.specs.Control.{obeyAll, phaseRule, taskRule, openServing, countRule, pendingTaskRule, headRule, tailRule, pendingHeadRule, earlyRules, Rule, upTo, openRule, pendingOpenRule, addressRule, recordRule, controlRules, rules, earlyOf}
 use Rattle.model.specs.Device.{mayRun, placeSound, recordsSound, handlerSound, deviceSound, look, bodySound}
 use Rattle.model.specs.Program.{word, tasks, memoryWords, instructions, number, opcode, fieldA, fieldB, code, operand, bounds, decode}
 use Rattle.model.specs.Store.{Store, view, carried, room, logAt, queueAt, storeLength, storeRule, sizesRule}
-use Rattle.model.specs.Test.{_and_, _or_}
+use Rattle.model.specs.Test.{_and_, _or_, pick}
 use Rattle.model.specs.Types.{Body, Checked, Device, Effect, Free, Half, Handler, Instruction, Place, Resting, Run, Storing}
 
 -- ---- an instruction
@@ -109,6 +109,24 @@ or-cases : (a b : Bool) → (a or b) ≡ true → (a ≡ true) ⊎ (b ≡ true)
 unfolding _or_
 or-cases true b e = inl refl
 or-cases false b e = inr e
+
+early-left : (rs ss : List Rule) → earlyOf ss ≡ [] → earlyOf (rs ++ ss) ≡ earlyOf rs
+unfolding earlyOf
+early-left [] ss e = e
+early-left (r ∷ rs) ss e = rw (early-left rs ss e)
+
+early-upTo : (f : ℕ → Rule) → ((j : ℕ) → f j .early ≡ false) → (n : ℕ) → earlyOf (upTo f n) ≡ []
+unfolding earlyOf upTo
+early-upTo f late zero = refl
+early-upTo f late (suc n) = early-left (upTo f n) (f n ∷ []) (pick-false _ _ (late n)) ∙ early-upTo f late n
+
+-- which the early rules are
+pub early-are : (p : List ℕ) (v : Store) → earlyRules p v ≡ phaseRule v ∷ taskRule p v ∷ openServing v ∷ countRule v ∷ pendingTaskRule p v ∷ pendingHeadRule v ∷ headRule v ∷ tailRule v ∷ []
+unfolding earlyRules earlyOf rules controlRules phaseRule taskRule openRule openServing countRule pendingTaskRule pendingHeadRule pendingOpenRule headRule tailRule addressRule recordRule pick
+early-are p v =
+    early-left (controlRules p v ++ upTo (addressRule p v) (v .pairs)) (upTo (recordRule p v) (v .records + 1))
+    (early-upTo (recordRule p v) (λ x. refl) (v .records + 1))
+    ∙ early-left (controlRules p v) (upTo (addressRule p v) (v .pairs)) (early-upTo (addressRule p v) (λ j. refl) (v .pairs))
 
 pub control-passed : (p : List ℕ) (v : Store) → obeyAll (earlyRules p v) ≡ Checked.Accepted → Controlled p v
 unfolding obeyAll phaseRule taskRule openServing countRule pendingTaskRule pendingHeadRule headRule tailRule

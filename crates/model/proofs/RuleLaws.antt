@@ -1,4 +1,4 @@
--- Laws of the rules of 7 (specs/Control.antt): when one is obeyed, what a row of them answers, and which are early. Assumes nothing.
+-- Laws of the rules of 7 (specs/Control.antt): when one is obeyed, what a row of them answers. Assumes nothing.
 use Prim.Native.Nat.{ℕ, zero, suc, _+_, _<_}
 use mathlib.Core.Bool.{Bool, true, false, not}
 use mathlib.Core.List.{List, [], _∷_, _++_}
@@ -7,10 +7,9 @@ use mathlib.Core.Path.{_≡_, refl, sym, _∙_, ap}
 use native.Mathlib.Nat.{eq-or-lt-of-le, le-of-suc-le-suc}
 use native.Mathlib.Numerals.{add-one}
 use native.Mathlib.Omega.{arith}
-use Rattle.model.proofs.TestLaws.{pick-case, pick-false, clash, and-false, not-false, must-true, must-passed, then-assoc, then-passed, then-first, then-rest}
-use Rattle.model.specs.Control.{Rule, obey, obeyAll, upTo, phaseRule, taskRule, openRule, openServing, countRule, pendingTaskRule, pendingHeadRule, pendingOpenRule, headRule, tailRule, addressRule, recordRule, controlRules, rules, earlyOf, earlyRules}
-use Rattle.model.specs.Store.{Store}
-use Rattle.model.specs.Test.{pick, _and_, must, _then_}
+use Rattle.model.proofs.TestLaws.{pick-case, clash, and-false, not-false, must-true, must-passed, then-assoc, then-passed, then-first, then-rest}
+use Rattle.model.specs.Control.{Rule, obey, obeyAll, upTo, earlyOf}
+use Rattle.model.specs.Test.{_and_, must, _then_}
 use Rattle.model.specs.Types.{Checked, Refusal}
 
 -- ---- one rule: it isn't asked, it is kept, or it is broken
@@ -87,7 +86,7 @@ module _ (f : ℕ → Rule) where
   obey-upTo zero h = none-asked
   obey-upTo (suc n) h = next n ∙ then-passed (obey-upTo n (λ j l. h j (omega arith))) (then-passed (h n (omega arith)) refl)
 
--- ---- the early rules
+-- ---- the early ones of a row
 
 pub obey-early : (rs : List Rule) → obeyAll rs ≡ Checked.Accepted → obeyAll (earlyOf rs) ≡ Checked.Accepted
 unfolding obeyAll earlyOf
@@ -95,21 +94,3 @@ obey-early [] e = refl
 obey-early (r ∷ rs) e =
     let rest = obey-early rs (then-rest _ _ e) in
     pick-case (λ (ss : List Rule). obeyAll ss ≡ Checked.Accepted) (λ _. then-passed (then-first _ _ e) rest) (λ _. rest)
-
-early-left : (rs ss : List Rule) → earlyOf ss ≡ [] → earlyOf (rs ++ ss) ≡ earlyOf rs
-unfolding earlyOf
-early-left [] ss e = e
-early-left (r ∷ rs) ss e = rw (early-left rs ss e)
-
-early-upTo : (f : ℕ → Rule) → ((j : ℕ) → f j .early ≡ false) → (n : ℕ) → earlyOf (upTo f n) ≡ []
-unfolding earlyOf upTo
-early-upTo f late zero = refl
-early-upTo f late (suc n) = early-left (upTo f n) (f n ∷ []) (pick-false _ _ (late n)) ∙ early-upTo f late n
-
--- which they are
-pub early-are : (p : List ℕ) (v : Store) → earlyRules p v ≡ phaseRule v ∷ taskRule p v ∷ openServing v ∷ countRule v ∷ pendingTaskRule p v ∷ pendingHeadRule v ∷ headRule v ∷ tailRule v ∷ []
-unfolding earlyRules earlyOf rules controlRules phaseRule taskRule openRule openServing countRule pendingTaskRule pendingHeadRule pendingOpenRule headRule tailRule addressRule recordRule pick
-early-are p v =
-    early-left (controlRules p v ++ upTo (addressRule p v) (v .pairs)) (upTo (recordRule p v) (v .records + 1))
-    (early-upTo (recordRule p v) (λ x. refl) (v .records + 1))
-    ∙ early-left (controlRules p v) (upTo (addressRule p v) (v .pairs)) (early-upTo (addressRule p v) (λ j. refl) (v .pairs))

@@ -1,26 +1,26 @@
 -- The parts of a device's words: each part read back is the part (`-back`), the words of what was read are the words (`-forth`), and
 -- lists spelt out word by word. Assumes nothing.
-use Prim.Native.Nat.{ℕ, zero, suc, _+_, _<_}
+use Prim.Native.Nat.{ℕ, zero, suc, _+_, _-_, _≤_, _<_}
 use mathlib.Core.Bool.{Bool, true, false}
 use mathlib.Core.List.{List, [], _∷_, _++_}
-use mathlib.Core.Path.{_≡_, refl, sym}
+use mathlib.Core.Path.{_≡_, refl, sym, _∙_}
+use mathlib.Core.Logic.{_≢_}
 use native.Mathlib.Omega.{arith}
 use lib.Dec.{eqb, leb}
 use lib.ListN.{length, drop}
 use lib.Seq.{drop-cons, drop-length}
-use borrow.Author.Tests.{le-leb, lt-leb, eq-eqb, ne-eqb, eqb-true, leb-true}
-use Rattle.model.proofs.TestLaws.{same-or, and-left, and-right}
+use borrow.Author.Tests.{lt-ltb, le-leb, lt-leb, eq-eqb, ne-eqb, eqb-true, leb-true}
+use Rattle.model.proofs.TestLaws.{pick-true, pick-false, same-or, and-left, and-right}
 use Rattle.model.specs.Program.{word}
 use Rattle.model.specs.Test.{pick, _and_}
 use Rattle.model.specs.declared.Answer.{Answer}
 use Rattle.model.specs.declared.Body.{Body}
 use Rattle.model.specs.declared.Handler.{Handler}
 use Rattle.model.specs.declared.Handler.the-variants.{Resting, Storing}
-use Rattle.model.specs.declared.Next.{Next}
 use Rattle.model.specs.declared.Place.{Place}
 use Rattle.model.specs.declared.Place.the-variants.{Free, Run, Half}
-use Rattle.words.specs.Words.{flag, kind, number, placeWords, nextWord, handlerWords}
-use Rattle.words.specs.Words.{bodyOf, placeOf, isPlace, nextOf, handlerOf, isHandler}
+use Rattle.words.specs.Words.{flag, kind, number, placeWords, nextWord, StoreLeft, handlerWords}
+use Rattle.words.specs.Words.{bodyOf, placeOf, isPlace, handlerOf, isHandler}
 use Rattle.words.specs.Words.{refusedWords, answerWords}
 
 -- from the facts that a function's tests leave to the tests of its definition
@@ -161,26 +161,41 @@ place-forth p k n j c h = same-or p 0 free (λ z. same-or p 1 (run z) (half z))
 
 -- ---- handler
 
-pub handler-is : (h : Handler) → three isHandler (handlerWords h) ≡ true
-unfolding isHandler handlerWords nextWord pick _and_
-handler-is Resting = refl
-handler-is (Storing Next.Event e x) = refl
-handler-is (Storing Next.Data e x) = refl
-handler-is (Storing Next.Tail e x) = refl
+next-is : (c : ℕ) → c < 3 → nextWord c ≡ c + 1
+unfolding nextWord
+next-is c l = pick-true _ _ (lt-ltb _ _ l)
 
-pub handler-back : (h : Handler) → three handlerOf (handlerWords h) ≡ h
-unfolding handlerOf nextOf handlerWords nextWord pick
-handler-back Resting = refl
-handler-back (Storing Next.Event e x) = refl
-handler-back (Storing Next.Data e x) = refl
-handler-back (Storing Next.Tail e x) = refl
+pub handler-is : (h : Handler) → StoreLeft h → three isHandler (handlerWords h) ≡ true
+unfolding isHandler handlerWords pick _and_
+handler-is Resting l = refl
+handler-is (Storing c e x) l =
+    let some-store : c + 1 ≢ 0 = omega arith in
+    let three-stores : c + 1 ≤ 3 = omega arith in
+    simp (next-is c l, ne-eqb (c + 1) 0 some-store, le-leb (c + 1) 3 three-stores)
 
-next-forth : (h : ℕ) → (h ≡ 0 → ⊥) → leb h 3 ≡ true → nextWord (nextOf h) ≡ h
-unfolding nextOf nextWord pick
+pub handler-back : (h : Handler) → StoreLeft h → three handlerOf (handlerWords h) ≡ h
+unfolding handlerOf handlerWords pick
+handler-back Resting l = refl
+handler-back (Storing c e x) l =
+    let some-store : c + 1 ≢ 0 = omega arith in
+    let made : c + 1 - 1 ≡ c = omega arith in
+    simp (next-is c l, ne-eqb (c + 1) 0 some-store, made)
+
+next-forth : (h : ℕ) → (h ≡ 0 → ⊥) → leb h 3 ≡ true → nextWord (h - 1) ≡ h
 next-forth h z t =
     let b = leb-true h 3 t in
-    same-or h 1 (λ e. simp e)
-    (λ o. same-or h 2 (λ e. simp e) (λ u. simp (ne-eqb h 1 o, ne-eqb h 2 u) (omega arith)))
+    let below : h - 1 < 3 = omega arith in
+    let same : h - 1 + 1 ≡ h = omega arith in
+    next-is (h - 1) below ∙ same
+
+pub handler-left : (h e x : ℕ) → isHandler h e x ≡ true → StoreLeft (handlerOf h e x)
+unfolding isHandler handlerOf
+handler-left h e x t =
+    same-or h 0 (λ z. rw (eq-eqb h 0 z, pick-true {b = true} Resting (Storing (h - 1) e x) refl) tt)
+    (λ z.
+    let u : leb h 3 ≡ true = sym (pick-false _ _ (ne-eqb h 0 z)) ∙ t in
+    let b = leb-true h 3 u in
+    rw (ne-eqb h 0 z, pick-false {b = false} Resting (Storing (h - 1) e x) refl) (omega arith))
 
 pub handler-forth : (h e x : ℕ) → isHandler h e x ≡ true → handlerWords (handlerOf h e x) ≡ h ∷ e ∷ x ∷ []
 unfolding isHandler handlerOf handlerWords pick _and_

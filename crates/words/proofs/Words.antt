@@ -9,12 +9,11 @@ use Rattle.model.proofs.TestLaws.{and-left, and-right, clash}
 use Rattle.model.specs.Program.{word}
 use Rattle.model.specs.Test.{pick, _and_}
 use Rattle.model.specs.declared.Device.{Device}
-use Rattle.words.specs.declared.Read.{Read}
-use Rattle.words.specs.Words.{flag, placeWords, handlerWords, deviceWords}
-use Rattle.words.specs.Words.{isPlace, isHandler, known, unknown, isState, stateOf, deviceOf, Back, Forth, Other}
+use Rattle.words.specs.Words.{Read, flag, placeWords, handlerWords, deviceWords}
+use Rattle.words.specs.Words.{isPlace, isHandler, known, unknown, isState, stateOf, deviceOf, HasWords, Back, Forth, Other}
 use Rattle.words.proofs.Parts.{spelt, spelt-all, place-spelt, handler-spelt}
 use Rattle.words.proofs.Parts.{flag-is, flag-back, flag-forth, place-is, place-back, place-forth}
-use Rattle.words.proofs.Parts.{handler-is, handler-back, handler-forth}
+use Rattle.words.proofs.Parts.{handler-is, handler-back, handler-left, handler-forth}
 
 -- ---- back
 
@@ -32,7 +31,15 @@ pub back : Back
 unfolding deviceOf isState stateOf spelt pick _and_
 back d h =
     rw (written-all d)
-    (simp (flag-is, flag-back, place-is, place-back, handler-is, handler-back, spelt-all (d .regs) 8 h))
+    (simp (
+      flag-is,
+      flag-back,
+      place-is,
+      place-back,
+      handler-is (d .handler) (h .handler),
+      handler-back (d .handler) (h .handler),
+      spelt-all (d .regs) 8 (h .registers),
+    ))
 
 -- ---- forth
 
@@ -62,10 +69,18 @@ forth w d h e = go (isState w) refl
         let k : unknown ≡ known d = rw t at e in
         clash refl (sym (ap (λ (r : Read). r .found) k))
 
+state-has : (w : List ℕ) → isState w ≡ true → HasWords (stateOf w)
+unfolding isState stateOf
+state-has w e =
+    record {
+      registers = refl;
+      handler = handler-left (word w 15) (word w 16) (word w 17) (and-right _ _ (and-right _ _ e));
+    }
+
 pub other : Other
 unfolding deviceOf stateOf pick
 other w h apart = go (isState w) refl
   where
     go : (b : Bool) → isState w ≡ b → deviceOf w ≡ unknown
-    go true t = absurd (apart (stateOf w) refl (state-forth w h t))
+    go true t = absurd (apart (stateOf w) (state-has w t) (state-forth w h t))
     go false t = simp t

@@ -1,11 +1,11 @@
 -- Device states, answers and refusals as words, for a boundary that no enum crosses; include/runtime.h has the forms for C.
 -- What a case doesn't have is 0. A refusal's number and place are those of the model's Answer.antt. Words that aren't the words
 -- of some device state stand for none: `Back`, `Forth` and `Other` say that a device state has one form. Assumes nothing.
-use Prim.Native.Nat.{ℕ}
+use Prim.Native.Nat.{ℕ, _+_, _-_, _<_}
 use mathlib.Core.Bool.{Bool, true, false}
 use mathlib.Core.List.{List, [], _∷_, _++_}
 use mathlib.Core.Path.{_≡_}
-use lib.Dec.{eqb, leb}
+use lib.Dec.{eqb, leb, ltb}
 use lib.ListN.{length}
 use Rattle.model.specs.Answer.{refusal}
 use Rattle.model.specs.Device.{off}
@@ -18,12 +18,10 @@ use Rattle.model.specs.declared.Device.{Device}
 use Rattle.model.specs.declared.Ended.{Ended}
 use Rattle.model.specs.declared.Handler.{Handler}
 use Rattle.model.specs.declared.Handler.the-variants.{Resting, Storing}
-use Rattle.model.specs.declared.Next.{Next}
 use Rattle.model.specs.declared.Place.{Place}
 use Rattle.model.specs.declared.Place.the-variants.{Free, Run, Half}
 use Rattle.model.specs.declared.Refusal.{Refusal}
 use Rattle.model.specs.declared.Stored.{Stored}
-use Rattle.words.specs.declared.Read.{Read}
 
 -- ---- A device state as 18 words
 
@@ -47,16 +45,18 @@ placeWords (Free c) = 0 ∷ 0 ∷ 0 ∷ 0 ∷ c ∷ []
 placeWords (Run b j c) = 1 ∷ kind b ∷ number b ∷ j ∷ c ∷ []
 placeWords (Half b j) = 2 ∷ kind b ∷ number b ∷ j ∷ 0 ∷ []
 
--- the number of a handler's next store; 0 is a handler at rest
-unfoldable pub nextWord : Next → ℕ
-nextWord Next.Event = 1
-nextWord Next.Data = 2
-nextWord Next.Tail = 3
+-- the number of a handler's next store, 1 to 3, where c are made (0 is a handler at rest); 4, which no device state has, where all are
+unfoldable pub nextWord : ℕ → ℕ
+nextWord c = pick (ltb c 3) (c + 1) 4
+
+abbrev pub StoreLeft : Handler → Type 0
+StoreLeft Resting = Unit {0}
+StoreLeft (Storing c e x) = c < 3
 
 -- words 15 to 17: at rest or the next store; its event; its data
 unfoldable pub handlerWords : Handler → List ℕ
 handlerWords Resting = 0 ∷ 0 ∷ 0 ∷ []
-handlerWords (Storing n e x) = nextWord n ∷ e ∷ x ∷ []
+handlerWords (Storing c e x) = nextWord c ∷ e ∷ x ∷ []
 
 -- word 0: on; words 1 to 8: the registers; word 14: the log count
 unfoldable pub deviceWords : Device → List ℕ
@@ -79,18 +79,18 @@ unfoldable pub isPlace : ℕ → ℕ → ℕ → ℕ → ℕ → Bool
 isPlace p k n j c =
     pick (eqb p 0) (eqb k 0 and eqb n 0 and eqb j 0) (leb k 1 and pick (eqb p 1) true (eqb p 2 and eqb c 0))
 
--- a handler's next store of its number
-unfoldable pub nextOf : ℕ → Next
-nextOf h = pick (eqb h 1) Next.Event (pick (eqb h 2) Next.Data Next.Tail)
-
 -- the handler of words 15 to 17, and whether they are the words of a handler
 unfoldable pub handlerOf : ℕ → ℕ → ℕ → Handler
-handlerOf h e x = pick (eqb h 0) Resting (Storing (nextOf h) e x)
+handlerOf h e x = pick (eqb h 0) Resting (Storing (h - 1) e x)
 
 unfoldable pub isHandler : ℕ → ℕ → ℕ → Bool
 isHandler h e x = pick (eqb h 0) (eqb e 0 and eqb x 0) (leb h 3)
 
 -- what reading finds: a device state, or none, with the off value in its place
+pub record Read : Type 0 where
+  pub found : Bool
+  pub device : Device
+
 abbrev pub known : Device → Read
 known d = record { found = true; device = d }
 
@@ -118,9 +118,14 @@ stateOf w =
 unfoldable pub deviceOf : List ℕ → Read
 deviceOf w = pick (isState w) (known (stateOf w)) unknown
 
+-- a device state that has words: eight registers, and a handler at work has one of its three stores to make
+pub record HasWords (d : Device) : Type 0 where
+  pub registers : length (d .regs) ≡ 8
+  pub handler : StoreLeft (d .handler)
+
 -- a device state is read back from its words, so no two states share their words
 abbrev pub Back : Type 0
-Back = (d : Device) → length (d .regs) ≡ 8 → deviceOf (deviceWords d) ≡ known d
+Back = (d : Device) → HasWords d → deviceOf (deviceWords d) ≡ known d
 
 -- 18 words that are read as a device state are its words
 abbrev pub Forth : Type 0
@@ -128,7 +133,7 @@ Forth = (w : List ℕ) (d : Device) → length w ≡ 18 → deviceOf w ≡ known
 
 -- 18 words that are no device state's are read as none
 abbrev pub Other : Type 0
-Other = (w : List ℕ) → length w ≡ 18 → ((d : Device) → length (d .regs) ≡ 8 → deviceWords d ≡ w → ⊥) → deviceOf w ≡ unknown
+Other = (w : List ℕ) → length w ≡ 18 → ((d : Device) → HasWords d → deviceWords d ≡ w → ⊥) → deviceOf w ≡ unknown
 
 -- ---- Answers as 5 words: case, kind of body, number (of the body or of the refusal), place (two words)
 

@@ -1,8 +1,8 @@
 // Device states, answers and refusals as words and back, for a boundary that no enum crosses. specs/Words.antt has both tables.
-// Every contract is an equation for all inputs: words that are no device state's are read as none.
+// Every contract is an equation for all inputs: of 18 words it is told whether they are a device state's.
 ghost use mathlib.Core.Path.{_≡_};
 ghost use Rattle.words.specs.Words.{flag, kind, number, placeWords, nextWord, handlerWords, deviceWords};
-ghost use Rattle.words.specs.Words.{bodyOf, placeOf, isPlace, nextOf, handlerOf, isHandler, isState, stateOf, deviceOf};
+ghost use Rattle.words.specs.Words.{bodyOf, placeOf, isPlace, handlerOf, isHandler, isState, stateOf};
 ghost use Rattle.words.specs.Words.{refusedWords, answerWords, endedWords, checkedWords, unknownWords};
 ghost use Rattle.words.specs.Words.{storedNumber, stepWords, unknownStepWords};
 use model::Answer;
@@ -11,16 +11,9 @@ use model::Checked;
 use model::Device;
 use model::Ended;
 use model::Handler;
-use model::Next;
 use model::Place;
 use model::Refusal;
 use model::Stored;
-
-// What reading finds: a device state, or none, with the off value in its place.
-pub struct Read {
-    pub found: bool,
-    pub device: Device,
-}
 
 // ---- A device state as 18 words
 
@@ -32,232 +25,206 @@ fn flag(on: bool) -> u16
 }
 
 // A body is two words: its kind, task or event, and its number.
-fn kind(b: Body) -> u16
-    ensures { λ r. ⌜ r ≡ kind b ⌝ }
+fn kind(body: Body) -> u16
+    ensures { λ r. ⌜ r ≡ kind body ⌝ }
 {
-    match b {
+    match body {
         Body::Task(_) => 0,
         Body::Event(_) => 1,
     }
 }
 
-fn number(b: Body) -> u16
-    ensures { λ r. ⌜ r ≡ number b ⌝ }
+fn number(body: Body) -> u16
+    ensures { λ r. ⌜ r ≡ number body ⌝ }
 {
-    match b {
+    match body {
         Body::Task(n) => n,
         Body::Event(n) => n,
     }
 }
 
 // Words 9 to 13.
-fn place_words(x: Place) -> [u16; 5]
-    ensures { λ r. ⌜ r ≡ placeWords x ⌝ }
+fn place_words(place: Place) -> [u16; 5]
+    ensures { λ r. ⌜ r ≡ placeWords place ⌝ }
 {
-    match x {
-        Place::Free(c) => [0, 0, 0, 0, c],
-        Place::Run(b, j, c) => [1, kind(b), number(b), j, c],
-        Place::Half(b, j) => [2, kind(b), number(b), j, 0],
+    match place {
+        Place::Free(made) => [0, 0, 0, 0, made],
+        Place::Run(body, instruction, made) => [1, kind(body), number(body), instruction, made],
+        Place::Half(body, instruction) => [2, kind(body), number(body), instruction, 0],
     }
 }
 
-// A handler's next store, by its number.
-fn next_word(n: Next) -> u16
-    ensures { λ r. ⌜ r ≡ nextWord n ⌝ }
+// The number of a handler's next store, where so many are made: 1 to 3, and 4 where all are.
+fn next_word(made: u16) -> u16
+    ensures { λ r. ⌜ r ≡ nextWord made ⌝ }
 {
-    match n {
-        Next::Event => 1,
-        Next::Data => 2,
-        Next::Tail => 3,
-    }
+    if made < 3 { made + 1 } else { 4 }
 }
 
 // Words 15 to 17.
-fn handler_words(h: Handler) -> [u16; 3]
-    ensures { λ r. ⌜ r ≡ handlerWords h ⌝ }
+fn handler_words(handler: Handler) -> [u16; 3]
+    ensures { λ r. ⌜ r ≡ handlerWords handler ⌝ }
 {
-    match h {
+    match handler {
         Handler::Resting => [0, 0, 0],
-        Handler::Storing(n, e, x) => [next_word(n), e, x],
+        Handler::Storing(made, event, datum) => [next_word(made), event, datum],
     }
 }
 
 // The words of a device state.
-pub fn write_device(w: &mut [u16; 18], d: Device)
-    ensures { λ _. ⌜ now (w .exit) ≡ deviceWords d ⌝ }
+pub fn write_device(words: &mut [u16; 18], device: Device)
+    ensures { λ _. ⌜ now (words .exit) ≡ deviceWords device ⌝ }
 {
-    let r = d.regs;
-    let place = d.place;
-    let handler = d.handler;
-    let p = place_words(place);
-    let h = handler_words(handler);
-    *w = [
-        flag(d.on),
-        r[0],
-        r[1],
-        r[2],
-        r[3],
-        r[4],
-        r[5],
-        r[6],
-        r[7],
-        p[0],
-        p[1],
-        p[2],
-        p[3],
-        p[4],
-        d.count,
-        h[0],
-        h[1],
-        h[2],
+    let registers = device.regs;
+    let place = device.place;
+    let handler = device.handler;
+    let place_words = place_words(place);
+    let handler_words = handler_words(handler);
+    *words = [
+        flag(device.on),
+        registers[0],
+        registers[1],
+        registers[2],
+        registers[3],
+        registers[4],
+        registers[5],
+        registers[6],
+        registers[7],
+        place_words[0],
+        place_words[1],
+        place_words[2],
+        place_words[3],
+        place_words[4],
+        device.count,
+        handler_words[0],
+        handler_words[1],
+        handler_words[2],
     ];
 }
 
 // ---- 18 words as a device state
 
 // The body of its two words.
-fn body_of(k: u16, n: u16) -> Body
-    ensures { λ b. ⌜ b ≡ bodyOf k n ⌝ }
+fn body_of(kind: u16, number: u16) -> Body
+    ensures { λ r. ⌜ r ≡ bodyOf kind number ⌝ }
 {
-    if k == 0 {
-        return Body::Task(n);
+    if kind == 0 {
+        return Body::Task(number);
     }
-    Body::Event(n)
+    Body::Event(number)
 }
 
 // The place of words 9 to 13, and whether they are the words of a place.
-fn place_of(p: u16, k: u16, n: u16, j: u16, c: u16) -> Place
-    ensures { λ x. ⌜ x ≡ placeOf p k n j c ⌝ }
+fn place_of(place: u16, kind: u16, number: u16, instruction: u16, made: u16) -> Place
+    ensures { λ r. ⌜ r ≡ placeOf place kind number instruction made ⌝ }
 {
-    if p == 0 {
-        return Place::Free(c);
+    if place == 0 {
+        return Place::Free(made);
     }
-    let body = body_of(k, n);
-    if p == 1 {
-        return Place::Run(body, j, c);
+    let body = body_of(kind, number);
+    if place == 1 {
+        return Place::Run(body, instruction, made);
     }
-    Place::Half(body, j)
+    Place::Half(body, instruction)
 }
 
-fn is_place(p: u16, k: u16, n: u16, j: u16, c: u16) -> bool
-    ensures { λ x. ⌜ x ≡ isPlace p k n j c ⌝ }
+fn is_place(place: u16, kind: u16, number: u16, instruction: u16, made: u16) -> bool
+    ensures { λ r. ⌜ r ≡ isPlace place kind number instruction made ⌝ }
 {
-    if p == 0 {
-        if k != 0 {
+    if place == 0 {
+        if kind != 0 {
             return false;
         }
-        if n != 0 {
+        if number != 0 {
             return false;
         }
-        return j == 0;
+        return instruction == 0;
     }
-    if k > 1 {
+    if kind > 1 {
         return false;
     }
-    if p == 1 {
+    if place == 1 {
         return true;
     }
-    if p != 2 {
+    if place != 2 {
         return false;
     }
-    c == 0
-}
-
-// A handler's next store of its number.
-fn next_of(h: u16) -> Next
-    ensures { λ n. ⌜ n ≡ nextOf h ⌝ }
-{
-    if h == 1 {
-        return Next::Event;
-    }
-    if h == 2 {
-        return Next::Data;
-    }
-    Next::Tail
+    made == 0
 }
 
 // The handler of words 15 to 17, and whether they are the words of a handler.
-fn handler_of(h: u16, e: u16, x: u16) -> Handler
-    ensures { λ r. ⌜ r ≡ handlerOf h e x ⌝ }
+fn handler_of(next: u16, event: u16, datum: u16) -> Handler
+    ensures { λ r. ⌜ r ≡ handlerOf next event datum ⌝ }
 {
-    if h == 0 {
+    if next == 0 {
         return Handler::Resting;
     }
-    Handler::Storing(next_of(h), e, x)
+    Handler::Storing(next - 1, event, datum)
 }
 
-fn is_handler(h: u16, e: u16, x: u16) -> bool
-    ensures { λ r. ⌜ r ≡ isHandler h e x ⌝ }
+fn is_handler(next: u16, event: u16, datum: u16) -> bool
+    ensures { λ r. ⌜ r ≡ isHandler next event datum ⌝ }
 {
-    if h == 0 {
-        if e != 0 {
+    if next == 0 {
+        if event != 0 {
             return false;
         }
-        return x == 0;
+        return datum == 0;
     }
-    h <= 3
+    next <= 3
 }
 
 // The device state of 18 words, and whether they are the words of one.
-pub fn is_state(w: &[u16; 18]) -> bool
-    ensures { λ r. ⌜ r ≡ isState (now (w .entry)) ⌝ }
+pub fn is_state(words: &[u16; 18]) -> bool
+    ensures { λ r. ⌜ r ≡ isState (now (words .entry)) ⌝ }
 {
-    if w[0] > 1 {
+    if words[0] > 1 {
         return false;
     }
-    if !is_place(w[9], w[10], w[11], w[12], w[13]) {
+    if !is_place(words[9], words[10], words[11], words[12], words[13]) {
         return false;
     }
-    is_handler(w[15], w[16], w[17])
+    is_handler(words[15], words[16], words[17])
 }
 
-pub fn state_of(w: &[u16; 18]) -> Device
-    ensures { λ d. ⌜ d ≡ stateOf (now (w .entry)) ⌝ }
+pub fn state_of(words: &[u16; 18]) -> Device
+    ensures { λ d. ⌜ d ≡ stateOf (now (words .entry)) ⌝ }
 {
-    let regs = [w[1], w[2], w[3], w[4], w[5], w[6], w[7], w[8]];
-    let place = place_of(w[9], w[10], w[11], w[12], w[13]);
-    let handler = handler_of(w[15], w[16], w[17]);
+    let regs = [
+        words[1],
+        words[2],
+        words[3],
+        words[4],
+        words[5],
+        words[6],
+        words[7],
+        words[8],
+    ];
+    let place = place_of(words[9], words[10], words[11], words[12], words[13]);
+    let handler = handler_of(words[15], words[16], words[17]);
     Device {
-        on: w[0] == 1,
+        on: words[0] == 1,
         regs,
         place,
-        count: w[14],
+        count: words[14],
         handler,
-    }
-}
-
-// The device state whose words these are, if there is one.
-pub fn read_device(w: &[u16; 18]) -> Read
-    ensures { λ r. ⌜ r ≡ deviceOf (now (w .entry)) ⌝ }
-{
-    if is_state(w) {
-        let device = state_of(w);
-        return Read {
-            found: true,
-            device,
-        };
-    }
-    let device = Device::OFF;
-    Read {
-        found: false,
-        device,
     }
 }
 
 // ---- Answers as 5 words: case, kind of body, number, place
 
 // A refusal: case 6, with its number and place.
-fn refused_words(e: Refusal) -> [u16; 5]
-    ensures { λ r. ⌜ r ≡ refusedWords e ⌝ }
+fn refused_words(why: Refusal) -> [u16; 5]
+    ensures { λ r. ⌜ r ≡ refusedWords why ⌝ }
 {
-    match e {
+    match why {
         Refusal::ProgramLength => [6, 0, 1, 0, 0],
         Refusal::ProgramMark => [6, 0, 2, 0, 0],
-        Refusal::ProgramSize(w) => [6, 0, 3, w, 0],
-        Refusal::Row(b) => [6, 0, 4, b, 0],
-        Refusal::Code(b, i) => [6, 0, 5, b, i],
+        Refusal::ProgramSize(word) => [6, 0, 3, word, 0],
+        Refusal::Row(body) => [6, 0, 4, body, 0],
+        Refusal::Code(body, instruction) => [6, 0, 5, body, instruction],
         Refusal::StoreContents => [6, 0, 6, 0, 0],
-        Refusal::Control(w) => [6, 0, 7, w, 0],
+        Refusal::Control(word) => [6, 0, 7, word, 0],
         Refusal::NoEvent => [6, 0, 8, 0, 0],
         Refusal::Sizes => [6, 0, 9, 0, 0],
         Refusal::HandlerBusy => [6, 0, 20, 0, 0],
@@ -271,60 +238,60 @@ fn refused_words(e: Refusal) -> [u16; 5]
 }
 
 // An answer of each case.
-fn answer_words(a: Answer) -> [u16; 5]
-    ensures { λ r. ⌜ r ≡ answerWords a ⌝ }
+fn answer_words(answer: Answer) -> [u16; 5]
+    ensures { λ r. ⌜ r ≡ answerWords answer ⌝ }
 {
-    match a {
+    match answer {
         Answer::Done => [0, 0, 0, 0, 0],
-        Answer::Chosen(b) => [1, kind(b), number(b), 0, 0],
+        Answer::Chosen(body) => [1, kind(body), number(body), 0, 0],
         Answer::Worked => [2, 0, 0, 0, 0],
         Answer::Stored => [3, 0, 0, 0, 0],
-        Answer::Committed(b) => [4, kind(b), number(b), 0, 0],
+        Answer::Committed(body) => [4, kind(body), number(body), 0, 0],
         Answer::Accepted => [5, 0, 0, 0, 0],
-        Answer::Refused(e) => refused_words(e),
+        Answer::Refused(why) => refused_words(why),
     }
 }
 
 // What a call answers.
-pub fn write_answer(w: &mut [u16; 5], a: Answer)
-    ensures { λ _. ⌜ now (w .exit) ≡ answerWords a ⌝ }
+pub fn write_answer(words: &mut [u16; 5], answer: Answer)
+    ensures { λ _. ⌜ now (words .exit) ≡ answerWords answer ⌝ }
 {
-    *w = answer_words(a);
+    *words = answer_words(answer);
 }
 
 // How a run ends.
-pub fn write_ended(w: &mut [u16; 5], e: Ended)
-    ensures { λ _. ⌜ now (w .exit) ≡ endedWords e ⌝ }
+pub fn write_ended(words: &mut [u16; 5], ended: Ended)
+    ensures { λ _. ⌜ now (words .exit) ≡ endedWords ended ⌝ }
 {
-    match e {
+    match ended {
         Ended::Spent => {
-            *w = [7, 0, 0, 0, 0];
+            *words = [7, 0, 0, 0, 0];
         }
         Ended::Refused(why) => {
-            *w = refused_words(why);
+            *words = refused_words(why);
         }
     }
 }
 
 // What a check finds.
-pub fn write_checked(w: &mut [u16; 5], c: Checked)
-    ensures { λ _. ⌜ now (w .exit) ≡ checkedWords c ⌝ }
+pub fn write_checked(words: &mut [u16; 5], found: Checked)
+    ensures { λ _. ⌜ now (words .exit) ≡ checkedWords found ⌝ }
 {
-    match c {
+    match found {
         Checked::Accepted => {
-            *w = [0, 0, 0, 0, 0];
+            *words = [0, 0, 0, 0, 0];
         }
         Checked::Refused(why) => {
-            *w = refused_words(why);
+            *words = refused_words(why);
         }
     }
 }
 
 // The device words stand for no device state.
-pub fn write_unknown(w: &mut [u16; 5])
-    ensures { λ _. ⌜ now (w .exit) ≡ unknownWords ⌝ }
+pub fn write_unknown(words: &mut [u16; 5])
+    ensures { λ _. ⌜ now (words .exit) ≡ unknownWords ⌝ }
 {
-    *w = [8, 0, 0, 0, 0];
+    *words = [8, 0, 0, 0, 0];
 }
 
 // ---- A step's answer as 6 words: those of an answer, and the word that it stored

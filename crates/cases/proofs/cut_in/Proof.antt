@@ -5,7 +5,7 @@ use mathlib.Core.Path.{_≡_, ap, _∙_}
 use denote.Ref.{now}
 use Rattle.cases.proofs.Shown.{cut-seen}
 use Rattle.cases.specs.Seen.{none}
-use Rattle.device.specs.Turn.{Result}
+use Rattle.device.specs.Result.{Result}
 use Rattle.model.specs.Calls.{run}
 use Rattle.model.specs.Device.{fresh, boot, cut}
 use Rattle.model.specs.declared.Device.{Device}
@@ -44,10 +44,10 @@ same-length c = c .before .before .run2 .kept .1 .0 ∙ c .before .before .befor
 returns : tie.Need-returns
 unfolding fresh cut
 returns c =
-    let p = now (c .before .before .before .before .before .before .before .before .before .before .before .before .before .before .before .before .before .before .before .before .before .args .p) in
+    let p = now (c .before .before .before .before .before .before .before .before .before .before .before .before .before .before .before .before .before .before .before .before .before .args .program) in
     let ran : (n : ℕ) (s : List ℕ) (d : Device) (t : Totals) → t ≡ none → run p n s d t .store ≡ run p n s d none .store = λ n s d t e. ap (λ (t : Totals). run p n s d t .store) e in
     let again = c .before .before .before .before .before .boot2 .ensures .device ∙ ap (λ (x : Result). boot p (c .before .before .before .before .before .before .before .before .before .before .run .last .1 .0) (x .device) .device) (c .before .before .before .before .before .before .before .cut .ensures []) in
-    cut-seen p _ (c .before .before .before .before .before .before .before .before .before .before .before .before .before .before .before .before .before .format .ensures .1) (c .before .before .before .before .before .before .before .before .before .before .before .before .before .boot .ensures .device) (c .before .before .before .before .before .before .before .before .before .before .before .before .before .before .before .before .before .before .before .before .before .args .n) (c .before .before .before .before .before .before .before .before .before .before .before .before .before .before .before .before .before .before .before .before .before .args .m)
+    cut-seen p _ (c .before .before .before .before .before .before .before .before .before .before .before .before .before .before .before .before .before .format .ensures .1) (c .before .before .before .before .before .before .before .before .before .before .before .before .before .boot .ensures .device) (c .before .before .before .before .before .before .before .before .before .before .before .before .before .before .before .before .before .before .before .before .before .args .steps) (c .before .before .before .before .before .before .before .before .before .before .before .before .before .before .before .before .before .before .before .before .before .args .recovery)
     (c .before .before .before .before .before .before .before .before .before .before .run .ensures .store ∙ ran _ _ _ _ (c .before .before .before .before .before .before .before .before .before .before .before .none .ensures))
     again
     (c .before .before .run2 .ensures .store ∙ ran _ _ _ _ (c .before .before .before .none2 .ensures))

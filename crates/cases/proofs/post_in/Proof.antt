@@ -37,11 +37,11 @@ same-length c = c .before .before .before .before .run .kept .1 .0 ∙ c .before
 returns : tie.Need-returns
 unfolding fresh
 returns c =
-    let p = now (c .before .before .before .before .before .before .before .before .before .before .before .before .before .before .before .before .before .args .p) in
-    let ran : (s : List ℕ) (d : Device) (t : Totals) → t ≡ none → run p (c .before .before .before .before .before .before .before .before .before .before .before .before .before .before .before .before .before .args .n) s d t ≡ run p (c .before .before .before .before .before .before .before .before .before .before .before .before .before .before .before .before .before .args .n) s d none = λ s d t e. ap (λ (t : Totals). run p (c .before .before .before .before .before .before .before .before .before .before .before .before .before .before .before .before .before .args .n) s d t) e in
+    let p = now (c .before .before .before .before .before .before .before .before .before .before .before .before .before .before .before .before .before .args .program) in
+    let ran : (s : List ℕ) (d : Device) (t : Totals) → t ≡ none → run p (c .before .before .before .before .before .before .before .before .before .before .before .before .before .before .before .before .before .args .steps) s d t ≡ run p (c .before .before .before .before .before .before .before .before .before .before .before .before .before .before .before .before .before .args .steps) s d none = λ s d t e. ap (λ (t : Totals). run p (c .before .before .before .before .before .before .before .before .before .before .before .before .before .before .before .before .before .args .steps) s d t) e in
     λ full.
     let q = ran _ _ _ (c .before .before .before .before .before .none .ensures) in
-    let e = post-seen p _ (c .before .before .before .before .before .before .before .before .before .before .before .before .before .format .ensures .1) (c .before .before .before .before .before .before .before .before .before .boot .ensures .device) (c .before .before .before .before .before .before .before .before .before .before .before .before .before .before .before .before .before .args .n) (c .before .before .before .before .before .before .before .post .ensures .device) (c .before .before .before .before .run .ensures .store ∙ ap (λ (x : Ran). x .store) q) (c .before .before .before .before .run .ensures .device ∙ ap (λ (x : Ran). x .device) q) ∙ full in
+    let e = post-seen p _ (c .before .before .before .before .before .before .before .before .before .before .before .before .before .format .ensures .1) (c .before .before .before .before .before .before .before .before .before .boot .ensures .device) (c .before .before .before .before .before .before .before .before .before .before .before .before .before .before .before .before .before .args .steps) (c .before .before .before .before .before .before .before .post .ensures .device) (c .before .before .before .before .run .ensures .store ∙ ap (λ (x : Ran). x .store) q) (c .before .before .before .before .run .ensures .device ∙ ap (λ (x : Ran). x .device) q) ∙ full in
     c .post2 .ensures .answer .same (λ w x. queue-full-is-not-7 (sym e ∙ x)) ∙ e
 
 pub post-in-spec : {M : Type 1} → statement M

@@ -8,7 +8,8 @@ use Rattle.model.specs.Store.{Store}
 use Rattle.model.specs.Test.{_then_}
 use Rattle.model.specs.declared.Checked.{Checked}
 use Rattle.model.proofs.TestLaws.{then-assoc, then-accepted, then-stop, then-go, last, begin}
-use Rattle.model.proofs.RuleLaws.{obeyAll-append, early-are}
+use Rattle.model.proofs.Passed.{early-are}
+use Rattle.model.proofs.RuleLaws.{obeyAll-append}
 use Rattle.control.specs.Groups.{commitRules}
 use Rattle.control.proofs.early.Statement.{statement}
 use Rattle.control.proofs.early.Tie as tie

@@ -1,19 +1,22 @@
 -- `runtime_boot` meets its contract, by whether the device words are those of a device state. Assumes nothing.
 use mathlib.Core.Path.{refl}
 use denote.Ref.{now}
-use Rattle.exports.proofs.OnDevice.{on-state, on-none}
+use Rattle.exports.proofs.OnDevice.{state-read, none-read}
 use borrow.Author.Needs.{needs}
 use Rattle.exports.proofs.runtime_boot.Statement.{statement}
 use Rattle.exports.proofs.runtime_boot.Tie as tie
 
-read-device-requires : tie.Need-read-device-requires
-read-device-requires c κs = search needs
+is-state-requires : tie.Need-is-state-requires
+is-state-requires c κs = search needs
 
 write-unknown-requires : tie.Need-write-unknown-requires
 write-unknown-requires c κs = search needs
 
 returns : tie.Need-returns
-returns c = on-none (now (c .before .before .before .before .before .before .before .before .args .device)) _ _ (c .before .before .before .before .read-device .result) (c .before .before .before .before .read-device .ensures) (c .before .before .if1 .taken) (c .write-unknown .ensures, refl)
+returns c = none-read (now (c .before .before .before .before .before .before .before .args .device)) _ _ (c .before .before .before .is-state .ensures) (c .before .before .if1 .taken) (c .write-unknown .ensures, refl)
+
+state-of-requires : tie.Need-state-of-requires
+state-of-requires c κs = search needs
 
 boot-requires : tie.Need-boot-requires
 boot-requires c κs = search needs
@@ -23,16 +26,17 @@ tell-requires c κs = search needs
 
 returns-2 : tie.Need-returns-2
 returns-2 c =
-    on-state (now (c .before .before .before .before .before .before .before .before .before .before .before .args .device)) _ _ (c .before .before .before .before .before .before .before .read-device .result) (c .before .before .before .before .before .before .before .read-device .ensures) (c .before .before .before .before .before .if1 .left)
+    state-read (now (c .before .before .before .before .before .before .before .before .before .before .before .args .device)) _ _ (c .before .before .before .before .before .before .before .is-state .ensures) (c .before .before .before .before .before .before .if1 .left) (c .before .before .before .before .state-of .ensures)
     (c .before .before .before .boot .result, c .before .before .before .boot .ensures, c .tell .ensures .0, c .tell .ensures .1)
 
 pub runtime-boot-spec : {M : Type 1} → statement M
 runtime-boot-spec =
     tie.close
     (tie.spec
-    read-device-requires
+    is-state-requires
     write-unknown-requires
     returns
+    state-of-requires
     boot-requires
     tell-requires
     returns-2)

@@ -1,7 +1,7 @@
 -- `runtime_cut` meets its contract. Assumes nothing.
 use mathlib.Core.List.{[]}
 use mathlib.Core.Path.{ap, _∙_}
-use Rattle.device.specs.Turn.{Result}
+use Rattle.device.specs.Result.{Result}
 use Rattle.model.specs.Device.{cut}
 use Rattle.words.specs.Words.{answerWords, deviceWords}
 use borrow.Author.Needs.{needs}

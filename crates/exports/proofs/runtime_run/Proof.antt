@@ -1,22 +1,25 @@
 -- `runtime_run` meets its contract, by whether the device words are those of a device state. Assumes nothing.
 use mathlib.Core.Path.{refl, subst}
 use denote.Ref.{now}
-use Rattle.exports.proofs.OnDevice.{on-state, on-none}
+use Rattle.exports.proofs.OnDevice.{state-read, none-read}
 use Rattle.model.specs.Calls.{run}
 use Rattle.model.specs.declared.Totals.{Totals}
-use Rattle.runtime.specs.Ran.{RunPerforms}
+use Rattle.runtime.specs.RunResult.{RunPerforms}
 use borrow.Author.Needs.{needs}
 use Rattle.exports.proofs.runtime_run.Statement.{statement}
 use Rattle.exports.proofs.runtime_run.Tie as tie
 
-read-device-requires : tie.Need-read-device-requires
-read-device-requires c κs = search needs
+is-state-requires : tie.Need-is-state-requires
+is-state-requires c κs = search needs
 
 write-unknown-requires : tie.Need-write-unknown-requires
 write-unknown-requires c κs = search needs
 
 returns : tie.Need-returns
-returns c = on-none (now (c .before .before .before .before .before .before .before .before .args .device)) _ _ (c .before .before .before .before .read-device .result) (c .before .before .before .before .read-device .ensures) (c .before .before .if1 .taken) (refl, c .write-unknown .ensures, refl, refl, refl)
+returns c = none-read (now (c .before .before .before .before .before .before .before .args .device)) _ _ (c .before .before .before .is-state .ensures) (c .before .before .if1 .taken) (refl, c .write-unknown .ensures, (refl, refl, refl))
+
+state-of-requires : tie.Need-state-of-requires
+state-of-requires c κs = search needs
 
 totals-of-requires : tie.Need-totals-of-requires
 totals-of-requires c κs = search needs
@@ -40,8 +43,8 @@ returns-2 : tie.Need-returns-2
 returns-2 c =
     let p = now (c .before .before .before .before .before .before .before .before .before .before .before .before .before .before .before .before .before .before .before .before .before .args .program) in
     let s = now (c .before .before .before .before .before .before .before .before .before .before .before .before .before .before .before .before .before .before .before .before .before .args .store) in
-    let d = c .before .before .before .before .before .before .before .before .before .before .before .before .before .before .before .before .before .read-device .result .device in
-    on-state (now (c .before .before .before .before .before .before .before .before .before .before .before .before .before .before .before .before .before .before .before .before .before .args .device)) _ _ (c .before .before .before .before .before .before .before .before .before .before .before .before .before .before .before .before .before .read-device .result) (c .before .before .before .before .before .before .before .before .before .before .before .before .before .before .before .before .before .read-device .ensures) (c .before .before .before .before .before .before .before .before .before .before .before .before .before .before .before .if1 .left) (
+    let d = c .before .before .before .before .before .before .before .before .before .before .before .before .before .before .state-of .result in
+    state-read (now (c .before .before .before .before .before .before .before .before .before .before .before .before .before .before .before .before .before .before .before .before .before .args .device)) _ _ (c .before .before .before .before .before .before .before .before .before .before .before .before .before .before .before .before .before .is-state .ensures) (c .before .before .before .before .before .before .before .before .before .before .before .before .before .before .before .before .if1 .left) (c .before .before .before .before .before .before .before .before .before .before .before .before .before .before .state-of .ensures) (
       c .before .before .before .before .before .before .before .before .before .before .run .result,
       subst (λ (t : Totals). RunPerforms p (run p (c .before .before .before .before .before .before .before .before .before .before .before .before .before .before .before .before .before .before .before .before .before .args .budget) s d t) (c .before .before .before .before .before .before .before .before .before .before .run .result) (c .before .before .before .before .before .before .before .before .before .before .run .last .1 .0)) (c .before .before .before .before .before .before .before .before .before .before .before .totals-of .ensures) (c .before .before .before .before .before .before .before .before .before .before .run .ensures),
       refl,
@@ -54,9 +57,10 @@ pub runtime-run-spec : {M : Type 1} → statement M
 runtime-run-spec =
     tie.close
     (tie.spec
-    read-device-requires
+    is-state-requires
     write-unknown-requires
     returns
+    state-of-requires
     totals-of-requires
     run-requires
     write-ended-requires

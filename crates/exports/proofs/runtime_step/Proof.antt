@@ -4,7 +4,7 @@ use denote.Ref.{now}
 use Rattle.exports.proofs.OnDevice.{state-read, none-read}
 use Rattle.exports.specs.Exported.{totalsOf, totalsWords}
 use Rattle.model.specs.declared.Totals.{Totals}
-use Rattle.runtime.proofs.Told.{told-is-counted}
+use Rattle.runtime.proofs.Counted.{counted-as-told}
 use Rattle.totals.specs.Counted.{countedFrom}
 use borrow.Author.Needs.{needs}
 use Rattle.exports.proofs.runtime_step.Statement.{statement}
@@ -17,7 +17,7 @@ write-unknown-step-requires : tie.Need-write-unknown-step-requires
 write-unknown-step-requires c κs = search needs
 
 returns : tie.Need-returns
-returns c = none-read (now (c .before .before .before .before .before .before .before .args .device)) _ _ (c .before .before .before .is-state .ensures) (c .before .before .if1 .taken) (c .write-unknown-step .ensures, refl, refl, refl)
+returns c = none-read (now (c .before .before .before .before .before .before .before .args .device)) _ _ (c .before .before .before .is-state .ensures) (c .before .before .if1 .taken) (c .write-unknown-step .ensures, (refl, refl, refl))
 
 state-of-requires : tie.Need-state-of-requires
 state-of-requires c κs = search needs
@@ -53,7 +53,7 @@ returns-2 c =
           ∙ ap totalsWords
           (c .before .before .before .before .before .before .counted .ensures
           ∙ ap (λ (x : Totals). told x (r .answer) (r .stored)) (c .before .before .before .before .before .before .before .totals-of .ensures)
-          ∙ told-is-counted _ _ _ _ t (c .before .before .before .before .before .before .before .before .before .before .before .before .step .ensures)),
+          ∙ counted-as-told _ _ _ _ t (c .before .before .before .before .before .before .before .before .before .before .before .before .step .ensures)),
     )
 
 pub runtime-step-spec : {M : Type 1} → statement M

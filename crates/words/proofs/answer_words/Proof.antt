@@ -7,8 +7,8 @@ use Rattle.words.proofs.answer_words.Tie as tie
 enum-told : tie.Need-enum-told
 enum-told c = search needs
 
-enum-known-a : tie.Need-enum-known-a
-enum-known-a c = search needs
+enum-known-answer : tie.Need-enum-known-answer
+enum-known-answer c = search needs
 
 kind-requires : tie.Need-kind-requires
 kind-requires c κs = search needs
@@ -22,8 +22,8 @@ enum-told-2 c = search needs
 enum-told-3 : tie.Need-enum-told-3
 enum-told-3 c = search needs
 
-enum-known-a-2 : tie.Need-enum-known-a-2
-enum-known-a-2 c = search needs
+enum-known-answer-2 : tie.Need-enum-known-answer-2
+enum-known-answer-2 c = search needs
 
 kind-requires-2 : tie.Need-kind-requires-2
 kind-requires-2 c κs = search needs
@@ -34,8 +34,8 @@ number-requires-2 c κs = search needs
 enum-told-4 : tie.Need-enum-told-4
 enum-told-4 c = search needs
 
-enum-known-a-3 : tie.Need-enum-known-a-3
-enum-known-a-3 c = search needs
+enum-known-answer-3 : tie.Need-enum-known-answer-3
+enum-known-answer-3 c = search needs
 
 refused-words-requires : tie.Need-refused-words-requires
 refused-words-requires c κs = search needs
@@ -46,7 +46,7 @@ returns c = simp (c .enum-told .given .1)
 
 returns-2 : tie.Need-returns-2
 unfolding answerWords
-returns-2 c = simp (c .before .before .before .a .given .1, c .before .kind .ensures, c .number .ensures)
+returns-2 c = simp (c .before .before .before .answer .given .1, c .before .kind .ensures, c .number .ensures)
 
 returns-3 : tie.Need-returns-3
 unfolding answerWords
@@ -58,7 +58,7 @@ returns-4 c = simp (c .enum-told3 .given .1)
 
 returns-5 : tie.Need-returns-5
 unfolding answerWords
-returns-5 c = simp (c .before .before .before .a2 .given .1, c .before .kind2 .ensures, c .number2 .ensures)
+returns-5 c = simp (c .before .before .before .answer2 .given .1, c .before .kind2 .ensures, c .number2 .ensures)
 
 returns-6 : tie.Need-returns-6
 unfolding answerWords
@@ -66,23 +66,23 @@ returns-6 c = simp (c .enum-told4 .given .1)
 
 returns-7 : tie.Need-returns-7
 unfolding answerWords
-returns-7 c = simp (c .before .before .a3 .given .1, c .refused-words .ensures)
+returns-7 c = simp (c .before .before .answer3 .given .1, c .refused-words .ensures)
 
 pub answer-words-spec : {M : Type 1} → statement M
 answer-words-spec =
     tie.close
     (tie.spec
     enum-told
-    enum-known-a
+    enum-known-answer
     kind-requires
     number-requires
     enum-told-2
     enum-told-3
-    enum-known-a-2
+    enum-known-answer-2
     kind-requires-2
     number-requires-2
     enum-told-4
-    enum-known-a-3
+    enum-known-answer-3
     refused-words-requires
     returns
     returns-2

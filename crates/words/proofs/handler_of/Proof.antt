@@ -1,26 +1,22 @@
 -- `words::handler_of` meets its contract: its test is the definition's. Assumes nothing.
-use Rattle.words.specs.Words.{handlerOf}
-use Rattle.model.specs.Test.{pick}
-use Rattle.words.proofs.Parts.{tests}
+use mathlib.Core.Path.{sym}
 use borrow.Author.Needs.{needs}
+use borrow.Author.Tests.{eq-eqb, ne-eqb}
+use Rattle.model.proofs.TestLaws.{pick-true, pick-false}
+use Rattle.words.specs.Words.{handlerOf}
 use Rattle.words.proofs.handler_of.Statement.{statement}
 use Rattle.words.proofs.handler_of.Tie as tie
 
 returns : tie.Need-returns
-unfolding handlerOf pick
-returns c = search tests
+unfolding handlerOf
+returns c = sym (pick-true _ _ (eq-eqb _ _ (c .if1 .taken)))
 
-next-of-requires : tie.Need-next-of-requires
-next-of-requires c κs = search needs
+sub-t5 : tie.Need-sub-t5
+sub-t5 c = search needs
 
 returns-2 : tie.Need-returns-2
-unfolding handlerOf pick
-returns-2 c = search (tests, c .next-of .ensures)
+unfolding handlerOf
+returns-2 c = sym (pick-false _ _ (ne-eqb _ _ (c .if1 .left)))
 
 pub handler-of-spec : {M : Type 1} → statement M
-handler-of-spec =
-    tie.close
-    (tie.spec
-    returns
-    next-of-requires
-    returns-2)
+handler-of-spec = tie.close (tie.spec returns sub-t5 returns-2)

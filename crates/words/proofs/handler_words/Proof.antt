@@ -7,8 +7,8 @@ use Rattle.words.proofs.handler_words.Tie as tie
 enum-told : tie.Need-enum-told
 enum-told c = search needs
 
-enum-known-h : tie.Need-enum-known-h
-enum-known-h c = search needs
+enum-known-handler : tie.Need-enum-known-handler
+enum-known-handler c = search needs
 
 next-word-requires : tie.Need-next-word-requires
 next-word-requires c κs = search needs
@@ -19,14 +19,14 @@ returns c = simp (c .enum-told .given .1)
 
 returns-2 : tie.Need-returns-2
 unfolding handlerWords
-returns-2 c = simp (c .before .before .h .given .1, c .next-word .ensures)
+returns-2 c = simp (c .before .before .handler .given .1, c .next-word .ensures)
 
 pub handler-words-spec : {M : Type 1} → statement M
 handler-words-spec =
     tie.close
     (tie.spec
     enum-told
-    enum-known-h
+    enum-known-handler
     next-word-requires
     returns
     returns-2)

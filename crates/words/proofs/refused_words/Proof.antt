@@ -11,20 +11,20 @@ enum-told c = search needs
 enum-told-2 : tie.Need-enum-told-2
 enum-told-2 c = search needs
 
-enum-known-e : tie.Need-enum-known-e
-enum-known-e c = search needs
+enum-known-why : tie.Need-enum-known-why
+enum-known-why c = search needs
 
-enum-known-e-2 : tie.Need-enum-known-e-2
-enum-known-e-2 c = search needs
+enum-known-why-2 : tie.Need-enum-known-why-2
+enum-known-why-2 c = search needs
 
-enum-known-e-3 : tie.Need-enum-known-e-3
-enum-known-e-3 c = search needs
+enum-known-why-3 : tie.Need-enum-known-why-3
+enum-known-why-3 c = search needs
 
 enum-told-3 : tie.Need-enum-told-3
 enum-told-3 c = search needs
 
-enum-known-e-4 : tie.Need-enum-known-e-4
-enum-known-e-4 c = search needs
+enum-known-why-4 : tie.Need-enum-known-why-4
+enum-known-why-4 c = search needs
 
 enum-told-4 : tie.Need-enum-told-4
 enum-told-4 c = search needs
@@ -63,15 +63,15 @@ returns-2 c = simp (c .enum-told2 .given .1)
 
 returns-3 : tie.Need-returns-3
 unfolding refusedWords refusal
-returns-3 c = simp (c .before .e .given .1)
+returns-3 c = simp (c .before .why .given .1)
 
 returns-4 : tie.Need-returns-4
 unfolding refusedWords refusal
-returns-4 c = simp (c .before .e2 .given .1)
+returns-4 c = simp (c .before .why2 .given .1)
 
 returns-5 : tie.Need-returns-5
 unfolding refusedWords refusal
-returns-5 c = simp (c .before .e3 .given .1)
+returns-5 c = simp (c .before .why3 .given .1)
 
 returns-6 : tie.Need-returns-6
 unfolding refusedWords refusal
@@ -79,7 +79,7 @@ returns-6 c = simp (c .enum-told3 .given .1)
 
 returns-7 : tie.Need-returns-7
 unfolding refusedWords refusal
-returns-7 c = simp (c .before .e4 .given .1)
+returns-7 c = simp (c .before .why4 .given .1)
 
 returns-8 : tie.Need-returns-8
 unfolding refusedWords refusal
@@ -123,11 +123,11 @@ refused-words-spec =
     (tie.spec
     enum-told
     enum-told-2
-    enum-known-e
-    enum-known-e-2
-    enum-known-e-3
+    enum-known-why
+    enum-known-why-2
+    enum-known-why-3
     enum-told-3
-    enum-known-e-4
+    enum-known-why-4
     enum-told-4
     enum-told-5
     enum-told-6

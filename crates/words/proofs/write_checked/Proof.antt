@@ -7,8 +7,8 @@ use Rattle.words.proofs.write_checked.Tie as tie
 enum-told : tie.Need-enum-told
 enum-told c = search needs
 
-enum-known-c : tie.Need-enum-known-c
-enum-known-c c = search needs
+enum-known-found : tie.Need-enum-known-found
+enum-known-found c = search needs
 
 refused-words-requires : tie.Need-refused-words-requires
 refused-words-requires c κs = search needs
@@ -19,14 +19,14 @@ returns c = simp (c .before .enum-told .given .1)
 
 returns-2 : tie.Need-returns-2
 unfolding checkedWords
-returns-2 c = simp (c .before .before .c .given .1, c .refused-words .ensures)
+returns-2 c = simp (c .before .before .found .given .1, c .refused-words .ensures)
 
 pub write-checked-spec : {M : Type 1} → statement M
 write-checked-spec =
     tie.close
     (tie.spec
     enum-told
-    enum-known-c
+    enum-known-found
     refused-words-requires
     returns
     returns-2)

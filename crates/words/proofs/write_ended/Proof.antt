@@ -7,8 +7,8 @@ use Rattle.words.proofs.write_ended.Tie as tie
 enum-told : tie.Need-enum-told
 enum-told c = search needs
 
-enum-known-e : tie.Need-enum-known-e
-enum-known-e c = search needs
+enum-known-ended : tie.Need-enum-known-ended
+enum-known-ended c = search needs
 
 refused-words-requires : tie.Need-refused-words-requires
 refused-words-requires c κs = search needs
@@ -19,14 +19,14 @@ returns c = simp (c .before .enum-told .given .1)
 
 returns-2 : tie.Need-returns-2
 unfolding endedWords
-returns-2 c = simp (c .before .before .e .given .1, c .refused-words .ensures)
+returns-2 c = simp (c .before .before .ended .given .1, c .refused-words .ensures)
 
 pub write-ended-spec : {M : Type 1} → statement M
 write-ended-spec =
     tie.close
     (tie.spec
     enum-told
-    enum-known-e
+    enum-known-ended
     refused-words-requires
     returns
     returns-2)
