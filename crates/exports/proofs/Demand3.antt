@@ -15,7 +15,7 @@ use Rattle.model.proofs.Observed.{observed}
 use Rattle.model.proofs.Words.{fresh-device-words, words-stay-words, format-stays-words}
 use Rattle.model.specs.Answer.{refusal}
 use Rattle.model.specs.Calls.{Call, Boot, Step, Cut, Post, Now, call, afterCalls, steps, noTotals, counted, totalsAfter, Ran as Defined, run}
-use Rattle.model.specs.Claims.{Words, DeviceWords, CallWords, EndedSo, IsSteps, AreCounts}
+use Rattle.model.specs.Claims.{Words, HandlerWords, DeviceWords, CallWords, EndedSo, IsSteps, AreCounts}
 use Rattle.model.specs.Demand3.{isIn, mayMeet, Expected, Left, recoverySteps, recovering}
 use Rattle.model.specs.Device.{Out, fresh, off, boot, cut, post, step}
 use Rattle.model.specs.Store.{view, settled, format, formatCheck}
@@ -23,11 +23,13 @@ use Rattle.model.specs.Test.{_or_}
 use Rattle.model.specs.declared.Answer.{Answer}
 use Rattle.model.specs.declared.Checked.{Checked}
 use Rattle.model.specs.declared.Device.{Device}
+use Rattle.model.specs.declared.Handler.{Handler}
+use Rattle.model.specs.declared.Handler.the-variants.{Resting, Storing}
 use Rattle.model.specs.declared.Ended.{Ended}
 use Rattle.model.specs.declared.Refusal.{Refusal}
 use Rattle.model.specs.declared.Totals.{Totals}
 use Rattle.words.proofs.Words.{back}
-use Rattle.words.specs.Words.{flag, placeWords, handlerWords, deviceOf, known, deviceWords, endedWords, refusedWords, checkedWords}
+use Rattle.words.specs.Words.{flag, placeWords, handlerWords, StoreLeft, HasWords, deviceOf, known, deviceWords, endedWords, refusedWords, checkedWords}
 
 -- ---- 7 doesn't come up
 
@@ -61,6 +63,10 @@ totals-read : (t : Totals) → totalsOf (totalsWords t) ≡ t
 unfolding totalsOf totalsWords
 totals-read t = refl
 
+store-left : (h : Handler) → HandlerWords h → StoreLeft h
+store-left Resting ws = tt
+store-left (Storing c e x) ws = ws .0
+
 steps-words : (p : List ℕ) → Words p → (n : ℕ) (s : List ℕ) (d : Device) → Words s → DeviceWords d
     → Words (afterCalls p s d (steps n) .store) × DeviceWords (afterCalls p s d (steps n) .device)
 unfolding afterCalls steps
@@ -83,8 +89,11 @@ module _ (p : List ℕ) (ps : Words p) (l q : ℕ) (before : List ℕ) (e : form
     abbrev T : Totals
     T = totalsAfter p s off cs noTotals
 
+    has-words : HasWords D
+    has-words = record { registers = at .device-words .regs-length; handler = store-left (D .handler) (at .device-words .handler) }
+
     read : deviceOf (h .device) ≡ known D
-    read = ap deviceOf (at .device) ∙ back D (at .device-words .regs-length)
+    read = ap deviceOf (at .device) ∙ back D has-words
 
     -- ---- a call of its own
 
@@ -239,7 +248,7 @@ module _ (p : List ℕ) (ps : Words p) (l q : ℕ) (before : List ℕ) (e : form
           left = λ all. subst (λ (u : List ℕ). Left (view u) (o .state)) (sym (store-is ∙ ap (recovering p s calls) (all ∙ count-is))) (o .left);
         }
 
-    exports-observed : ExportsObserved p s xs g
+    exports-observed : ExportsObserved p l q s xs g
     exports-observed =
         record {
           answers = reached .0;
@@ -262,4 +271,4 @@ accepted-told (Checked.Refused r) e = let z : _≡_ {A = ℕ} 0 6 = cc in absurd
 pub demand3-of-exports : Demand3OfExports
 demand3-of-exports p l q before answer s ps bs (told, stored) accepted xs g made =
     let e = accepted-told (formatCheck p l q before) (sym told ∙ accepted) in
-    subst (λ (u : List ℕ). MakesAll p (atFirst u) xs g → ExportsObserved p u xs g) (sym stored) (exports-observed p ps l q before e bs xs g) made
+    subst (λ (u : List ℕ). MakesAll p (atFirst u) xs g → ExportsObserved p l q u xs g) (sym stored) (exports-observed p ps l q before e bs xs g) made

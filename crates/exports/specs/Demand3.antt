@@ -66,12 +66,12 @@ pub record RecoversTo (g : Held) (z : Serial) (m : ℕ) (r : Held) : Type 0 wher
   pub left : m ≡ recoverySteps (view (g .store)) → Left (view (r .store)) z
 
 -- A host made the calls xs on the fresh store s and holds g.
-pub record ExportsObserved (p s : List ℕ) (xs : List Exchange) (g : Held) : Type 0 where
+pub record ExportsObserved (p : List ℕ) (l q : ℕ) (s : List ℕ) (xs : List Exchange) (g : Held) : Type 0 where
   pub answers : AllAnswered p s [] xs
   pub store : g .store ≡ afterCalls p s off (allCalls xs) .store
   pub device : g .device ≡ deviceWords (afterCalls p s off (allCalls xs) .device)
   pub totals : AreCounts p s off (allCalls xs) (totalsOf (g .totals))
-  pub observed : Observed p s (allCalls xs)
+  pub observed : Observed p l q s (allCalls xs)
   pub recovers : (ys : List Exchange) (m : ℕ) (r : Held) → allCalls ys ≡ Cut ∷ Boot ∷ steps m → MakesAll p g ys r
       → RecoversTo g (observed .state) m r
 
@@ -82,4 +82,4 @@ atFirst s = holding s (replicate 18 0) (replicate 3 0)
 abbrev pub Demand3OfExports : Type 0
 Demand3OfExports =
     (p : List ℕ) (l q : ℕ) (before answer s : List ℕ) → Words p → Words before → Formats p l q before answer s
-    → answer ≡ checkedWords Checked.Accepted → (xs : List Exchange) (g : Held) → MakesAll p (atFirst s) xs g → ExportsObserved p s xs g
+    → answer ≡ checkedWords Checked.Accepted → (xs : List Exchange) (g : Held) → MakesAll p (atFirst s) xs g → ExportsObserved p l q s xs g
