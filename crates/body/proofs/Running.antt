@@ -1,18 +1,17 @@
 -- The laws of a running body: what the early checks give, a fetch check by check, and `placeStep` from what
 -- is fetched. Assumes nothing.
-use Prim.Native.Nat.{ℕ, _+_, _*_, _≤_, _<_}
+use Prim.Native.Nat.{ℕ, _<_}
 use mathlib.Core.Bool.{Bool, true, false}
 use mathlib.Core.List.{List}
 use mathlib.Core.Path.{_≡_, refl, sym, _∙_, ap}
 use native.Mathlib.Omega.{arith}
-use borrow.Author.Tests.{lt-ltb, le-ltb}
 use lib.Dec.{ltb}
 use Rattle.model.proofs.TestLaws.{then-first, then-rest, impossible}
 use Rattle.model.specs.Accepted.{MayRun, Stands, HasBody, Looked}
-use Rattle.model.specs.Check.{rowsInside, rowUsed, instructionRule}
-use Rattle.model.specs.Device.{endStores, recordSound, headSound, namedRow, openSound, headIs, saves, placeFits, bodySound, Out, refuse, judged, act, saveRest, placeStep}
-use Rattle.model.specs.Program.{word, events, memoryWords, instructions, number, effectAt}
-use Rattle.model.specs.Store.{Store, view, event, queueAt}
+use Rattle.model.specs.Check.{instructionRule}
+use Rattle.model.specs.Device.{endStores, namedRow, openSound, headIs, saves, placeFits, bodySound, Out, refuse, judged, act, saveRest, placeStep}
+use Rattle.model.specs.Program.{word, instructions, number, effectAt}
+use Rattle.model.specs.Store.{Store, view}
 use Rattle.model.specs.Test.{pick, _and_, must, _then_}
 use Rattle.model.specs.declared.Body.{Body}
 use Rattle.model.specs.declared.Checked.{Checked}

@@ -1,4 +1,4 @@
--- `run::refusal` meets its contract, by the answer. Assumes nothing.
+-- `refusal` meets its contract, by the answer. Assumes nothing.
 use Rattle.model.specs.Calls.{unlessRefused}
 use borrow.Author.Needs.{needs}
 use Rattle.runtime.proofs.refusal.Statement.{statement}

@@ -1,4 +1,4 @@
--- `run::run` meets its contract: the device is taken apart and put together again. Assumes nothing.
+-- `run` meets its contract: the device is taken apart and put together again. Assumes nothing.
 use mathlib.Core.Path.{sym, ap, subst, _∙_}
 use denote.Ref.{now}
 use Rattle.device.specs.Agree.{Agrees}

@@ -1,4 +1,4 @@
--- `run::sound_after` meets its contract, by the answer. Assumes nothing.
+-- `sound_after` meets its contract, by the answer. Assumes nothing.
 use Rattle.model.specs.Claims.{soundAfter}
 use borrow.Author.Needs.{needs}
 use Rattle.runtime.proofs.sound_after.Statement.{statement}

@@ -1,5 +1,5 @@
 -- `steps::choose_step` meets its contract: word 10, the queue, and the record at head. Assumes nothing.
-use mathlib.Core.Path.{_≡_, sym, ap, _∙_}
+use mathlib.Core.Path.{sym, ap, _∙_}
 use denote.Ref.{now}
 use borrow.Author.Tests.{eq-eqb}
 use Rattle.model.proofs.DeviceLaws.{choose-open, choose-empty}

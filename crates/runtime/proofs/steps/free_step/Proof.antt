@@ -1,4 +1,4 @@
--- `free_step` meets its contract, by the phase. Assumes nothing.
+-- `steps::free_step` meets its contract, by the phase. Assumes nothing.
 use mathlib.Core.Path.{sym, ap, _∙_}
 use denote.Ref.{now}
 use Rattle.device.specs.Result.{device, ofOutcome}

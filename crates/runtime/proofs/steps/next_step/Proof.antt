@@ -1,4 +1,4 @@
--- `next_step` meets its contract, by the handler. Assumes nothing.
+-- `steps::next_step` meets its contract, by the handler. Assumes nothing.
 use mathlib.Core.Path.{sym, ap, _∙_}
 use denote.Ref.{now}
 use Rattle.device.specs.Result.{device, ofOutcome}

@@ -1,4 +1,4 @@
--- `place_step` meets its contract, by the place. Assumes nothing.
+-- `steps::place_step` meets its contract, by the place. Assumes nothing.
 use mathlib.Core.Logic.{⊎-elim}
 use mathlib.Core.Path.{sym, ap, _∙_}
 use native.Mathlib.Omega.{arith}
