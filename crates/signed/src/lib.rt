@@ -37,14 +37,14 @@ fn signed(word: u16) -> i32
 }
 
 // The word that a number from -32768 to 32767 is as two's complement.
-fn unsigned(number: i32) -> u16
-    requires { ⌜ mag number < 32768 ⌝ }
-    ensures { λ r. ⌜ r ≡ unsigned number ⌝ }
+fn unsigned(value: i32) -> u16
+    requires { ⌜ mag value < 32768 ⌝ }
+    ensures { λ r. ⌜ r ≡ unsigned value ⌝ }
 {
-    if number < 0 {
-        (number + 65536) as u16
+    if value < 0 {
+        (value + 65536) as u16
     } else {
-        number as u16
+        value as u16
     }
 }
 

@@ -23,40 +23,40 @@ module _ (z : ℤ) (n : ℕ) (h : n < 32768) (e : z ≡ pos n) where
   back : toZ w32 (ofZ w32 z) ≡ pos n
   back = rw e (read-back (pos n) (omega arith))
 
-negative : (c : tie.Then1) → c .before .args .number ≡ negsuc (mag (c .before .args .number))
-negative c = below-zero (c .before .args .number) _ (omega arith) refl (c .if1 .taken)
+negative : (c : tie.Then1) → c .before .args .value ≡ negsuc (mag (c .before .args .value))
+negative c = below-zero (c .before .args .value) _ (omega arith) refl (c .if1 .taken)
 
-other : (c : tie.Else1) → c .before .args .number ≡ pos (mag (c .before .args .number))
-other c = from-zero (c .before .args .number) _ (omega arith) refl (c .if1 .left)
+other : (c : tie.Else1) → c .before .args .value ≡ pos (mag (c .before .args .value))
+other c = from-zero (c .before .args .value) _ (omega arith) refl (c .if1 .left)
 
 add-result : tie.Need-add-result
-add-result c = rw (raised (c .before .args .number) (mag (c .before .args .number)) (c .before .pre) (negative c)) (omega arith)
+add-result c = rw (raised (c .before .args .value) (mag (c .before .args .value)) (c .before .pre) (negative c)) (omega arith)
 
 cast-result : tie.Need-cast-result
 cast-result c =
     let args = c .before .args in
     let pre = c .before .pre in
-    rw (raised-back (args .number) (mag (args .number)) pre (negative c)) (tt, omega arith)
+    rw (raised-back (args .value) (mag (args .value)) pre (negative c)) (tt, omega arith)
 
 cast-result-2 : tie.Need-cast-result-2
 cast-result-2 c =
     let args = c .before .args in
     let pre = c .before .pre in
-    rw (back (args .number) (mag (args .number)) pre (other c)) (tt, omega arith)
+    rw (back (args .value) (mag (args .value)) pre (other c)) (tt, omega arith)
 
 returns : tie.Need-returns
 unfolding unsigned
 returns c =
     let args = c .before .args in
     let pre = c .before .pre in
-    rw (raised-back (args .number) (mag (args .number)) pre (negative c)) (sym (ap unsigned (negative c)))
+    rw (raised-back (args .value) (mag (args .value)) pre (negative c)) (sym (ap unsigned (negative c)))
 
 returns-2 : tie.Need-returns-2
 unfolding unsigned
 returns-2 c =
     let args = c .before .args in
     let pre = c .before .pre in
-    rw (back (args .number) (mag (args .number)) pre (other c)) (sym (ap unsigned (other c)))
+    rw (back (args .value) (mag (args .value)) pre (other c)) (sym (ap unsigned (other c)))
 
 pub unsigned-spec : {M : Type 1} → statement M
 unsigned-spec = tie.close (tie.spec add-result cast-result cast-result-2 returns returns-2)
