@@ -79,7 +79,7 @@ fn missing(all: &Counts) -> Vec<String> {
             }
         }
     }
-    let post = Call::Post { event: 0, data: 0 };
+    let post = Call::Post { event: 0, datum: 0 };
     for call in [Call::Boot, Call::Step, post, Call::Cut, Call::Run { budget: 1 }] {
         let kind = call.kind().expect("a call of the runtime");
         if all.no_device[kind] == 0 && call.looks_at_device() {

@@ -11,7 +11,7 @@ pub enum Call {
     Format { log_pairs: u16, queue_records: u16 },
     Boot,
     Step,
-    Post { event: u16, data: u16 },
+    Post { event: u16, datum: u16 },
     Cut,
     Run { budget: u32 },
     /// Damage: a word of the program or of the store, where it has that word.
@@ -165,7 +165,7 @@ impl Machine {
             }
             Call::Boot => runtime.boot(program, store, device),
             Call::Step => return Some(Outcome::Step(runtime.step(program, store, device, totals))),
-            Call::Post { event, data } => runtime.post(program, store, device, event, data),
+            Call::Post { event, datum } => runtime.post(program, store, device, event, datum),
             Call::Cut => runtime.cut(device),
             Call::Run { budget } => {
                 return Some(Outcome::Run(runtime.run(program, store, device, totals, budget)));
@@ -234,7 +234,7 @@ pub fn call_text(call: &Call) -> String {
         Call::Format { log_pairs, queue_records } => format!("format {log_pairs} {queue_records}"),
         Call::Boot => "boot".into(),
         Call::Step => "step".into(),
-        Call::Post { event, data } => format!("post {event} {data}"),
+        Call::Post { event, datum } => format!("post {event} {datum}"),
         Call::Cut => "cut".into(),
         Call::Run { budget } => format!("run {budget}"),
         Call::SetProgram { index, word } => format!("set-program {index} {word}"),
@@ -311,7 +311,7 @@ impl Scenario {
                 "format" => Call::Format { log_pairs: word(0)?, queue_records: word(1)? },
                 "boot" => Call::Boot,
                 "step" => Call::Step,
-                "post" => Call::Post { event: word(0)?, data: word(1)? },
+                "post" => Call::Post { event: word(0)?, datum: word(1)? },
                 "cut" => Call::Cut,
                 "run" => Call::Run { budget: get(0)? },
                 "set-program" => Call::SetProgram { index: get(0)? as usize, word: word(1)? },

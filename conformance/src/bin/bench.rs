@@ -29,7 +29,7 @@ trait Side<'a> {
     fn step(&mut self);
     /// A run, all of whose budget is spent.
     fn run(&mut self, budget: u32);
-    fn post(&mut self, event: u16, data: u16);
+    fn post(&mut self, event: u16, datum: u16);
     fn left(self) -> Left;
 }
 
@@ -134,7 +134,7 @@ impl<'a, const REFERENCE: bool> Side<'a> for Words<'a, REFERENCE> {
         assert_eq!((steps, black_box(self.answer)[0]), (budget, 7));
     }
 
-    fn post(&mut self, event: u16, data: u16) {
+    fn post(&mut self, event: u16, datum: u16) {
         let program = black_box(self.program);
         unsafe {
             (self.functions.post)(
@@ -144,7 +144,7 @@ impl<'a, const REFERENCE: bool> Side<'a> for Words<'a, REFERENCE> {
                 self.store.len(),
                 self.device.as_mut_ptr(),
                 black_box(event),
-                black_box(data),
+                black_box(datum),
                 self.answer.as_mut_ptr(),
             )
         };
@@ -181,10 +181,10 @@ impl<'a> Side<'a> for Rust<'a> {
         assert_eq!(black_box(answer), RunAnswer { steps: budget, end: End::Spent });
     }
 
-    fn post(&mut self, event: u16, data: u16) {
+    fn post(&mut self, event: u16, datum: u16) {
         let program = black_box(self.program);
         let answer =
-            Reference.post(program, &mut self.store, &mut self.device, black_box(event), black_box(data));
+            Reference.post(program, &mut self.store, &mut self.device, black_box(event), black_box(datum));
         assert_eq!(black_box(answer), Answer::Done);
     }
 
