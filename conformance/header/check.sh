@@ -1,5 +1,5 @@
 #!/usr/bin/env bash
-# The header: clean in every standard of C from C89 and of C++ from C++98, as the example in C is; the same names and numbers in Rust;
+# The header: clean in every standard of C from C89 and of C++ from C++98, as the example in C is in both; the same names and numbers in Rust;
 # each number as the library has it (constants.c), and each of them such that another number there would fail.
 #
 #     conformance/header/check.sh [FOLDER]     after `rt staticlib exports`; what it builds goes to FOLDER (target/header)
@@ -12,15 +12,16 @@ mkdir -p "$out"
 
 # Twice, for the guard.
 printf '#include "runtime.h"\n#include "runtime.h"\nint main(void);\n' > "$out/twice.c"
-for standard in c89 c99 c11 c17; do
-    gcc -std=$standard $strict -I include -fsyntax-only "$out/twice.c"
-    gcc -std=$standard $strict -O2 -I include examples/c/main.c $archive -o "$out/counting-$standard"
-    "$out/counting-$standard" | diff examples/output.txt -
-done
-for standard in c++98 c++11 c++17 c++20; do
-    g++ -std=$standard $strict -I include -x c++ -fsyntax-only "$out/twice.c"
-done
-echo "the header is clean in C89, C99, C11, C17, C++98, C++11, C++17 and C++20"
+
+# The header and the example in one standard: compiler, language, standard.
+clean() {
+    $1 -x "$2" -std="$3" $strict -I include -fsyntax-only "$out/twice.c"
+    $1 -x "$2" -std="$3" $strict -O2 -I include examples/c/main.c -x none $archive -o "$out/counting-$3"
+    "$out/counting-$3" | diff examples/output.txt -
+}
+for standard in c89 c99 c11 c17; do clean gcc c $standard; done
+for standard in c++98 c++11 c++17 c++20; do clean g++ c++ $standard; done
+echo "the header and the example are clean in C89, C99, C11, C17, C++98, C++11, C++17 and C++20"
 
 numbers() { sed -n 's/^#define RUNTIME_\([A-Z_]*\) \([0-9A-Fx]*\)\( .*\)\?$/\1 \2/p' include/runtime.h; }
 count=$(numbers | wc -l)
