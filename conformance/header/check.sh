@@ -28,26 +28,22 @@ count=$(numbers | wc -l)
 test "$count" = "$(grep -c '^#define RUNTIME_[A-Z_]* ' include/runtime.h)"
 diff <(numbers) <(sed -n 's/^pub const \([A-Z_]*\): u[a-z0-9]* = \([0-9A-Fx]*\);.*/\1 \2/p' examples/rust/runtime.rs)
 
-# constants.c over the header in folder $1, with the library's functions.
-constants() { gcc -std=c89 -I "$1" conformance/header/constants.c $archive -o "$1/constants"; }
-mkdir -p "$out/right"
-cp include/runtime.h "$out/right"
-constants "$out/right"
-"$out/right/constants"
+gcc -std=c89 $strict -I include conformance/header/constants.c $archive -o "$out/constants"
+"$out/constants"
 
-# Whether constants.c fails over headers with one more, and with one less, in the place of this number.
-another() {
-    local value folder=$out/another/$1
-    mkdir -p "$folder"
-    for value in $(($2 + 1)) $(($2 - 1)); do
-        sed "s/^\(#define RUNTIME_$1 \)$2\b/\1$value/" include/runtime.h > "$folder/runtime.h"
-        if cmp -s include/runtime.h "$folder/runtime.h" || ! constants "$folder" || "$folder/constants" > /dev/null; then
-            echo "RUNTIME_$1 may be $value, and nothing fails"
-            return 1
+# The same over a header in which every number is a call of other.h, which gives another number in the place of one.
+mkdir -p "$out/other"
+awk '/^#define RUNTIME_[A-Z_]* / { $3 = "other(" number++ ", " $3 ")" } { print }' include/runtime.h > "$out/other/runtime.h"
+gcc -include conformance/header/other.h -I "$out/other" conformance/header/constants.c $archive -o "$out/other/constants"
+"$out/other/constants"
+number=0
+for name in $(numbers | cut -d' ' -f1); do
+    for more in 1 -1; do
+        if OTHER_NUMBER=$number OTHER_MORE=$more "$out/other/constants" > /dev/null; then
+            echo "RUNTIME_$name $more may stand in its place, and nothing fails"
+            exit 1
         fi
     done
-}
-export -f another constants
-export out archive
-numbers | xargs -P 2 -L 1 bash -c 'another "$0" "$1"'
+    number=$((number + 1))
+done
 echo "each of $count numbers is the library's and Rust's, and one more or one less in its place fails"

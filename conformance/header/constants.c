@@ -2,7 +2,8 @@
  * this, and shows that it fails when any one of the numbers is another.
  *
  * Words are put into programs and looked for in stores, devices and answers by the names alone, and whole arrays are
- * compared, so a wrong index shows as a wrong value does. Rows and instructions are laid out as document 01 says.
+ * compared, so a wrong index shows as a wrong value does. Rows and instructions are laid out as document 01 says. The
+ * arrays here are longer than any length in the header, so that a wrong length is seen and does no harm.
  */
 #include "runtime.h"
 
@@ -11,19 +12,18 @@
 #include <string.h>
 
 #define GUARD 0xA5C3 /* what stands behind the words that are lent */
-#define SPARE 64
 #define ALL(array) (sizeof(array) / sizeof *(array))
 #define HOLDS(condition) holds(condition, #condition, __LINE__)
 
-static uint16_t program[RUNTIME_MAX_PROGRAM_WORDS + 2048];
+static uint16_t program[32768];
 static size_t program_length;
-static uint16_t store[RUNTIME_MAX_STORE_WORDS + SPARE];
+static uint16_t store[2048];
 static size_t store_length;
-static uint16_t device[RUNTIME_DEVICE_WORDS + SPARE];
-static uint16_t device_expected[RUNTIME_DEVICE_WORDS + SPARE];
-static uint32_t totals[RUNTIME_TOTALS_NUMBERS + SPARE];
-static uint16_t answer[RUNTIME_STEP_ANSWER_WORDS + SPARE];
-static uint16_t answer_expected[RUNTIME_STEP_ANSWER_WORDS + SPARE];
+static uint16_t device[64];
+static uint16_t device_expected[64];
+static uint32_t totals[64];
+static uint16_t answer[64];
+static uint16_t answer_expected[64];
 
 static void holds(int condition, const char *text, int line)
 {
@@ -161,7 +161,7 @@ static void body(int number, int transaction, const uint16_t *words, int instruc
 /* So many tasks and events of so many instructions each: SET, then GO to task 0 or DONE. */
 static void build(int tasks, int events, int memory_words, int entry, int instructions, int transaction)
 {
-    uint16_t words[2 * (RUNTIME_MAX_INSTRUCTIONS + 2)] = {0};
+    uint16_t words[1024] = {0};
     int number;
 
     begin(tasks, events, memory_words, entry);
