@@ -306,8 +306,8 @@ impl Scenario {
         text
     }
 
-    /// Read the text form. Empty lines and lines that start with # are passed over. The error names the line and what is wrong
-    /// with it; a number that doesn't fit isn't cut.
+    /// Read the text form. Empty lines and lines that start with # are passed over. The error names the line and what
+    /// is wrong with it; a number that doesn't fit isn't cut.
     pub fn from_text(text: &str) -> Result<Scenario, String> {
         let mut scenario = Scenario {
             seed: 0,

@@ -13,7 +13,8 @@ use std::process::{Command, Stdio};
 /// What the program prints, and its exit status.
 fn conformance(arguments: &[&str], input: &str) -> (String, i32) {
     let mut command = Command::new(env!("CARGO_BIN_EXE_conformance"));
-    let mut child = command.args(arguments).stdin(Stdio::piped()).stdout(Stdio::piped()).stderr(Stdio::null()).spawn().unwrap();
+    command.args(arguments).stdin(Stdio::piped()).stdout(Stdio::piped()).stderr(Stdio::null());
+    let mut child = command.spawn().unwrap();
     child.stdin.take().unwrap().write_all(input.as_bytes()).unwrap();
     let output = child.wait_with_output().unwrap();
     (String::from_utf8(output.stdout).unwrap(), output.status.code().unwrap())

@@ -1,5 +1,5 @@
-//! The library for Rust: the names and functions of include/runtime.h, and a safe node over them. Copy this file into your crate.
-//! For every edition. What each call takes, answers and refuses: docs/USING.md.
+//! The library for Rust: the names and functions of include/runtime.h, and a safe node over them. For every edition.
+//! Copy this file into your crate. What each call takes, answers and refuses: docs/USING.md.
 #![allow(dead_code)] // a host needs some of the names
 
 use std::fmt;
