@@ -216,8 +216,8 @@ pub fn replay(first: &dyn Runtime, second: &dyn Runtime, text: &str) -> Verdict 
         fresh &= index.is_some() || outcomes == Some([&Outcome::Answer(Answer::Done); 2]);
     };
     let compared = compare::drive_telling(first, second, &scenario, &mut Counts::default(), &mut tell);
-    if compared.is_err() {
-        println!("the sides part here");
+    if let Err(difference) = &compared {
+        println!("the sides part here: {}", difference.text);
     }
     let mut results = vec![("comparison", compared)];
     // Demand 3 is about lists of boots, steps, posts, cuts and runs on a fresh store.
