@@ -1,32 +1,8 @@
-/* The functions of the library target/staticlib/libexports.a, which `rt staticlib exports` writes.
- * What each call takes, answers and refuses: docs/USING.md.
+/* The functions of the library target/staticlib/libexports.a, which `rt staticlib exports` writes, and names for the
+ * numbers that go in and out. What each call takes, answers and refuses: docs/USING.md.
  *
- * A program and a store are words with their number. The store is nonvolatile; the host keeps it.
- *
- * device: 18 words, lost at a cut. 0 on; 1 to 8 registers; 9 place (0 no body, 1 running, 2 half a SAVE);
- *   10 kind of body (0 task, 1 event); 11 its number; 12 its instruction; 13 commit place, or ending stores
- *   made; 14 log count; 15 handler (0 at rest, else its next store: 1 event, 2 data, 3 tail); 16 its event;
- *   17 its data. What a case doesn't have is 0, so the device that is off has 18 zeros.
- * totals: 3 numbers, which the host keeps: bodies committed, events accepted, stores made.
- * answer: 5 words, written by every call: case, kind of body (0 task, 1 event), number (of the body or of
- *   the refusal), place (two words). What a case doesn't have is 0. A step's answer has a sixth word: the index
- *   of the store's word that it stored, even where the value stayed the same; 65535 where it stored none.
- *
- *   case        of                               words 1 to 4
- *   0 done      check, format, boot, post, cut   0
- *   1 chosen    step                             kind and number of the body
- *   2 worked    step                             0
- *   3 stored    step                             0
- *   4 committed step                             kind and number of the body
- *   5 accepted  step                             0
- *   6 refused   all but cut                      0, the refusal's number, its place
- *   7 spent     run                              0
- *   8 no device boot, step, post, run            0: the 18 words stand for no device state
- *
- * A refusal changes no word of store, device and totals; in a run this holds for the refused step, and the
- * steps before it stand. Nor does case 8 change any; a run then has made 0 steps.
- *
- * No pointer is null. Store, device, totals and answer don't overlap each other or the program.
+ * For C from C89 on and C++ from C++98 on. Every name is a macro with a plain number, for #if, switch and array
+ * lengths. conformance/header holds each number to the library; examples/rust/runtime.rs has the same names for Rust.
  */
 #ifndef RUNTIME_H
 #define RUNTIME_H
@@ -34,29 +10,173 @@
 #include <stddef.h>
 #include <stdint.h>
 
+/* ---- Lengths */
+
+#define RUNTIME_DEVICE_WORDS 18
+#define RUNTIME_ANSWER_WORDS 5
+#define RUNTIME_STEP_ANSWER_WORDS 6 /* a step's answer tells the word stored, too */
+#define RUNTIME_TOTALS_NUMBERS 3
+#define RUNTIME_REGISTERS 8
+
+/* The length of a store of M memory words, L log pairs and Q queue records. */
+#define RUNTIME_STORE_WORDS(memory_words, log_pairs, queue_records) \
+    (18 + (memory_words) + 2 * (log_pairs) + 2 * (queue_records))
+
+/* ---- The largest values. The least is 1; of events and transaction numbers 0. */
+
+#define RUNTIME_MAX_TASKS 32
+#define RUNTIME_MAX_EVENTS 16
+#define RUNTIME_MAX_MEMORY_WORDS 1024
+#define RUNTIME_MAX_LOG_PAIRS 64
+#define RUNTIME_MAX_QUEUE_RECORDS 32
+#define RUNTIME_MAX_INSTRUCTIONS 256 /* of one body */
+#define RUNTIME_MAX_TRANSACTION 255
+#define RUNTIME_MAX_PROGRAM_WORDS 24726
+#define RUNTIME_MAX_STORE_WORDS 1234
+
+/* ---- An answer's words. Every call writes them; what a case doesn't have is 0. */
+
+#define RUNTIME_ANSWER_CASE 0
+#define RUNTIME_ANSWER_KIND 1         /* the body's, of chosen and committed */
+#define RUNTIME_ANSWER_NUMBER 2       /* the body's, or the refusal's */
+#define RUNTIME_ANSWER_PLACE 3        /* the refusal's, first word */
+#define RUNTIME_ANSWER_SECOND_PLACE 4 /* .. and second word */
+#define RUNTIME_ANSWER_STORED 5       /* of a step alone: the index of the store's word that it stored, even where
+                                       * the value stayed the same, or RUNTIME_NO_STORE */
+
+#define RUNTIME_CASE_DONE 0      /* check, format, boot, post, cut */
+#define RUNTIME_CASE_CHOSEN 1    /* step: a body, with its kind and number */
+#define RUNTIME_CASE_WORKED 2    /* step */
+#define RUNTIME_CASE_STORED 3    /* step */
+#define RUNTIME_CASE_COMMITTED 4 /* step: a body, with its kind and number */
+#define RUNTIME_CASE_ACCEPTED 5  /* step */
+#define RUNTIME_CASE_REFUSED 6   /* all but cut: the refusal's number and place */
+#define RUNTIME_CASE_SPENT 7     /* run */
+#define RUNTIME_CASE_NO_DEVICE 8 /* boot, step, post, run: the device's words stand for no device state */
+
+#define RUNTIME_KIND_TASK 0
+#define RUNTIME_KIND_EVENT 1
+
+#define RUNTIME_NO_STORE 65535
+
+/* ---- Refusals. A refusal changes no word of store, device and totals; in a run this holds for the refused step, and
+ * the steps before it stand. Nor does a call with no device change any; a run then has made 0 steps. */
+
+#define RUNTIME_REFUSAL_PROGRAM_LENGTH 1 /* under 6 words, or unlike word RUNTIME_PROGRAM_TOTAL_WORDS */
+#define RUNTIME_REFUSAL_PROGRAM_MARK 2
+#define RUNTIME_REFUSAL_PROGRAM_SIZE 3   /* tasks, events, memory words or entry; place: word index */
+#define RUNTIME_REFUSAL_ROW 4            /* a body's row; place: body, tasks first */
+#define RUNTIME_REFUSAL_INSTRUCTION 5    /* place: body, instruction */
+#define RUNTIME_REFUSAL_STORE_CONTENTS 6 /* contents or length, or unlike the program's memory words */
+#define RUNTIME_REFUSAL_CONTROL 7        /* control words, log addresses, records; place: the word of a broken rule */
+#define RUNTIME_REFUSAL_NO_EVENT 8       /* the program has no such event */
+#define RUNTIME_REFUSAL_STORE_SIZE 9     /* log pairs or queue records, when formatting */
+#define RUNTIME_REFUSAL_HANDLER_BUSY 20  /* a handler is at work */
+#define RUNTIME_REFUSAL_QUEUE_FULL 21
+#define RUNTIME_REFUSAL_POWER_OFF 22     /* step or post while off */
+#define RUNTIME_REFUSAL_ADDRESS 23       /* past the memory words */
+#define RUNTIME_REFUSAL_LOG_FULL 24      /* SAVE to an address not in the log, with all pairs used */
+#define RUNTIME_REFUSAL_STATE 25         /* device state unlike program or store */
+#define RUNTIME_REFUSAL_POWER_ON 26      /* boot while on */
+
+/* ---- The program's first words */
+
+#define RUNTIME_PROGRAM_MARK 0
+#define RUNTIME_PROGRAM_TASKS 1
+#define RUNTIME_PROGRAM_EVENTS 2
+#define RUNTIME_PROGRAM_MEMORY_WORDS 3
+#define RUNTIME_PROGRAM_ENTRY 4
+#define RUNTIME_PROGRAM_TOTAL_WORDS 5
+
+#define RUNTIME_PROGRAM_MARK_VALUE 0xC0B1
+
+/* ---- The store: contents, control, memory, log, queue. It is nonvolatile; the host keeps it. */
+
+#define RUNTIME_STORE_MARK 0
+#define RUNTIME_STORE_MEMORY_WORDS 1
+#define RUNTIME_STORE_LOG_PAIRS 2
+#define RUNTIME_STORE_QUEUE_RECORDS 3
+#define RUNTIME_STORE_CONTROL_START 4
+#define RUNTIME_STORE_MEMORY_START 5
+#define RUNTIME_STORE_LOG_START 6
+#define RUNTIME_STORE_QUEUE_START 7
+
+#define RUNTIME_STORE_MARK_VALUE 0xC0A1
+
+#define RUNTIME_STORE_PHASE 8
+#define RUNTIME_STORE_CURRENT_TASK 9
+#define RUNTIME_STORE_OPEN 10         /* the open transaction's number, 0 none */
+#define RUNTIME_STORE_COUNT 11        /* the pairs of the commit */
+#define RUNTIME_STORE_PENDING_TASK 12 /* phase 1 */
+#define RUNTIME_STORE_PENDING_HEAD 12 /* phase 2 */
+#define RUNTIME_STORE_PENDING_OPEN 13
+#define RUNTIME_STORE_HEAD 14
+#define RUNTIME_STORE_TAIL 15
+
+#define RUNTIME_STORE_MEMORY 16 /* the first memory word */
+
+#define RUNTIME_PHASE_RUNNING 0
+#define RUNTIME_PHASE_TASK_COMMIT 1
+#define RUNTIME_PHASE_EVENT_COMMIT 2
+
+/* ---- The device, lost at a cut. What a case doesn't have is 0, so the device that is off has zeros alone. */
+
+#define RUNTIME_DEVICE_ON 0           /* 1 on, 0 off */
+#define RUNTIME_DEVICE_REGISTER 1     /* register 0, then the others */
+#define RUNTIME_DEVICE_PLACE 9
+#define RUNTIME_DEVICE_KIND 10        /* of the body */
+#define RUNTIME_DEVICE_NUMBER 11      /* of the body, among tasks or among events */
+#define RUNTIME_DEVICE_INSTRUCTION 12 /* that the body stands at */
+#define RUNTIME_DEVICE_STORES 13      /* no body: made since copying began; running: made of those that end the body */
+#define RUNTIME_DEVICE_LOG_COUNT 14
+#define RUNTIME_DEVICE_HANDLER 15
+#define RUNTIME_DEVICE_EVENT 16       /* the handler's */
+#define RUNTIME_DEVICE_DATUM 17       /* the handler's */
+
+#define RUNTIME_PLACE_NO_BODY 0
+#define RUNTIME_PLACE_RUNNING 1
+#define RUNTIME_PLACE_HALF_SAVE 2
+
+#define RUNTIME_HANDLER_AT_REST 0
+#define RUNTIME_HANDLER_EVENT 1 /* the next store; the third accepts the event */
+#define RUNTIME_HANDLER_DATUM 2
+#define RUNTIME_HANDLER_TAIL 3
+
+/* ---- The totals, which the host keeps. Each stays at its largest value. */
+
+#define RUNTIME_TOTALS_COMMITTED 0 /* bodies */
+#define RUNTIME_TOTALS_ACCEPTED 1  /* events */
+#define RUNTIME_TOTALS_STORES 2
+
+/* ---- The functions. A program and a store are words with their number. No pointer is null. Store, device, totals and
+ * answer don't overlap each other or the program. */
+
 #ifdef __cplusplus
 extern "C" {
 #endif
 
-void runtime_check(const uint16_t *program, size_t program_length, uint16_t answer[5]);
+void runtime_check(const uint16_t *program, size_t program_length, uint16_t answer[RUNTIME_ANSWER_WORDS]);
 
 void runtime_format(const uint16_t *program, size_t program_length, uint16_t log_pairs, uint16_t queue_records,
-                    uint16_t *store, size_t store_length, uint16_t answer[5]);
+                    uint16_t *store, size_t store_length, uint16_t answer[RUNTIME_ANSWER_WORDS]);
 
 void runtime_boot(const uint16_t *program, size_t program_length, const uint16_t *store, size_t store_length,
-                  uint16_t device[18], uint16_t answer[5]);
+                  uint16_t device[RUNTIME_DEVICE_WORDS], uint16_t answer[RUNTIME_ANSWER_WORDS]);
 
 void runtime_step(const uint16_t *program, size_t program_length, uint16_t *store, size_t store_length,
-                  uint16_t device[18], uint32_t totals[3], uint16_t answer[6]);
+                  uint16_t device[RUNTIME_DEVICE_WORDS], uint32_t totals[RUNTIME_TOTALS_NUMBERS],
+                  uint16_t answer[RUNTIME_STEP_ANSWER_WORDS]);
 
 void runtime_post(const uint16_t *program, size_t program_length, const uint16_t *store, size_t store_length,
-                  uint16_t device[18], uint16_t event, uint16_t data, uint16_t answer[5]);
+                  uint16_t device[RUNTIME_DEVICE_WORDS], uint16_t event, uint16_t datum,
+                  uint16_t answer[RUNTIME_ANSWER_WORDS]);
 
-void runtime_cut(uint16_t device[18], uint16_t answer[5]);
+void runtime_cut(uint16_t device[RUNTIME_DEVICE_WORDS], uint16_t answer[RUNTIME_ANSWER_WORDS]);
 
 /* The number of steps made; a refused one isn't counted. */
 uint32_t runtime_run(const uint16_t *program, size_t program_length, uint16_t *store, size_t store_length,
-                     uint16_t device[18], uint32_t totals[3], uint32_t budget, uint16_t answer[5]);
+                     uint16_t device[RUNTIME_DEVICE_WORDS], uint32_t totals[RUNTIME_TOTALS_NUMBERS], uint32_t budget,
+                     uint16_t answer[RUNTIME_ANSWER_WORDS]);
 
 #ifdef __cplusplus
 }

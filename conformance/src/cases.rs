@@ -78,8 +78,8 @@ impl<'a> Bench<'a> {
         answer
     }
 
-    fn post(&mut self, event: u16, data: u16) -> Answer {
-        self.runtime.post(&self.program, &mut self.store, &mut self.device, event, data)
+    fn post(&mut self, event: u16, datum: u16) -> Answer {
+        self.runtime.post(&self.program, &mut self.store, &mut self.device, event, datum)
     }
 
     fn cut(&mut self) {
@@ -369,7 +369,7 @@ fn words_that_are_no_device(runtime: &dyn Runtime) {
         assert_eq!(Device::from_words(&words), None);
         let (mut store, mut device, mut totals) = (bench.store.clone(), words, bench.totals);
         let calls =
-            [Call::Boot, Call::Step, Call::Post { event: 0, data: 1 }, Call::Cut, Call::Run { budget: u32::MAX }];
+            [Call::Boot, Call::Step, Call::Post { event: 0, datum: 1 }, Call::Cut, Call::Run { budget: u32::MAX }];
         for call in calls.iter().filter(|call| call.looks_at_device()) {
             let outcome = runtime.stray(call, &COUNTING, &mut store, &mut device, &mut totals);
             assert!(outcome.no_device(), "{call:?} on {words:?} answers {outcome:?}");

@@ -1,11 +1,11 @@
 //! The comparing driver: two implementations perform the same list of calls, and after every call the answer,
-//! the store, the device state and the totals must be equal, and after a step the word that it stored. In refusal 7 the place is free: each side's must
-//! be the word of a broken rule. A refused call, and one without a device, must have changed nothing. Also the
-//! counts of what came up.
+//! the store, the device state and the totals must be equal, and after a step the word that it stored. In refusal 7
+//! the place is free: each side's must be the word of a broken rule. A refused call, and one without a device, must
+//! have changed nothing. Also the counts of what came up.
 
 use crate::reference::{broken_words, PHASE};
 use crate::runtime::*;
-use crate::scenario::{Call, Machine, Outcome, Scenario, CALL_NAMES, LARGE_BUDGET};
+use crate::scenario::{outcome_text, Call, Machine, Outcome, Scenario, CALL_NAMES, LARGE_BUDGET};
 
 /// Where and how two implementations differ, or one breaks a demand.
 #[derive(Clone, Debug)]
@@ -77,6 +77,14 @@ impl Counts {
             self.cuts_in_ending += ending as u64;
             self.cuts_in_handler += device.handler.is_some() as u64;
         }
+    }
+
+    /// Count what a call added to the totals, and a store with a total at its largest value.
+    fn add_totals(&mut self, before: &Totals, after: &Totals, stored: bool) {
+        self.committed += (after.committed - before.committed) as u64;
+        self.accepted += (after.accepted - before.accepted) as u64;
+        let full = [before.committed, before.accepted, before.stores].contains(&u32::MAX);
+        self.at_largest += (full && stored) as u64;
     }
 
     /// Add what came up elsewhere.
@@ -230,103 +238,131 @@ impl Before {
     }
 }
 
-/// Perform one call on both sides and compare.
-fn compare_call(
-    a: (&dyn Runtime, &mut Machine),
-    b: (&dyn Runtime, &mut Machine),
-    call: &Call,
-    before: &mut Before,
-) -> Result<Outcome, String> {
-    let ((a, left), (b, right)) = (a, b);
-    before.take(left);
-    let call = &left.affordable(a, call);
-    if let Call::Run { budget } = call {
-        // The first side ends a run with a very large budget soon. So must the second, or it would run for
-        // hours.
-        if *budget > LARGE_BUDGET && !right.ends_within(b, LARGE_BUDGET) {
-            return Err(format!("the second side's run makes {LARGE_BUDGET} steps, the first side's ends"));
-        }
-    }
-    let outcome = left.call(a, call).expect("a call of the runtime");
-    let other = right.call(b, call).expect("a call of the runtime");
-    if !agree(&outcome, &other) {
-        return Err(format!("answers {outcome:?} and {other:?}"));
+/// What is told of a list, call by call: the index in it (none for the check and the formatting before it), the call, and
+/// what each side gave; nothing for a change.
+pub type Tell<'a> = &'a mut dyn FnMut(Option<usize>, &Call, Option<[&Outcome; 2]>);
+
+/// Where two sides part after a call, if they do.
+fn part(outcomes: [&Outcome; 2], left: &Machine, right: &Machine) -> Option<String> {
+    let [outcome, other] = outcomes;
+    if !agree(outcome, other) {
+        return Some(format!("the answers differ: {} and {}", outcome_text(outcome), outcome_text(other)));
     }
     if left.store != right.store {
-        return Err(format!("{outcome:?}; stores differ: {}", word_difference(&left.store, &right.store)));
+        return Some(format!("the stores differ: {}", word_difference(&left.store, &right.store)));
     }
-    if left.device_words() != right.device_words() {
-        return Err(format!("{outcome:?}; devices {:?} and {:?}", left.device_words(), right.device_words()));
+    let (words, others) = (left.device_words(), right.device_words());
+    if words != others {
+        return Some(format!("the devices differ: {}; {words:?} and {others:?}", word_difference(&words, &others)));
     }
     if left.totals != right.totals {
-        return Err(format!("{outcome:?}; totals {:?} and {:?}", left.totals, right.totals));
+        return Some(format!("the totals differ: {:?} and {:?}", left.totals, right.totals));
     }
-    if outcome.no_device() && !before.equals(left) {
-        return Err(format!("{outcome:?} changed something"));
+    None
+}
+
+/// What a refusal, or a call without a device, must not have done.
+fn broken_refusal(side: &str, outcome: &Outcome, before: &Before, machine: &Machine) -> Option<String> {
+    if outcome.no_device() && !before.equals(machine) {
+        return Some(format!("{side} side: no device, but something has changed"));
     }
-    for (side, outcome) in [("first", &outcome), ("second", &other)] {
-        let Some(refusal) = outcome.refusal() else { continue };
-        if !place_is_right(&refusal, &left.program, &left.store) {
-            let words = broken_words(&left.program, &left.store);
-            return Err(format!("{side}: {refusal:?}, broken rules' words {words:?}"));
+    let refusal = outcome.refusal()?;
+    if !place_is_right(&refusal, &machine.program, &machine.store) {
+        let words = broken_words(&machine.program, &machine.store);
+        return Some(format!("{side} side: {}; the broken rules' words are {words:?}", outcome_text(outcome)));
+    }
+    let some_steps = matches!(outcome, Outcome::Run(RunAnswer { steps, .. }) if *steps > 0);
+    if !some_steps && !before.equals(machine) {
+        return Some(format!("{side} side: {}, but something has changed", outcome_text(outcome)));
+    }
+    None
+}
+
+/// Two implementations, each with its words.
+struct Pair<'a> {
+    first: (&'a dyn Runtime, Machine),
+    second: (&'a dyn Runtime, Machine),
+    before: Before,
+}
+
+impl Pair<'_> {
+    /// Perform one call on both sides, tell what they gave, and compare.
+    fn call(&mut self, index: Option<usize>, call: &Call, tell: Tell) -> Result<Outcome, Difference> {
+        let ((first, left), (second, right)) = ((self.first.0, &mut self.first.1), (self.second.0, &mut self.second.1));
+        let differ = |text: String| Difference { index, text };
+        self.before.take(left);
+        let made = &left.affordable(first, call);
+        if let Call::Run { budget } = made {
+            // The first side ends a run with a very large budget soon. So must the second, or it would run for
+            // hours.
+            if *budget > LARGE_BUDGET && !right.ends_within(second, LARGE_BUDGET) {
+                let text = format!("the second side's run makes {LARGE_BUDGET} steps, the first side's ends");
+                return Err(differ(text));
+            }
         }
-        let some_steps = matches!(outcome, Outcome::Run(RunAnswer { steps, .. }) if *steps > 0);
-        if !some_steps && !before.equals(left) {
-            return Err(format!("{side}: {refusal:?} changed something"));
+        let outcome = left.call(first, made).expect("a call of the runtime");
+        let other = right.call(second, made).expect("a call of the runtime");
+        tell(index, call, Some([&outcome, &other]));
+        let wrong = part([&outcome, &other], left, right)
+            .or_else(|| broken_refusal("first", &outcome, &self.before, left))
+            .or_else(|| broken_refusal("second", &other, &self.before, right));
+        match wrong {
+            Some(text) => Err(differ(text)),
+            None => Ok(outcome),
         }
     }
-    Ok(outcome)
 }
 
 /// Compare two implementations over a scenario.
 pub fn drive(
-    a: &dyn Runtime,
-    b: &dyn Runtime,
+    first: &dyn Runtime,
+    second: &dyn Runtime,
     scenario: &Scenario,
     counts: &mut Counts,
 ) -> Result<(), Difference> {
+    drive_telling(first, second, scenario, counts, &mut |_, _, _| ())
+}
+
+/// The same, telling each call.
+pub fn drive_telling(
+    first: &dyn Runtime,
+    second: &dyn Runtime,
+    scenario: &Scenario,
+    counts: &mut Counts,
+    tell: Tell,
+) -> Result<(), Difference> {
     counts.scenarios += 1;
-    let mut left = Machine::new(scenario);
-    let mut right = left.clone();
-    let mut before = Before::default();
+    let machine = Machine::new(scenario);
+    let mut pair = Pair { first: (first, machine.clone()), second: (second, machine), before: Before::default() };
     let format = Call::Format { log_pairs: scenario.log_pairs, queue_records: scenario.queue_records };
     for call in [Call::Check, format] {
-        let result = compare_call((a, &mut left), (b, &mut right), &call, &mut before);
-        let outcome = result.map_err(|text| Difference { index: None, text })?;
-        counts.add(&call, &left.device, 0, false, &outcome);
+        let outcome = pair.call(None, &call, tell)?;
+        counts.add(&call, &pair.first.1.device, 0, false, &outcome);
     }
-    let mut kept_left = left.clone();
-    let mut kept_right = left.clone();
+    let mut kept = [pair.first.1.clone(), pair.second.1.clone()];
     let mut recovering = false;
     for (index, call) in scenario.calls.iter().enumerate() {
         if call.kind().is_none() {
-            left.change(call, &mut kept_left);
-            right.change(call, &mut kept_right);
+            pair.first.1.change(call, &mut kept[0]);
+            pair.second.1.change(call, &mut kept[1]);
+            tell(Some(index), call, None);
             continue;
         }
-        let phase = left.store.get(PHASE).copied().unwrap_or(0);
-        let device = left.device;
-        let totals = left.totals;
-        let result = compare_call((a, &mut left), (b, &mut right), call, &mut before);
-        let outcome = result.map_err(|text| Difference { index: Some(index), text })?;
+        let Machine { device, totals, .. } = pair.first.1;
+        let phase = pair.first.1.store.get(PHASE).copied().unwrap_or(0);
+        let outcome = pair.call(Some(index), call, tell)?;
+        let left = &pair.first.1;
         counts.add(call, &device, phase, recovering, &outcome);
-        counts.committed += (left.totals.committed - totals.committed) as u64;
-        counts.accepted += (left.totals.accepted - totals.accepted) as u64;
-        let full = [totals.committed, totals.accepted, totals.stores].contains(&u32::MAX);
-        counts.at_largest += (full && before.store != left.store) as u64;
-        match (call, &outcome) {
-            (Call::Boot, Outcome::Answer(Answer::Done)) => recovering = phase != 0,
-            (Call::Cut, _) => recovering = false,
-            _ => {
-                if left.store.get(PHASE) == Some(&0) {
-                    recovering = false;
-                }
-            }
-        }
+        counts.add_totals(&totals, &left.totals, pair.before.store != left.store);
+        recovering = match (call, &outcome) {
+            (Call::Boot, Outcome::Answer(Answer::Done)) => phase != 0,
+            (Call::Cut, _) => false,
+            _ => recovering && left.store.get(PHASE) != Some(&0),
+        };
     }
-    if left.program != right.program {
-        let text = format!("programs differ: {}", word_difference(&left.program, &right.program));
-        return Err(Difference { index: None, text });
+    let (program, other) = (&pair.first.1.program, &pair.second.1.program);
+    if program != other {
+        return Err(Difference { index: None, text: format!("programs differ: {}", word_difference(program, other)) });
     }
     Ok(())
 }

@@ -27,7 +27,7 @@ pub struct Functions {
     pub boot: unsafe extern "C" fn(*const u16, usize, *mut u16, usize, *mut u16, *mut u16),
     /// program, its length, store, its length, device, totals, answer of six words
     pub step: unsafe extern "C" fn(*const u16, usize, *mut u16, usize, *mut u16, *mut u32, *mut u16),
-    /// program, its length, store, its length, device, event, data, answer
+    /// program, its length, store, its length, device, event, datum, answer
     pub post: unsafe extern "C" fn(*const u16, usize, *mut u16, usize, *mut u16, u16, u16, *mut u16),
     /// device, answer
     pub cut: unsafe extern "C" fn(*mut u16, *mut u16),
@@ -141,7 +141,7 @@ impl Foreign {
                 }
                 Call::Boot => boot(code, length, words, many, d, answer),
                 Call::Step => step(code, length, words, many, d, t, answer),
-                Call::Post { event, data } => post(code, length, words, many, d, event, data, answer),
+                Call::Post { event, datum } => post(code, length, words, many, d, event, datum, answer),
                 Call::Cut => cut(d, answer),
                 Call::Run { budget } => steps = Some(run(code, length, words, many, d, t, budget, answer)),
                 _ => unreachable!("a change isn't a call"),
@@ -227,8 +227,8 @@ impl Runtime for Foreign {
         }
     }
 
-    fn post(&self, program: &[u16], store: &mut [u16], device: &mut Device, event: u16, data: u16) -> Answer {
-        self.answer(&Call::Post { event, data }, program, store, device, &mut Totals::default())
+    fn post(&self, program: &[u16], store: &mut [u16], device: &mut Device, event: u16, datum: u16) -> Answer {
+        self.answer(&Call::Post { event, datum }, program, store, device, &mut Totals::default())
     }
 
     fn cut(&self, device: &mut Device) -> Answer {

@@ -482,7 +482,7 @@ impl Schedule {
         } else {
             self.random.word()
         };
-        Call::Post { event, data: self.random.word() }
+        Call::Post { event, datum: self.random.word() }
     }
 
     /// Whether a cut or damage is telling here: in a commit, half a SAVE, an ending or a handler at work.
@@ -787,9 +787,9 @@ impl Schedule {
         }
         if self.random.percent(25) {
             device.handler = Some(Handler {
-                next: self.random.pick(&[Next::Event, Next::Data, Next::Tail]),
+                next: self.random.pick(&[Next::Event, Next::Datum, Next::Tail]),
                 event: self.random.below(events + 1) as u16,
-                data: self.random.word(),
+                datum: self.random.word(),
             });
         }
         if self.random.percent(5) {

@@ -37,7 +37,7 @@ extern "C" {
         store_length: usize,
         device: *mut u16,
         event: u16,
-        data: u16,
+        datum: u16,
         answer: *mut u16,
     );
     fn runtime_cut(device: *mut u16, answer: *mut u16);

@@ -2,8 +2,11 @@
 //! serial run after every call; all lists, damaged ones too, go through the comparing driver.
 //!
 //!     conformance [--seed S] [--calls N]   scenarios from seed S on, until N calls are made
-//!     conformance --replay FILE            one scenario in its text form, as a failure prints it (-: standard input)
+//!     conformance --replay FILE            one scenario in its text form, as a failure prints it (-: standard input),
+//!                                          call by call
 //!     ... --mistake NAME                   with an implementation that has this mistake as the second side
+//!
+//! Exit status: 0 passed, 1 failed, 2 what was asked for can't be read, 3 nothing differed but too little came up.
 
 use conformance::many::{command, Wanted};
 use conformance::mutants::{Mutant, MISTAKES};
@@ -34,5 +37,5 @@ fn main() {
             _ => usage(),
         }
     }
-    exit(if command(&Reference, &*second, &wanted) { 0 } else { 1 });
+    exit(command(&Reference, &*second, &wanted).status());
 }

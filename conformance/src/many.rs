@@ -1,14 +1,39 @@
 //! Many scenarios, one after another, for two implementations: each of them alone over undamaged lists, both
 //! compared over undamaged and damaged ones, the counts, and the report of a failure with its shortened list and
 //! the command line that replays it. A program that puts another implementation beside the reference needs
-//! `many` and `replay`, or `command`, which has both.
+//! `many` and `replay`, or `command`, which has both; each ends in a `Verdict`.
 
-use crate::compare::{self, refusal_numbers, Counts, Difference, POSSIBLE};
-use crate::runtime::Runtime;
-use crate::scenario::{call_text, Call, Scenario, CALL_NAMES};
+use crate::compare::{self, Counts, Difference, POSSIBLE};
+use crate::runtime::{Answer, Runtime};
+use crate::scenario::{call_text, outcome_text, Call, Outcome, Scenario, CALL_NAMES};
 use crate::{cases, generate, selfrun, shorten};
 use std::io::Read;
 use std::time::Instant;
+
+/// How a comparison ends.
+#[derive(Clone, Copy, PartialEq, Eq, Debug)]
+pub enum Verdict {
+    /// Nothing differed, and all that should came up.
+    Passed,
+    /// The sides differ, or one breaks a demand or a case.
+    Failed,
+    /// What was asked for can't be read.
+    Unreadable,
+    /// Nothing differed, but too little came up to judge by.
+    TooLittle,
+}
+
+impl Verdict {
+    /// The exit status of a program.
+    pub fn status(self) -> i32 {
+        match self {
+            Verdict::Passed => 0,
+            Verdict::Failed => 1,
+            Verdict::Unreadable => 2,
+            Verdict::TooLittle => 3,
+        }
+    }
+}
 
 type Drive<'a> = &'a dyn Fn(&Scenario, &mut Counts) -> Result<(), Difference>;
 
@@ -63,52 +88,70 @@ fn print_counts(undamaged: &Counts, damaged: &Counts, all: &Counts) {
     println!();
 }
 
-/// What never came up and should: a refusal of the paper at all, a number of one call, words that are no device
-/// in a call that is given them, or one of the single counts.
-fn missing(all: &Counts) -> Vec<String> {
-    let mut missing = Vec::new();
-    for number in refusal_numbers() {
-        if all.refusals_of(number) == 0 {
-            missing.push(format!("{number}"));
-        }
-    }
-    for (kind, numbers) in POSSIBLE.iter().enumerate() {
-        for number in numbers.iter() {
-            if all.refusals[kind][*number] == 0 {
-                missing.push(format!("{number} of {}", CALL_NAMES[kind]));
-            }
-        }
-    }
-    let post = Call::Post { event: 0, data: 0 };
-    for call in [Call::Boot, Call::Step, post, Call::Cut, Call::Run { budget: 1 }] {
+/// What never came up and should, a line for each call and one for what else is counted.
+pub fn missing(all: &Counts) -> Vec<String> {
+    let mut lines = Vec::new();
+    let post = Call::Post { event: 0, datum: 0 };
+    let log = Call::Format { log_pairs: 1, queue_records: 1 };
+    for call in [Call::Check, log, Call::Boot, Call::Step, post, Call::Cut, Call::Run { budget: 1 }] {
         let kind = call.kind().expect("a call of the runtime");
+        let never = POSSIBLE[kind].iter().filter(|number| all.refusals[kind][**number] == 0);
+        let mut never: Vec<String> = never.map(|number| number.to_string()).collect();
         if all.no_device[kind] == 0 && call.looks_at_device() {
-            missing.push(format!("no device of {}", CALL_NAMES[kind]));
+            never.push("no device".into());
+        }
+        if !never.is_empty() {
+            lines.push(format!("{}: {}", CALL_NAMES[kind], never.join(", ")));
         }
     }
-    missing.extend(all.singles().iter().filter(|(_, count)| *count == 0).map(|(name, _)| name.to_string()));
-    missing
+    let singles = all.singles();
+    let never: Vec<&str> = singles.iter().filter(|(_, count)| *count == 0).map(|(name, _)| *name).collect();
+    if !never.is_empty() {
+        lines.push(never.join("; "));
+    }
+    lines
 }
 
-/// Scenarios from a seed on until so many calls are made. Whether all is well.
-pub fn many(first: &dyn Runtime, second: &dyn Runtime, first_seed: u64, calls: u64) -> bool {
-    let start = Instant::now();
-    let first_alone = |list: &Scenario, counts: &mut Counts| selfrun::drive(first, list, counts);
-    let second_alone = |list: &Scenario, counts: &mut Counts| selfrun::drive(second, list, counts);
-    let beside = |list: &Scenario, counts: &mut Counts| compare::drive(first, second, list, counts);
-    let mut undamaged = Counts::default();
-    let mut damaged = Counts::default();
-    let mut alone = Counts::default();
-    let mut seed = first_seed;
-    println!("seed {seed}");
-    while undamaged.all_calls() + damaged.all_calls() < calls {
+/// The last lines, when nothing differed.
+fn judge(all: &Counts) -> Verdict {
+    let missing = missing(all);
+    if missing.is_empty() {
+        println!("passed");
+        return Verdict::Passed;
+    }
+    println!("Nothing differed, but too little came up to judge by: neither passed nor failed. More calls meet more.");
+    println!("Never came up (of each call the refusals, by number):");
+    for line in missing {
+        println!("  {line}");
+    }
+    Verdict::TooLittle
+}
+
+/// What both sides do with the lists of one seed: compared, and each alone. Whether nothing differs.
+struct Lists<'a> {
+    first: &'a dyn Runtime,
+    second: &'a dyn Runtime,
+    undamaged: Counts,
+    damaged: Counts,
+}
+
+impl Lists<'_> {
+    fn all_calls(&self) -> u64 {
+        self.undamaged.all_calls() + self.damaged.all_calls()
+    }
+
+    fn seed(&mut self, seed: u64) -> bool {
+        let Lists { first, second, undamaged, damaged } = self;
+        let first_alone = |list: &Scenario, counts: &mut Counts| selfrun::drive(*first, list, counts);
+        let second_alone = |list: &Scenario, counts: &mut Counts| selfrun::drive(*second, list, counts);
+        let beside = |list: &Scenario, counts: &mut Counts| compare::drive(*first, *second, list, counts);
         let list = generate::scenario(seed, false);
         let spoilt = generate::scenario(seed, true);
         let drives: [(&str, Drive, &Scenario, &mut Counts); 4] = [
-            ("comparison of an undamaged list", &beside, &list, &mut undamaged),
-            ("first side, undamaged list", &first_alone, &list, &mut alone.clone()),
-            ("second side, undamaged list", &second_alone, &list, &mut alone),
-            ("comparison of a damaged list", &beside, &spoilt, &mut damaged),
+            ("comparison of an undamaged list", &beside, &list, undamaged),
+            ("first side, undamaged list", &first_alone, &list, &mut Counts::default()),
+            ("second side, undamaged list", &second_alone, &list, &mut Counts::default()),
+            ("comparison of a damaged list", &beside, &spoilt, damaged),
         ];
         for (what, drive, list, counts) in drives {
             if let Err(difference) = drive(list, counts) {
@@ -116,11 +159,25 @@ pub fn many(first: &dyn Runtime, second: &dyn Runtime, first_seed: u64, calls: u
                 return false;
             }
         }
+        true
+    }
+}
+
+/// Scenarios from a seed on until so many calls are made.
+pub fn many(first: &dyn Runtime, second: &dyn Runtime, first_seed: u64, calls: u64) -> Verdict {
+    let start = Instant::now();
+    let mut lists = Lists { first, second, undamaged: Counts::default(), damaged: Counts::default() };
+    let mut seed = first_seed;
+    println!("seed {seed}");
+    while lists.all_calls() < calls {
+        if !lists.seed(seed) {
+            return Verdict::Failed;
+        }
         seed += 1;
     }
-    let mut all = undamaged.clone();
-    all.add_all(&damaged);
-    print_counts(&undamaged, &damaged, &all);
+    let mut all = lists.undamaged.clone();
+    all.add_all(&lists.damaged);
+    print_counts(&lists.undamaged, &lists.damaged, &all);
     println!("All lists: both sides compared after every call. Undamaged lists: for each side demand 3 by recovering");
     println!("a copy, after every call and every step of a run, and a run held against single steps.");
     println!(
@@ -130,42 +187,56 @@ pub fn many(first: &dyn Runtime, second: &dyn Runtime, first_seed: u64, calls: u
         all.all_calls(),
         start.elapsed().as_secs_f64()
     );
-    // A handful of calls needn't meet every refusal.
-    let missing = missing(&all);
-    if !missing.is_empty() && calls > 1 {
-        println!("FAILED: never came up: {}", missing.join("; "));
-        return false;
-    }
-    println!("passed");
-    true
+    judge(&all)
 }
 
-/// One scenario in its text form. Whether all is well.
-pub fn replay(first: &dyn Runtime, second: &dyn Runtime, text: &str) -> bool {
+/// A line of a replay: the call's number in the list, the call, and what each side gave.
+pub fn replay_line(index: Option<usize>, call: &Call, outcomes: Option<[&Outcome; 2]>) -> String {
+    let number = index.map_or(String::new(), |index| index.to_string());
+    let call = call_text(call);
+    match outcomes.map(|outcomes| outcomes.map(outcome_text)) {
+        Some([first, second]) => format!("{number:>5}  {call:<24}  {first:<32}  {second}"),
+        None => format!("{number:>5}  {call}"),
+    }
+}
+
+/// One scenario in its text form, call by call.
+pub fn replay(first: &dyn Runtime, second: &dyn Runtime, text: &str) -> Verdict {
     let scenario = match Scenario::from_text(text) {
         Ok(scenario) => scenario,
         Err(error) => {
             println!("{error}");
-            return false;
+            return Verdict::Unreadable;
         }
     };
-    let mut results = vec![("comparison", compare::drive(first, second, &scenario, &mut Counts::default()))];
-    if scenario.calls.iter().all(|call| call.kind().is_some()) {
-        results.push(("first side", selfrun::drive(first, &scenario, &mut Counts::default())));
-        results.push(("second side", selfrun::drive(second, &scenario, &mut Counts::default())));
+    println!("{:>5}  {:<24}  {:<32}  second side", "", "call", "first side");
+    let mut fresh = true;
+    let mut tell = |index: Option<usize>, call: &Call, outcomes: Option<[&Outcome; 2]>| {
+        println!("{}", replay_line(index, call, outcomes));
+        fresh &= index.is_some() || outcomes == Some([&Outcome::Answer(Answer::Done); 2]);
+    };
+    let compared = compare::drive_telling(first, second, &scenario, &mut Counts::default(), &mut tell);
+    if let Err(difference) = &compared {
+        println!("the sides part here: {}", difference.text);
     }
-    let mut well = true;
+    let mut results = vec![("comparison", compared)];
+    // Demand 3 is about lists of boots, steps, posts, cuts and runs on a fresh store.
+    if fresh && scenario.calls.iter().all(|call| call.takes_device()) {
+        results.push(("first side, demand 3", selfrun::drive(first, &scenario, &mut Counts::default())));
+        results.push(("second side, demand 3", selfrun::drive(second, &scenario, &mut Counts::default())));
+    }
+    let mut verdict = Verdict::Passed;
     for (what, result) in results {
         match result {
             Ok(()) => println!("{what}: passes"),
             Err(difference) => {
                 println!("{what}: fails");
                 print_difference(&scenario, &difference);
-                well = false;
+                verdict = Verdict::Failed;
             }
         }
     }
-    well
+    verdict
 }
 
 /// What a command line asks for.
@@ -176,14 +247,19 @@ pub struct Wanted {
     pub replay: Option<String>,
 }
 
-/// The cases and many scenarios, or a replay, as asked for. Whether all is well.
-pub fn command(first: &dyn Runtime, second: &dyn Runtime, wanted: &Wanted) -> bool {
+/// The cases and many scenarios, or a replay, as asked for.
+pub fn command(first: &dyn Runtime, second: &dyn Runtime, wanted: &Wanted) -> Verdict {
     let Some(file) = &wanted.replay else {
         let hold = cases::all(first) && cases::all(second);
         if hold {
             println!("{} cases of the counting program and others hold", cases::CASES.len());
         }
-        return many(first, second, wanted.seed, wanted.calls) && hold;
+        let verdict = many(first, second, wanted.seed, wanted.calls);
+        if !hold {
+            println!("FAILED: a case, above");
+            return Verdict::Failed;
+        }
+        return verdict;
     };
     let mut text = String::new();
     let read = match file.as_str() {
@@ -194,7 +270,7 @@ pub fn command(first: &dyn Runtime, second: &dyn Runtime, wanted: &Wanted) -> bo
         Ok(_) => replay(first, second, &text),
         Err(error) => {
             println!("{file}: {error}");
-            false
+            Verdict::Unreadable
         }
     }
 }

@@ -8,7 +8,7 @@ use crate::runtime::*;
 pub enum Mistake {
     // The blackboard's.
     HeadPlusOneOnRedo,
-    TailBeforeData,
+    TailBeforeDatum,
     PhaseBeforeTask,
     CountFromLostState,
     EventInOpenTransaction,
@@ -42,7 +42,7 @@ pub enum Mistake {
 
 pub const MISTAKES: [Mistake; 27] = [
     Mistake::HeadPlusOneOnRedo,
-    Mistake::TailBeforeData,
+    Mistake::TailBeforeDatum,
     Mistake::PhaseBeforeTask,
     Mistake::CountFromLostState,
     Mistake::EventInOpenTransaction,
@@ -141,14 +141,14 @@ impl Mutant {
                 count_store(totals);
                 Some(storing(Answer::Stored, HEAD))
             }
-            Mistake::TailBeforeData => {
+            Mistake::TailBeforeDatum => {
                 let handler = device.handler?;
                 if !device.on || !sound(program, store) {
                     return None;
                 }
                 match handler.next {
                     Next::Event => None,
-                    Next::Data => {
+                    Next::Datum => {
                         store[TAIL] = after(store, store[TAIL]);
                         device.handler = Some(Handler { next: Next::Tail, ..handler });
                         count_store(totals);
@@ -158,7 +158,7 @@ impl Mutant {
                     Next::Tail => {
                         let slot = if store[TAIL] == 0 { store[3] } else { store[TAIL] - 1 };
                         let index = store[7] as usize + 2 * slot as usize + 1;
-                        store[index] = handler.data;
+                        store[index] = handler.datum;
                         device.handler = None;
                         count_store(totals);
                         Some(storing(Answer::Stored, index))
@@ -399,9 +399,9 @@ impl Runtime for Mutant {
         }
     }
 
-    fn post(&self, program: &[u16], store: &mut [u16], device: &mut Device, event: u16, data: u16) -> Answer {
+    fn post(&self, program: &[u16], store: &mut [u16], device: &mut Device, event: u16, datum: u16) -> Answer {
         let old = *device;
-        let answer = Reference.post(program, store, device, event, data);
+        let answer = Reference.post(program, store, device, event, datum);
         if self.0 == Mistake::QueueFullEarly && answer == Answer::Done {
             let after_two = after(store, after(store, store[TAIL]));
             if after_two == store[HEAD] {
@@ -476,8 +476,8 @@ impl Runtime for LastPlace {
         StepAnswer { answer: LastPlace::answer(program, store, step.answer), ..step }
     }
 
-    fn post(&self, program: &[u16], store: &mut [u16], device: &mut Device, event: u16, data: u16) -> Answer {
-        let answer = Reference.post(program, store, device, event, data);
+    fn post(&self, program: &[u16], store: &mut [u16], device: &mut Device, event: u16, datum: u16) -> Answer {
+        let answer = Reference.post(program, store, device, event, datum);
         LastPlace::answer(program, store, answer)
     }
 

@@ -586,8 +586,8 @@ fn handler_store(look: &Look, mut node: Node, handler: Handler) -> Answer {
     let tail = node.store[TAIL] as usize;
     let slot = look.parts.slot(tail);
     let (answer, made, next) = match handler.next {
-        Next::Event => (Answer::Stored, (slot, handler.event), Some(Next::Data)),
-        Next::Data => (Answer::Stored, (slot + 1, handler.data), Some(Next::Tail)),
+        Next::Event => (Answer::Stored, (slot, handler.event), Some(Next::Datum)),
+        Next::Datum => (Answer::Stored, (slot + 1, handler.datum), Some(Next::Tail)),
         Next::Tail => (Answer::Accepted, (TAIL, look.parts.after(tail) as u16), None),
     };
     node.make(made);
@@ -896,7 +896,7 @@ fn boot(program: &[u16], store: &[u16], device: &mut Device) -> Result<(), Refus
     Ok(())
 }
 
-fn post(program: &[u16], store: &[u16], device: &mut Device, event: u16, data: u16) -> Result<(), Refusal> {
+fn post(program: &[u16], store: &[u16], device: &mut Device, event: u16, datum: u16) -> Result<(), Refusal> {
     let look = look(program, store, device)?;
     if event as usize >= look.head.events {
         return Err(refusal(8));
@@ -907,7 +907,7 @@ fn post(program: &[u16], store: &[u16], device: &mut Device, event: u16, data: u
     if look.queue_full(store) {
         return Err(refusal(21));
     }
-    device.handler = Some(Handler { next: Next::Event, event, data });
+    device.handler = Some(Handler { next: Next::Event, event, datum });
     Ok(())
 }
 
@@ -961,8 +961,8 @@ impl Runtime for Reference {
         StepAnswer { answer, stored: made.map(|index| index as u16) }
     }
 
-    fn post(&self, program: &[u16], store: &mut [u16], device: &mut Device, event: u16, data: u16) -> Answer {
-        done_or(post(program, store, device, event, data))
+    fn post(&self, program: &[u16], store: &mut [u16], device: &mut Device, event: u16, datum: u16) -> Answer {
+        done_or(post(program, store, device, event, datum))
     }
 
     fn cut(&self, device: &mut Device) -> Answer {

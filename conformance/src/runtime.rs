@@ -72,7 +72,7 @@ pub enum Place {
 #[derive(Clone, Copy, PartialEq, Eq, Debug)]
 pub enum Next {
     Event,
-    Data,
+    Datum,
     Tail,
 }
 
@@ -81,7 +81,7 @@ pub enum Next {
 pub struct Handler {
     pub next: Next,
     pub event: u16,
-    pub data: u16,
+    pub datum: u16,
 }
 
 /// The device state, which a cut loses. No handler means a handler at rest.
@@ -143,11 +143,11 @@ impl Device {
         if let Some(handler) = self.handler {
             words[15] = match handler.next {
                 Next::Event => 1,
-                Next::Data => 2,
+                Next::Datum => 2,
                 Next::Tail => 3,
             };
             words[16] = handler.event;
-            words[17] = handler.data;
+            words[17] = handler.datum;
         }
         words
     }
@@ -166,7 +166,7 @@ impl Device {
         let next = match words[15] {
             0 => None,
             1 => Some(Next::Event),
-            2 => Some(Next::Data),
+            2 => Some(Next::Datum),
             _ => Some(Next::Tail),
         };
         let mut registers = [0; 8];
@@ -176,7 +176,7 @@ impl Device {
             registers,
             place,
             log_count: words[14],
-            handler: next.map(|next| Handler { next, event: words[16], data: words[17] }),
+            handler: next.map(|next| Handler { next, event: words[16], datum: words[17] }),
         };
         if device.to_words() == *words {
             Some(device)
@@ -205,7 +205,7 @@ pub trait Runtime {
 
     fn step(&self, program: &[u16], store: &mut [u16], device: &mut Device, totals: &mut Totals) -> StepAnswer;
 
-    fn post(&self, program: &[u16], store: &mut [u16], device: &mut Device, event: u16, data: u16) -> Answer;
+    fn post(&self, program: &[u16], store: &mut [u16], device: &mut Device, event: u16, datum: u16) -> Answer;
 
     fn cut(&self, device: &mut Device) -> Answer;
 

@@ -2,8 +2,10 @@
 //! implementation and a text form that a person can read, change and replay. Besides the runtime's calls
 //! the list may have changes that stand for damage.
 
+use crate::foreign::{BAD_DEVICE, NO_ANSWER, OUTSIDE};
 use crate::runtime::*;
 use std::fmt::Write;
+use std::num::IntErrorKind;
 
 #[derive(Clone, Copy, PartialEq, Eq, Debug)]
 pub enum Call {
@@ -11,7 +13,7 @@ pub enum Call {
     Format { log_pairs: u16, queue_records: u16 },
     Boot,
     Step,
-    Post { event: u16, data: u16 },
+    Post { event: u16, datum: u16 },
     Cut,
     Run { budget: u32 },
     /// Damage: a word of the program or of the store, where it has that word.
@@ -165,7 +167,7 @@ impl Machine {
             }
             Call::Boot => runtime.boot(program, store, device),
             Call::Step => return Some(Outcome::Step(runtime.step(program, store, device, totals))),
-            Call::Post { event, data } => runtime.post(program, store, device, event, data),
+            Call::Post { event, datum } => runtime.post(program, store, device, event, datum),
             Call::Cut => runtime.cut(device),
             Call::Run { budget } => {
                 return Some(Outcome::Run(runtime.run(program, store, device, totals, budget)));
@@ -234,7 +236,7 @@ pub fn call_text(call: &Call) -> String {
         Call::Format { log_pairs, queue_records } => format!("format {log_pairs} {queue_records}"),
         Call::Boot => "boot".into(),
         Call::Step => "step".into(),
-        Call::Post { event, data } => format!("post {event} {data}"),
+        Call::Post { event, datum } => format!("post {event} {datum}"),
         Call::Cut => "cut".into(),
         Call::Run { budget } => format!("run {budget}"),
         Call::SetProgram { index, word } => format!("set-program {index} {word}"),
@@ -248,6 +250,42 @@ pub fn call_text(call: &Call) -> String {
         }
         Call::Keep => "keep".into(),
         Call::Restore => "restore".into(),
+    }
+}
+
+fn answer_text(answer: &Answer) -> String {
+    let body_text = |body: &Body| match body {
+        Body::Task(number) => format!("task {number}"),
+        Body::Event(number) => format!("event {number}"),
+    };
+    match answer {
+        Answer::Done => "done".into(),
+        Answer::Chosen(body) => format!("chosen {}", body_text(body)),
+        Answer::Worked => "worked".into(),
+        Answer::Stored => "stored".into(),
+        Answer::Committed(body) => format!("committed {}", body_text(body)),
+        Answer::Accepted => "accepted".into(),
+        Answer::Refused(Refusal { number, place: (first, second) }) => match *number {
+            NO_ANSWER => format!("no answer of this call (words {first} {second} ..)"),
+            BAD_DEVICE => "words that are no device's".into(),
+            OUTSIDE => "a word written outside what was lent".into(),
+            _ => format!("refused {number}, place {first} {second}"),
+        },
+        Answer::NoDevice => "no device".into(),
+    }
+}
+
+/// What a call gave, in words.
+pub fn outcome_text(outcome: &Outcome) -> String {
+    match outcome {
+        Outcome::Answer(answer) => answer_text(answer),
+        Outcome::Step(StepAnswer { answer, stored: Some(word) }) => format!("{}, word {word}", answer_text(answer)),
+        Outcome::Step(StepAnswer { answer, stored: None }) => answer_text(answer),
+        Outcome::Run(RunAnswer { steps, end }) => match end {
+            End::Spent => format!("{steps} steps, spent"),
+            End::Refused(refusal) => format!("{steps} steps, {}", answer_text(&Answer::Refused(*refusal))),
+            End::NoDevice => format!("{steps} steps, no device"),
+        },
     }
 }
 
@@ -268,7 +306,8 @@ impl Scenario {
         text
     }
 
-    /// Read the text form. Empty lines and lines that start with # are passed over.
+    /// Read the text form. Empty lines and lines that start with # are passed over. The error names the line and what
+    /// is wrong with it; a number that doesn't fit isn't cut.
     pub fn from_text(text: &str) -> Result<Scenario, String> {
         let mut scenario = Scenario {
             seed: 0,
@@ -283,60 +322,114 @@ impl Scenario {
             if line.is_empty() || line.starts_with('#') {
                 continue;
             }
-            let wrong = || format!("line {}: {line}", index + 1);
-            let mut parts = line.split_whitespace();
-            let name = parts.next().ok_or_else(wrong)?;
-            let radix = if name == "program" { 16 } else { 10 };
-            let mut numbers = Vec::new();
-            for part in parts {
-                numbers.push(u32::from_str_radix(part, radix).map_err(|_| wrong())?);
+            let mut line = Line::new(index + 1, line);
+            match line.name {
+                "program" => scenario.program = line.words()?,
+                "sizes" => (scenario.log_pairs, scenario.queue_records) = (line.word()?, line.word()?),
+                "totals" => scenario.totals = line.totals()?,
+                _ => scenario.calls.push(line.call()?),
             }
-            let get = |which: usize| numbers.get(which).copied().ok_or_else(wrong);
-            let word = |which: usize| Ok::<u16, String>(get(which)? as u16);
-            let call = match name {
-                "program" => {
-                    scenario.program = numbers.iter().map(|number| *number as u16).collect();
-                    continue;
-                }
-                "sizes" => {
-                    scenario.log_pairs = word(0)?;
-                    scenario.queue_records = word(1)?;
-                    continue;
-                }
-                "totals" => {
-                    scenario.totals = Totals { committed: get(0)?, accepted: get(1)?, stores: get(2)? };
-                    continue;
-                }
-                "check" => Call::Check,
-                "format" => Call::Format { log_pairs: word(0)?, queue_records: word(1)? },
-                "boot" => Call::Boot,
-                "step" => Call::Step,
-                "post" => Call::Post { event: word(0)?, data: word(1)? },
-                "cut" => Call::Cut,
-                "run" => Call::Run { budget: get(0)? },
-                "set-program" => Call::SetProgram { index: get(0)? as usize, word: word(1)? },
-                "set-store" => Call::SetStore { index: get(0)? as usize, word: word(1)? },
-                "program-length" => Call::ProgramLength(get(0)? as usize),
-                "store-length" => Call::StoreLength(get(0)? as usize),
-                "set-device" => {
-                    let mut words = [0; DEVICE_WORDS];
-                    for (which, place) in words.iter_mut().enumerate() {
-                        *place = word(which)?;
-                    }
-                    match Device::from_words(&words) {
-                        Some(device) => Call::SetDevice(device),
-                        None => Call::SetWords(words),
-                    }
-                }
-                "set-totals" => {
-                    Call::SetTotals(Totals { committed: get(0)?, accepted: get(1)?, stores: get(2)? })
-                }
-                "keep" => Call::Keep,
-                "restore" => Call::Restore,
-                _ => return Err(wrong()),
-            };
-            scenario.calls.push(call);
+            line.end()?;
         }
         Ok(scenario)
+    }
+}
+
+/// The largest index and length in the text form.
+const LONGEST: u64 = 1_000_000;
+
+/// A line of the text form: a name and numbers, in hex for a program.
+struct Line<'a> {
+    number: usize,
+    name: &'a str,
+    rest: std::str::SplitWhitespace<'a>,
+}
+
+impl<'a> Line<'a> {
+    fn new(number: usize, line: &'a str) -> Line<'a> {
+        let mut rest = line.split_whitespace();
+        Line { number, name: rest.next().unwrap_or(""), rest }
+    }
+
+    fn wrong(&self, text: String) -> String {
+        format!("line {}, {}: {text}", self.number, self.name)
+    }
+
+    /// The next number, at most so large.
+    fn take(&mut self, largest: u64) -> Result<u64, String> {
+        let text = self.rest.next().ok_or_else(|| self.wrong("a number is missing".into()))?;
+        let hex = self.name == "program";
+        let above = || match hex {
+            true => self.wrong(format!("{text} is above {largest:X}")),
+            false => self.wrong(format!("{text} is above {largest}")),
+        };
+        match u64::from_str_radix(text, if hex { 16 } else { 10 }) {
+            Ok(number) if number <= largest => Ok(number),
+            Ok(_) => Err(above()),
+            Err(error) if *error.kind() == IntErrorKind::PosOverflow => Err(above()),
+            Err(_) => Err(self.wrong(format!("{text} isn't a number from 0 on"))),
+        }
+    }
+
+    fn word(&mut self) -> Result<u16, String> {
+        Ok(self.take(u16::MAX as u64)? as u16)
+    }
+
+    /// Every number that is left.
+    fn words(&mut self) -> Result<Vec<u16>, String> {
+        let count = self.rest.clone().count();
+        (0..count).map(|_| self.word()).collect()
+    }
+
+    /// An index or a length.
+    fn length(&mut self) -> Result<usize, String> {
+        Ok(self.take(LONGEST)? as usize)
+    }
+
+    fn number(&mut self) -> Result<u32, String> {
+        Ok(self.take(u32::MAX as u64)? as u32)
+    }
+
+    fn totals(&mut self) -> Result<Totals, String> {
+        Ok(Totals { committed: self.number()?, accepted: self.number()?, stores: self.number()? })
+    }
+
+    fn device(&mut self) -> Result<Call, String> {
+        let mut words = [0; DEVICE_WORDS];
+        for place in &mut words {
+            *place = self.word()?;
+        }
+        Ok(match Device::from_words(&words) {
+            Some(device) => Call::SetDevice(device),
+            None => Call::SetWords(words),
+        })
+    }
+
+    fn call(&mut self) -> Result<Call, String> {
+        Ok(match self.name {
+            "check" => Call::Check,
+            "format" => Call::Format { log_pairs: self.word()?, queue_records: self.word()? },
+            "boot" => Call::Boot,
+            "step" => Call::Step,
+            "post" => Call::Post { event: self.word()?, datum: self.word()? },
+            "cut" => Call::Cut,
+            "run" => Call::Run { budget: self.number()? },
+            "set-program" => Call::SetProgram { index: self.length()?, word: self.word()? },
+            "set-store" => Call::SetStore { index: self.length()?, word: self.word()? },
+            "program-length" => Call::ProgramLength(self.length()?),
+            "store-length" => Call::StoreLength(self.length()?),
+            "set-device" => self.device()?,
+            "set-totals" => Call::SetTotals(self.totals()?),
+            "keep" => Call::Keep,
+            "restore" => Call::Restore,
+            _ => return Err(self.wrong("no call has this name".into())),
+        })
+    }
+
+    fn end(&mut self) -> Result<(), String> {
+        match self.rest.next() {
+            Some(text) => Err(self.wrong(format!("{text} is one number too many"))),
+            None => Ok(()),
+        }
     }
 }

@@ -49,7 +49,7 @@ impl Serial {
     pub fn read(&mut self, program: &[u16], call: &Call, answer: &Answer) -> Result<(), String> {
         self.calls += 1;
         match (call, answer) {
-            (Call::Post { event, data }, Answer::Done) => self.latest = Some((*event, *data)),
+            (Call::Post { event, datum }, Answer::Done) => self.latest = Some((*event, *datum)),
             (_, Answer::Accepted) => {
                 let record = self.latest.ok_or("accepted without a post")?;
                 self.records.push_back(record);
@@ -68,7 +68,7 @@ impl Serial {
                 self.task = next;
             }
             (_, Answer::Committed(Body::Event(number))) => {
-                let (event, data) = self.records.pop_front().ok_or("committed an event without a record")?;
+                let (event, datum) = self.records.pop_front().ok_or("committed an event without a record")?;
                 if event != *number {
                     return Err(format!("committed event {number}, oldest record {event}"));
                 }
@@ -76,7 +76,7 @@ impl Serial {
                     return Err(format!("committed event {number} while {} is open", self.open));
                 }
                 self.completed += 1;
-                let Ended::Done = self.run_body(program, program[1] + event, data)? else {
+                let Ended::Done = self.run_body(program, program[1] + event, datum)? else {
                     return Err("an event ended with GO".into());
                 };
             }
@@ -86,11 +86,11 @@ impl Serial {
     }
 
     /// Run a body from its first instruction on the memory, register 0 holding an event's data.
-    fn run_body(&mut self, program: &[u16], body: u16, data: u16) -> Result<Ended, String> {
+    fn run_body(&mut self, program: &[u16], body: u16, datum: u16) -> Result<Ended, String> {
         let row = &program[6 + 3 * body as usize..][..3];
         let code = &program[row[0] as usize..][..2 * row[1] as usize];
         let mut register = [0u16; 8];
-        register[0] = data;
+        register[0] = datum;
         let mut at = 0usize;
         for _ in 0..self.calls {
             let word = code[2 * at];

@@ -116,11 +116,11 @@ pub unsafe extern "C" fn post(
     store_length: usize,
     device: *mut u16,
     event: u16,
-    data: u16,
+    datum: u16,
     out: *mut u16,
 ) {
     let (program, store) = (words(program, length), words_mut(store, store_length));
-    let answer = with_device(device, |device| behind().post(program, store, device, event, data));
+    let answer = with_device(device, |device| behind().post(program, store, device, event, datum));
     put(answer_words(&answer.unwrap_or(Answer::NoDevice)), out);
 }
 

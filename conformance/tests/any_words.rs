@@ -107,7 +107,7 @@ fn any_words() {
                 0 => Call::Check,
                 1 => Call::Format { log_pairs: random.word(), queue_records: random.word() },
                 2 => Call::Boot,
-                3 => Call::Post { event: random.below(3) as u16, data: random.word() },
+                3 => Call::Post { event: random.below(3) as u16, datum: random.word() },
                 4 => Call::Run { budget: random.below(50) as u32 },
                 _ => Call::Step,
             };

@@ -41,7 +41,7 @@ fn every_mistake_is_caught_by_comparison() {
 fn blackboard_mistakes_are_caught_by_demand_3() {
     let mistakes = [
         Mistake::HeadPlusOneOnRedo,
-        Mistake::TailBeforeData,
+        Mistake::TailBeforeDatum,
         Mistake::PhaseBeforeTask,
         Mistake::CountFromLostState,
         Mistake::EventInOpenTransaction,

@@ -65,10 +65,10 @@ pub unsafe extern "C" fn runtime_post(
     store_length: usize,
     device: *mut u16,
     event: u16,
-    data: u16,
+    datum: u16,
     answer: *mut u16,
 ) {
-    standin::post(program, length, store, store_length, device, event, data, answer)
+    standin::post(program, length, store, store_length, device, event, datum, answer)
 }
 
 /// # Safety

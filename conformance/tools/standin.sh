@@ -5,7 +5,7 @@
 #     tools/standin.sh
 #     RUNTIME_ARCHIVE=target/standin/libexports.a cargo build --release --offline --features library
 #
-# With STANDIN_MISTAKE=TailBeforeData, say, in the environment of the program that links it, it has that mistake.
+# With STANDIN_MISTAKE=TailBeforeDatum, say, in the environment of the program that links it, it has that mistake.
 set -eu
 cd "$(dirname "$0")/.."
 cargo build --release --offline --quiet --example exports

@@ -7,81 +7,105 @@
 #include <stdio.h>
 #include <stdlib.h>
 
-static const uint16_t program[26] = {
-    0xC0B1, 1, 1, 2, 0, 26,                                /* T 1, E 1, M 2, entry 0 */
-    12, 5, 0,                                              /* the task's row */
-    22, 2, 0,                                              /* the event's row */
-    0x0800, 0, 0x0010, 1, 0x0201, 0, 0x0900, 0, 0x0F00, 0, /* adds 1 to word 0 */
-    0x0900, 1, 0x1000, 0,                                  /* saves its data in word 1 */
+#define MEMORY_WORDS 2
+#define LOG_PAIRS 1
+#define QUEUE_RECORDS 1
+#define PROGRAM_WORDS 26
+#define STORE_WORDS RUNTIME_STORE_WORDS(MEMORY_WORDS, LOG_PAIRS, QUEUE_RECORDS)
+
+static const uint16_t program[PROGRAM_WORDS] = {
+    RUNTIME_PROGRAM_MARK_VALUE, 1, 1, MEMORY_WORDS, 0, PROGRAM_WORDS, /* one task, one event, entry 0 */
+    12, 5, 0,                                                         /* the task's row */
+    22, 2, 0,                                                         /* the event's row */
+    0x0800, 0, 0x0010, 1, 0x0201, 0, 0x0900, 0, 0x0F00, 0,            /* adds 1 to word 0 */
+    0x0900, 1, 0x1000, 0                                              /* saves its data in word 1 */
 };
 
-enum { PROGRAM = sizeof program / sizeof *program, L = 1, Q = 1, M = 2, STORE = 18 + M + 2 * L + 2 * Q };
+static uint16_t store[STORE_WORDS];                /* nonvolatile: a cut leaves it as it is */
+static uint16_t device[RUNTIME_DEVICE_WORDS];      /* lost at a cut; zeros are the device that is off */
+static uint32_t totals[RUNTIME_TOTALS_NUMBERS];
+static uint16_t answer[RUNTIME_STEP_ANSWER_WORDS]; /* long enough for a step's answer */
 
-enum { DONE, CHOSEN, WORKED, STORED, COMMITTED, ACCEPTED, REFUSED, SPENT, NO_DEVICE };
-
-static uint16_t store[STORE]; /* nonvolatile: a cut leaves it as it is */
-static uint16_t device[18];   /* lost at a cut; 18 zeros are the device that is off */
-static uint32_t totals[3];
-static uint16_t answer[6];    /* a step's answer has six words, the others have five */
-
-static void print(const char *call)
+/* The answer of a call. The last word is a step's alone. */
+static void print(const char *call, int is_step)
 {
-    static const char *const cases[] = {"done",     "chosen",  "worked", "stored",   "committed",
-                                        "accepted", "refused", "spent",  "no device"};
-    printf("%-16s %s", call, answer[0] <= NO_DEVICE ? cases[answer[0]] : "?");
-    if (answer[0] == CHOSEN || answer[0] == COMMITTED)
-        printf(" %s %u", answer[1] ? "event" : "task", answer[2]);
-    if (answer[0] == REFUSED)
-        printf(" %u, place %u %u", answer[2], answer[3], answer[4]);
-    if (answer[0] == STORED || answer[0] == COMMITTED || answer[0] == ACCEPTED)
-        printf(", word %u", answer[5]);
+    const char *kind = answer[RUNTIME_ANSWER_KIND] == RUNTIME_KIND_TASK ? "task" : "event";
+    unsigned number = answer[RUNTIME_ANSWER_NUMBER];
+
+    printf("%-16s ", call);
+    switch (answer[RUNTIME_ANSWER_CASE]) {
+    case RUNTIME_CASE_DONE: printf("done"); break;
+    case RUNTIME_CASE_CHOSEN: printf("chosen %s %u", kind, number); break;
+    case RUNTIME_CASE_WORKED: printf("worked"); break;
+    case RUNTIME_CASE_STORED: printf("stored"); break;
+    case RUNTIME_CASE_COMMITTED: printf("committed %s %u", kind, number); break;
+    case RUNTIME_CASE_ACCEPTED: printf("accepted"); break;
+    case RUNTIME_CASE_REFUSED:
+        printf("refused %u, place %u %u", number, answer[RUNTIME_ANSWER_PLACE], answer[RUNTIME_ANSWER_SECOND_PLACE]);
+        break;
+    case RUNTIME_CASE_SPENT: printf("spent"); break;
+    case RUNTIME_CASE_NO_DEVICE: printf("no device"); break;
+    default: printf("?"); break;
+    }
+    if (is_step && answer[RUNTIME_ANSWER_STORED] != RUNTIME_NO_STORE)
+        printf(", word %u", answer[RUNTIME_ANSWER_STORED]);
     printf("\n");
 }
 
 static void print_memory(void)
 {
-    printf("                 memory %u %u, phase %u, head %u, tail %u\n", store[16], store[17], store[8], store[14],
-           store[15]);
+    printf("                 memory %u %u, phase %u, head %u, tail %u\n", store[RUNTIME_STORE_MEMORY],
+           store[RUNTIME_STORE_MEMORY + 1], store[RUNTIME_STORE_PHASE], store[RUNTIME_STORE_HEAD],
+           store[RUNTIME_STORE_TAIL]);
 }
 
 static void steps(int count)
 {
     while (count-- > 0) {
-        runtime_step(program, PROGRAM, store, STORE, device, totals, answer);
-        print("step");
+        runtime_step(program, PROGRAM_WORDS, store, STORE_WORDS, device, totals, answer);
+        print("step", 1);
     }
 }
 
 static void boot(void)
 {
-    runtime_boot(program, PROGRAM, store, STORE, device, answer);
-    print("boot");
+    runtime_boot(program, PROGRAM_WORDS, store, STORE_WORDS, device, answer);
+    print("boot", 0);
 }
 
-static void post(uint16_t event, uint16_t data)
+static void post(uint16_t event, uint16_t datum)
 {
-    runtime_post(program, PROGRAM, store, STORE, device, event, data, answer);
-    print("post");
+    runtime_post(program, PROGRAM_WORDS, store, STORE_WORDS, device, event, datum, answer);
+    print("post", 0);
+}
+
+static void run(uint32_t budget)
+{
+    uint32_t made = runtime_run(program, PROGRAM_WORDS, store, STORE_WORDS, device, totals, budget, answer);
+    char line[32];
+
+    sprintf(line, "run %lu: %lu", (unsigned long)budget, (unsigned long)made);
+    print(line, 0);
 }
 
 /* A cut, a boot, then steps while a commit is unfinished. */
 static void recover(void)
 {
     runtime_cut(device, answer);
-    print("cut");
+    print("cut", 0);
     boot();
-    while (store[8] != 0)
+    while (store[RUNTIME_STORE_PHASE] != RUNTIME_PHASE_RUNNING)
         steps(1);
     print_memory();
 }
 
 int main(void)
 {
-    runtime_check(program, PROGRAM, answer);
-    print("check");
-    runtime_format(program, PROGRAM, L, Q, store, STORE, answer);
-    print("format");
-    if (answer[0] != DONE)
+    runtime_check(program, PROGRAM_WORDS, answer);
+    print("check", 0);
+    runtime_format(program, PROGRAM_WORDS, LOG_PAIRS, QUEUE_RECORDS, store, STORE_WORDS, answer);
+    print("format", 0);
+    if (answer[RUNTIME_ANSWER_CASE] != RUNTIME_CASE_DONE)
         return EXIT_FAILURE;
 
     boot();
@@ -92,18 +116,16 @@ int main(void)
 
     post(0, 77);
     steps(3);
-    post(0, 78); /* the queue has one record: refused 21 */
+    post(0, 78); /* the queue has one record: RUNTIME_REFUSAL_QUEUE_FULL */
     steps(8);
     recover(); /* between the head store and the last: head moves on by one slot in all */
 
-    char line[32];
-    uint32_t made = runtime_run(program, PROGRAM, store, STORE, device, totals, 1400, answer);
-    snprintf(line, sizeof line, "run 1400: %u", (unsigned)made);
-    print(line);
+    run(1400);
     print_memory();
 
-    device[0] = 2; /* no device has this word */
+    device[RUNTIME_DEVICE_ON] = 2; /* no device has this word */
     steps(1);
-    printf("committed %u, accepted %u, stores %u\n", (unsigned)totals[0], (unsigned)totals[1], (unsigned)totals[2]);
+    printf("committed %lu, accepted %lu, stores %lu\n", (unsigned long)totals[RUNTIME_TOTALS_COMMITTED],
+           (unsigned long)totals[RUNTIME_TOTALS_ACCEPTED], (unsigned long)totals[RUNTIME_TOTALS_STORES]);
     return EXIT_SUCCESS;
 }

@@ -2,6 +2,7 @@
 //! Prints Markdown.
 //!
 //!     bench [--rounds N] [--milliseconds N]   at least 9 rounds; about so long for each side in a round
+//!     bench --instructions                    instructions a step, counted by valgrind, which has to be on the machine
 //!
 //! In a round the sides take turns ten times, and the best time of each counts, so that other work on the machine
 //! disturbs less. Each measurement starts from a formatted store and a booted device and makes the same calls on both sides; what both
@@ -14,7 +15,7 @@ use conformance::standin;
 use conformance::reference::*;
 use conformance::runtime::*;
 use std::hint::black_box;
-use std::process::exit;
+use std::process::{exit, Command};
 use std::time::Instant;
 
 // ---------------------------------------------------------------------------------------------------------
@@ -29,7 +30,7 @@ trait Side<'a> {
     fn step(&mut self);
     /// A run, all of whose budget is spent.
     fn run(&mut self, budget: u32);
-    fn post(&mut self, event: u16, data: u16);
+    fn post(&mut self, event: u16, datum: u16);
     fn left(self) -> Left;
 }
 
@@ -134,7 +135,7 @@ impl<'a, const REFERENCE: bool> Side<'a> for Words<'a, REFERENCE> {
         assert_eq!((steps, black_box(self.answer)[0]), (budget, 7));
     }
 
-    fn post(&mut self, event: u16, data: u16) {
+    fn post(&mut self, event: u16, datum: u16) {
         let program = black_box(self.program);
         unsafe {
             (self.functions.post)(
@@ -144,7 +145,7 @@ impl<'a, const REFERENCE: bool> Side<'a> for Words<'a, REFERENCE> {
                 self.store.len(),
                 self.device.as_mut_ptr(),
                 black_box(event),
-                black_box(data),
+                black_box(datum),
                 self.answer.as_mut_ptr(),
             )
         };
@@ -181,10 +182,10 @@ impl<'a> Side<'a> for Rust<'a> {
         assert_eq!(black_box(answer), RunAnswer { steps: budget, end: End::Spent });
     }
 
-    fn post(&mut self, event: u16, data: u16) {
+    fn post(&mut self, event: u16, datum: u16) {
         let program = black_box(self.program);
         let answer =
-            Reference.post(program, &mut self.store, &mut self.device, black_box(event), black_box(data));
+            Reference.post(program, &mut self.store, &mut self.device, black_box(event), black_box(datum));
         assert_eq!(black_box(answer), Answer::Done);
     }
 
@@ -382,7 +383,90 @@ fn flat_loads() -> Vec<Load> {
 }
 
 // ---------------------------------------------------------------------------------------------------------
+// Counting instructions
+
+/// A side by its name on the command line.
+const SIDES: [&str; 2] = ["library", "reference"];
+
+/// A call by its name on the command line.
+const CALLS: [(&str, How); 3] = [("run", How::Run), ("call", How::Call), ("step", How::Step)];
+
+/// All inputs that are counted: those of the speed, then those of the flatness.
+fn counted_loads() -> Vec<Load> {
+    loads().into_iter().chain(flat_loads()).collect()
+}
+
+/// So many turns of one input on one side, and nothing else: what `count` lets valgrind look at.
+fn turns_alone(words: &[String]) {
+    let [input, call, side, turns] = words else { usage() };
+    let all = counted_loads();
+    let load = input.parse().ok().and_then(|input: usize| all.get(input)).unwrap_or_else(|| usage());
+    let how = CALLS.iter().find(|(name, _)| name == call).unwrap_or_else(|| usage()).1;
+    let turns = turns.parse().unwrap_or_else(|_| usage());
+    let left = match (side.as_str(), how) {
+        ("library", _) => measure::<Words<false>>(load, how, turns).1,
+        ("reference", How::Call) => measure::<Words<true>>(load, how, turns).1,
+        _ => measure::<Rust>(load, how, turns).1,
+    };
+    black_box(left);
+}
+
+/// The instructions of this program with these words on its command line, as valgrind counts them.
+fn count(words: [&str; 4]) -> u64 {
+    let this = std::env::current_exe().expect("this program has a path");
+    let output = Command::new("valgrind")
+        .args(["--tool=callgrind", "--callgrind-out-file=/dev/null"])
+        .arg(this)
+        .arg("--turns")
+        .args(words)
+        .output()
+        .unwrap_or_else(|error| panic!("valgrind: {error}"));
+    let said = String::from_utf8_lossy(&output.stderr);
+    assert!(output.status.success(), "{said}");
+    let line = said.lines().find_map(|line| line.split("Collected : ").nth(1));
+    line.and_then(|number| number.trim().parse().ok()).unwrap_or_else(|| panic!("valgrind tells no count: {said}"))
+}
+
+/// Instructions a step: what two more turns take, so that the start and the end of the program drop out.
+fn instructions(input: usize, load: &Load, call: &str, side: &str) -> f64 {
+    let input = input.to_string();
+    let [less, more] = ["1", "3"].map(|turns| count([&input, call, side, turns]));
+    (more - less) as f64 / (2 * load.steps_in_a_turn()) as f64
+}
+
+fn print_instructions() {
+    println!("## Instructions a step\n");
+    println!("Counted by callgrind; reference/library, above 1 the library takes fewer.\n");
+    println!("| Input | Call | Library | Reference | Ratio |");
+    println!("|---|---|---:|---:|---:|");
+    let all = counted_loads();
+    let (speed, flat) = all.split_at(loads().len());
+    for (input, load) in speed.iter().enumerate() {
+        for (call, how) in CALLS {
+            let [library, reference] = SIDES.map(|side| instructions(input, load, call, side));
+            let ratio = reference / library;
+            println!("| {} | {} | {library:.1} | {reference:.1} | {ratio:.2} |", load.name, call_name(how));
+        }
+    }
+    println!("\nThe counting program's step by `run`, inside larger programs and stores.\n");
+    println!("| Program words | Store words | Library | Reference |");
+    println!("|---:|---:|---:|---:|");
+    for (input, load) in flat.iter().enumerate() {
+        let [library, reference] = SIDES.map(|side| instructions(speed.len() + input, load, "run", side));
+        println!("| {} | {} | {library:.1} | {reference:.1} |", load.program.len(), load.store().len());
+    }
+}
+
+// ---------------------------------------------------------------------------------------------------------
 // Tables
+
+fn call_name(how: How) -> &'static str {
+    match how {
+        How::Run => "run",
+        How::Step => "step; reference called directly",
+        How::Call => "step; both through C functions",
+    }
+}
 
 fn print_speed(loads: &[(&Load, How)], measured: &[Measured]) {
     println!("## Steps a second\n");
@@ -394,11 +478,7 @@ fn print_speed(loads: &[(&Load, How)], measured: &[Measured]) {
         println!(
             "| {} | {} | {:.1} | {:.1} | {:.2} | {:.2} | {:.2} |",
             load.name,
-            match how {
-                How::Run => "run",
-                How::Step => "step; reference called directly",
-                How::Call => "step; both through C functions",
-            },
+            call_name(*how),
             1e-6 / spread(library.clone())[1],
             1e-6 / spread(reference.clone())[1],
             ratios[0],
@@ -429,6 +509,7 @@ fn print_flatness(loads: &[(&Load, How)], measured: &[Measured]) {
 
 fn usage() -> ! {
     println!("bench [--rounds N] [--milliseconds N]");
+    println!("bench --instructions");
     exit(2);
 }
 
@@ -439,11 +520,19 @@ fn processor() -> String {
 }
 
 fn main() {
+    let arguments: Vec<String> = std::env::args().skip(1).collect();
+    match arguments.first().map(String::as_str) {
+        Some("--instructions") if arguments.len() == 1 => print_instructions(),
+        Some("--turns") => turns_alone(&arguments[1..]),
+        _ => print_times(&arguments),
+    }
+}
+
+fn print_times(arguments: &[String]) {
     let mut count = 15;
     let mut milliseconds = 20;
-    let mut arguments = std::env::args().skip(1);
-    while let Some(name) = arguments.next() {
-        let value = arguments.next().unwrap_or_else(|| usage());
+    for pair in arguments.chunks(2) {
+        let [name, value] = pair else { usage() };
         match name.as_str() {
             "--rounds" => count = value.parse().unwrap_or_else(|_| usage()),
             "--milliseconds" => milliseconds = value.parse().unwrap_or_else(|_| usage()),

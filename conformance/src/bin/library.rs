@@ -1,7 +1,10 @@
 //! The reference against the library of the repository, call by call.
 //!
 //!     library [--seed S] [--calls N]   the cases, then scenarios from seed S on, until N calls are made
-//!     library --replay FILE            one scenario in its text form, as a failure prints it (-: standard input)
+//!     library --replay FILE            one scenario in its text form, as a failure prints it (-: standard input),
+//!                                      call by call
+//!
+//! Exit status: 0 passed, 1 failed, 2 what was asked for can't be read, 3 nothing differed but too little came up.
 
 use conformance::library::LIBRARY;
 use conformance::many::{command, Wanted};
@@ -26,5 +29,5 @@ fn main() {
         }
     }
     println!("first side: the reference; second side: the library");
-    exit(if command(&Reference, &LIBRARY, &wanted) { 0 } else { 1 });
+    exit(command(&Reference, &LIBRARY, &wanted).status());
 }
