@@ -15,6 +15,7 @@ pub struct Runs {
     pub mistaken: Node,
 }
 
+// A number for each body, and for each answer but for the body that it holds.
 fn body_number(body: Body) -> u32 {
     match body {
         Body::Task(task) => 2 * (task as u32),
@@ -22,20 +23,32 @@ fn body_number(body: Body) -> u32 {
     }
 }
 
-// A number for each answer as it is printed.
-fn answer_number(answer: Answer) -> u32 {
+fn answer_number(answer: Answer) -> u16 {
     match answer {
         Answer::Done => 0,
-        Answer::Worked => 1,
-        Answer::Stored => 2,
-        Answer::Accepted => 3,
-        Answer::Refused(_) => 4,
-        Answer::Chosen(body) => 5 + 2 * body_number(body),
-        Answer::Committed(body) => 6 + 2 * body_number(body),
+        Answer::Chosen(_) => 1,
+        Answer::Worked => 2,
+        Answer::Stored => 3,
+        Answer::Committed(_) => 4,
+        Answer::Accepted => 5,
+        Answer::Refused(_) => 6,
     }
 }
 
-// The same for the word stored, with its value.
+// The body that an answer holds, by its number.
+fn held_number(answer: Answer) -> u32 {
+    match answer {
+        Answer::Done => 0,
+        Answer::Chosen(body) => body_number(body),
+        Answer::Worked => 0,
+        Answer::Stored => 0,
+        Answer::Committed(body) => body_number(body),
+        Answer::Accepted => 0,
+        Answer::Refused(_) => 0,
+    }
+}
+
+// A number for the word stored, with its value.
 fn stored_number(store: &[u16], stored: Stored) -> u32 {
     match stored {
         Stored::Nothing => 0,
@@ -66,13 +79,23 @@ fn differ(right_store: &[u16], mistaken_store: &[u16], right: Node, mistaken: No
     if answer_number(right_answer) != answer_number(mistaken_answer) {
         return true;
     }
+    if held_number(right_answer) != held_number(mistaken_answer) {
+        return true;
+    }
     let right_stored = right.stored;
     let mistaken_stored = mistaken.stored;
     stored_number(right_store, right_stored) != stored_number(mistaken_store, mistaken_stored)
 }
 
 // One row.
-fn row(program: &[u16], right_store: &mut [u16], mistaken_store: &mut [u16], runs: Runs, call: u8, mistake: Mistake) -> Runs {
+fn row(
+    program: &[u16],
+    right_store: &mut [u16],
+    mistaken_store: &mut [u16],
+    runs: Runs,
+    call: u8,
+    mistake: Mistake,
+) -> Runs {
     let right_before = runs.right;
     let mistaken_before = runs.mistaken;
     let right = node::call(program, right_store, right_before, call, Mistake::Nothing);
@@ -85,18 +108,23 @@ fn row(program: &[u16], right_store: &mut [u16], mistaken_store: &mut [u16], run
     bar(differ(right_store, mistaken_store, right, mistaken));
     cell(mistaken_store, mistaken, 1);
     text::put(b"\n");
-    Runs {
-        right,
-        mistaken,
-    }
+    Runs { right, mistaken }
 }
 
-fn rows(program: &[u16], right_store: &mut [u16], mistaken_store: &mut [u16], first: Runs, calls: &[u8], mistake: Mistake) -> Runs {
+fn rows(
+    program: &[u16],
+    right_store: &mut [u16],
+    mistaken_store: &mut [u16],
+    first: Runs,
+    calls: &[u8],
+    mistake: Mistake,
+) -> Runs {
     let mut runs = first;
     let mut i: usize = 0;
     while i < calls.len() {
-        runs = row(program, right_store, mistaken_store, runs, calls[i], mistake);
+        let call = calls[i];
         i += 1;
+        runs = row(program, right_store, mistaken_store, runs, call, mistake);
     }
     runs
 }
@@ -132,7 +160,14 @@ fn waiting(right: &[u16], mistaken: &[u16]) {
 }
 
 // Calls that aren't shown, in both runs.
-fn calls(program: &[u16], right_store: &mut [u16], mistaken_store: &mut [u16], runs: Runs, calls: &[u8], mistake: Mistake) -> Runs {
+fn calls(
+    program: &[u16],
+    right_store: &mut [u16],
+    mistaken_store: &mut [u16],
+    runs: Runs,
+    calls: &[u8],
+    mistake: Mistake,
+) -> Runs {
     let right = runs.right;
     let mistaken = runs.mistaken;
     Runs {
@@ -141,7 +176,32 @@ fn calls(program: &[u16], right_store: &mut [u16], mistaken_store: &mut [u16], r
     }
 }
 
-// Calls before the first row, in rows, and behind the last, on two stores with L 1, and what they leave.
+// What the calls leave.
+fn left(right: &[u16], mistaken: &[u16]) {
+    memory(right, mistaken);
+    head(right, mistaken);
+    waiting(right, mistaken);
+}
+
+// The calls in rows, and those behind the last.
+fn table(
+    program: &[u16],
+    right: &mut [u16],
+    mistaken: &mut [u16],
+    first: Runs,
+    mistake: Mistake,
+    shown: &[u8],
+    behind: &[u8],
+) {
+    text::line(b"          right                               mistaken");
+    text::line(b" # call   answers      stores                 answers      stores");
+    let last = rows(program, right, mistaken, first, shown, mistake);
+    let _ = calls(program, right, mistaken, last, behind, mistake);
+    listed::behind(behind);
+    left(right, mistaken);
+}
+
+// Calls before the first row, in rows, and behind the last, on two stores.
 pub fn beside(
     program: &[u16],
     right: &mut [u16],
@@ -157,12 +217,5 @@ pub fn beside(
     };
     let first = calls(program, right, mistaken, off, before, mistake);
     listed::before(before);
-    text::line(b"          right                               mistaken");
-    text::line(b" # call   answers      stores                 answers      stores");
-    let last = rows(program, right, mistaken, first, shown, mistake);
-    let _ = calls(program, right, mistaken, last, behind, mistake);
-    listed::behind(behind);
-    memory(right, mistaken);
-    head(right, mistaken);
-    waiting(right, mistaken);
+    table(program, right, mistaken, first, mistake, shown, behind);
 }

@@ -101,7 +101,7 @@ fn instruction(program: &[u16], body: Body, at: u16) {
         Body::Task(task) => task as u32,
         Body::Event(event) => words::word(program, 1) as u32 + event as u32,
     };
-    let row = (6 + 3 * number) % 65536;
+    let row = (6 + 3 * (number % 65536)) % 65536;
     let place = (words::word(program, row as u16) as u32 + 2 * (at as u32)) % 65536;
     mnemonic(words::word(program, place as u16) / 256);
 }

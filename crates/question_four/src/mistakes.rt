@@ -53,6 +53,12 @@ fn told(stored: Stored) -> u16 {
     }
 }
 
+// Two words become what a mistaken step leaves in them.
+fn two(store: &mut [u16], first: u16, word: u16, second: u16, other: u16) {
+    words::set(store, first, word);
+    words::set(store, second, other);
+}
+
 // The node with another answer and another word told, and a store made early or no more.
 fn instead(node: Node, answer: Answer, index: u16, early: bool) -> Node {
     let device = node.device;
@@ -98,9 +104,9 @@ fn tail_before_data(program: &[u16], store: &mut [u16], node: Node) -> Node {
     if told(stored) != index {
         return left;
     }
-    left.kept.datum = words::word(store, index);
-    words::set(store, index, stale);
-    words::set(store, 15, words::slot_after(store, tail));
+    let datum = words::word(store, index);
+    left.kept.datum = datum;
+    two(store, index, stale, 15, words::slot_after(store, tail));
     instead(left, Answer::Accepted, 15, true)
 }
 
@@ -113,26 +119,35 @@ fn data_after_tail(program: &[u16], store: &mut [u16], node: Node, datum: u16) -
     instead(left, Answer::Stored, index, false)
 }
 
+// The phase, or 1 where it was cleared too early.
+fn phase_meant(store: &[u16], early: bool) -> u16 {
+    if early {
+        return 1;
+    }
+    words::phase(store)
+}
+
+// Word 9 is stored while the phase is 0, and word 10 not yet.
+fn task_after_phase(store: &mut [u16], open: u16) {
+    two(store, 9, words::word(store, 12), 10, open);
+    words::set(store, 8, 0);
+}
+
 // Clearing the phase before word 9: a task's commit ends with words 8, 9 and 10, and not with 9, 10 and 8.
 fn phase_before_task(program: &[u16], store: &mut [u16], node: Node) -> Node {
     let kept = node.kept;
     let task = words::word(store, 9);
     let open = words::word(store, 10);
-    if kept.early {
-        words::set(store, 8, 1);
-    }
+    words::set(store, 8, phase_meant(store, kept.early));
     let left = node::step(program, store, node);
     let stored = left.stored;
     let index = told(stored);
     if index == 9 {
-        words::set(store, 9, task);
-        words::set(store, 8, 0);
+        two(store, 9, task, 8, 0);
         return instead(left, Answer::Stored, 8, true);
     }
     if index == 10 {
-        words::set(store, 10, open);
-        words::set(store, 9, words::word(store, 12));
-        words::set(store, 8, 0);
+        task_after_phase(store, open);
         return instead(left, Answer::Stored, 9, true);
     }
     if kept.early {
@@ -155,7 +170,8 @@ fn lost_count(program: &[u16], store: &mut [u16], node: Node) -> Node {
     let mut left = node::step(program, store, node);
     let answer = left.answer;
     if let Answer::Committed(_) = answer {
-        left.kept.count = words::word(store, 11);
+        let logged = words::word(store, 11);
+        left.kept.count = logged;
     }
     left
 }
@@ -168,7 +184,8 @@ fn lost_open(program: &[u16], store: &mut [u16], node: Node) -> Node {
     let mut left = node::step(program, store, node);
     let stored = left.stored;
     if told(stored) == 10 {
-        left.kept.open = words::word(store, 10);
+        let next = words::word(store, 10);
+        left.kept.open = next;
         return left;
     }
     words::set(store, 10, open);

@@ -75,7 +75,10 @@ fn post(program: &[u16], store: &[u16], node: Node, digit: u8) -> Node {
         return node;
     }
     let device = node.device;
-    after(node, look::post(program, store, device, 0, (digit - b'0') as u16))
+    after(
+        node,
+        look::post(program, store, device, 0, (digit - b'0') as u16),
+    )
 }
 
 pub fn call(program: &[u16], store: &mut [u16], node: Node, call: u8, mistake: Mistake) -> Node {
@@ -93,7 +96,13 @@ pub fn call(program: &[u16], store: &mut [u16], node: Node, call: u8, mistake: M
 }
 
 // Calls that aren't shown.
-pub fn calls(program: &[u16], store: &mut [u16], first: Node, calls: &[u8], mistake: Mistake) -> Node {
+pub fn calls(
+    program: &[u16],
+    store: &mut [u16],
+    first: Node,
+    calls: &[u8],
+    mistake: Mistake,
+) -> Node {
     let mut node = first;
     let mut i: usize = 0;
     while i < calls.len() {

@@ -9,12 +9,17 @@ pub fn line(text: &[u8]) {
     put(b"\n");
 }
 
-pub fn spaces(n: u16) {
-    let mut i: u16 = 0;
-    while i < n {
-        put(b" ");
-        i += 1;
+// The last n bytes.
+fn last(text: &[u8], n: usize) {
+    if n <= text.len() {
+        let from = text.len() - n;
+        put(&text[from..]);
     }
+}
+
+// Up to 40 of them.
+pub fn spaces(n: u16) {
+    last(b"                                        ", n as usize);
 }
 
 // What is left of a column, of which so much is used.
@@ -43,6 +48,11 @@ fn glyph(digit: u16) -> u8 {
 
 // A word, as four hex digits.
 pub fn hex(word: u16) {
-    let text = [glyph(word / 4096), glyph(word / 256), glyph(word / 16), glyph(word)];
+    let text = [
+        glyph(word / 4096),
+        glyph(word / 256),
+        glyph(word / 16),
+        glyph(word),
+    ];
     put(&text);
 }
