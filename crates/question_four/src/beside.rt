@@ -64,27 +64,30 @@ fn bar(differ: bool) {
     }
 }
 
-fn cell(store: &[u16], node: Node, width: u16) {
-    let answer = node.answer;
-    let stored = node.stored;
-    let device = node.device;
-    cells::answer(answer);
-    text::put(b" ");
-    cells::stored(store, device, stored, width);
+fn answers_differ(right: Answer, mistaken: Answer) -> bool {
+    if answer_number(right) != answer_number(mistaken) {
+        return true;
+    }
+    held_number(right) != held_number(mistaken)
 }
 
 fn differ(right_store: &[u16], mistaken_store: &[u16], right: Node, mistaken: Node) -> bool {
     let right_answer = right.answer;
     let mistaken_answer = mistaken.answer;
-    if answer_number(right_answer) != answer_number(mistaken_answer) {
-        return true;
-    }
-    if held_number(right_answer) != held_number(mistaken_answer) {
+    if answers_differ(right_answer, mistaken_answer) {
         return true;
     }
     let right_stored = right.stored;
     let mistaken_stored = mistaken.stored;
     stored_number(right_store, right_stored) != stored_number(mistaken_store, mistaken_stored)
+}
+
+// What a call answered and stored, in both runs.
+fn performed(right_store: &[u16], mistaken_store: &[u16], right: Node, mistaken: Node) {
+    cells::performed(right_store, right, 20);
+    bar(differ(right_store, mistaken_store, right, mistaken));
+    cells::performed(mistaken_store, mistaken, 1);
+    text::put(b"\n");
 }
 
 // One row.
@@ -101,13 +104,8 @@ fn row(
     let right = node::call(program, right_store, right_before, call, Mistake::Nothing);
     let mistaken = node::call(program, mistaken_store, mistaken_before, call, mistake);
     cells::number(right_before.steps, call);
-    text::put(b" ");
-    cells::call(call, 6);
-    text::put(b" ");
-    cell(right_store, right, 20);
-    bar(differ(right_store, mistaken_store, right, mistaken));
-    cell(mistaken_store, mistaken, 1);
-    text::put(b"\n");
+    cells::call(call, 7);
+    performed(right_store, mistaken_store, right, mistaken);
     Runs { right, mistaken }
 }
 

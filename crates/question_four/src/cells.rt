@@ -1,5 +1,6 @@
 // The cells of a row, each as wide as its column.
 use super::node;
+use super::node::Node;
 use super::text;
 use super::words;
 use model::Answer;
@@ -9,13 +10,14 @@ use model::Handler;
 use model::Place;
 use model::Stored;
 
-// At a step, which so many precede, its number; in a column of two.
+// At a step, which so many precede, its number; in a column of three.
 pub fn number(before: u32, call: u8) {
     if call == b's' {
         text::two(node::one_more(before));
+        text::spaces(1);
         return;
     }
-    text::spaces(2);
+    text::spaces(3);
 }
 
 // A call, in a column of `width`.
@@ -127,13 +129,14 @@ fn step_runs(program: &[u16], store: &[u16], device: Device) {
     }
 }
 
-// What a call runs.
+// What a call runs, in a column of eight.
 pub fn runs(program: &[u16], store: &[u16], device: Device, name: u8) {
     if name == b's' {
         step_runs(program, store, device);
+        text::spaces(1);
         return;
     }
-    call(name, 7);
+    call(name, 8);
 }
 
 // Does an event run?
@@ -221,6 +224,16 @@ pub fn stored(store: &[u16], device: Device, stored: Stored, width: u16) {
             text::hex(words::word(store, index));
         }
     }
+}
+
+// What a call answered, and what it stored.
+pub fn performed(store: &[u16], node: Node, width: u16) {
+    let answered = node.answer;
+    let told = node.stored;
+    let device = node.device;
+    answer(answered);
+    text::put(b" ");
+    stored(store, device, told, width);
 }
 
 // Two words of memory, in a column of nine.

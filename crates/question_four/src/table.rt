@@ -41,28 +41,26 @@ fn recovered(program: &[u16], store: [u16; 24]) {
     left(program, copy, node);
 }
 
-// What a call answers and stores, phase and open number after it, and what recovery would leave.
-fn done(program: &[u16], store: &[u16; 24], node: Node) {
-    let answer = node.answer;
-    let stored = node.stored;
-    let device = node.device;
-    cells::answer(answer);
-    text::put(b" ");
-    cells::stored(store, device, stored, 20);
+// Phase and open number.
+fn control(store: &[u16]) {
     text::put(b" ");
     text::two(words::phase(store) as u32);
     text::put(b" ");
     text::two(words::word(store, 10) as u32);
     text::spaces(5);
+}
+
+// What a call answers and stores, phase and open number after it, and what recovery would leave.
+fn done(program: &[u16], store: &[u16; 24], node: Node) {
+    cells::performed(store, node, 20);
+    control(store);
     recovered(program, *store);
 }
 
 fn row(program: &[u16], store: &mut [u16; 24], before: Node, call: u8) -> Node {
-    let device = before.device;
     cells::number(before.steps, call);
-    text::put(b" ");
+    let device = before.device;
     cells::runs(program, store, device, call);
-    text::put(b" ");
     let node = node::call(program, store, before, call, Mistake::Nothing);
     done(program, store, node);
     node
@@ -79,11 +77,15 @@ fn rows(program: &[u16], store: &mut [u16; 24], first: Node, calls: &[u8]) {
 
 // A store with L and Q 1, and a device that is off: calls that aren't shown, and calls with a row each.
 pub fn table(program: &[u16], before: &[u8], calls: &[u8]) {
+    heading(before);
     let mut store = [0; 24];
     let _ = format::format(program, 1, 1, &mut store);
     let first = node::calls(program, &mut store, node::off(), before, Mistake::Nothing);
+    rows(program, &mut store, first, calls);
+}
+
+fn heading(before: &[u8]) {
     listed::before(before);
     text::line(b"                                                    uncut recovery would leave");
     text::line(b" # runs    answers      stores               ph op  steps memory    waiting next");
-    rows(program, &mut store, first, calls);
 }
