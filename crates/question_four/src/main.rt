@@ -1,273 +1,167 @@
-// Question four: the counting program, cut at each point. For each step of its task, and for each step that brings an event in and serves it:
-// what the step answers, which word it stores, what memory holds if power is cut then, and what uncut recovery leaves.
-// Everything printed is what the runtime tells, the word stored too. What is printed is held to the file `stdout`; it isn't proved.
-use device::look;
-use model::Answer;
-use model::Body;
-use model::Device;
-use model::Stored;
+// Question four: power is cut after any call; what is left? The counting program and a transaction, cut at each point, and the blackboard's
+// mistakes, each beside the right run. Everything in a row is what the runtime tells, or a word of the store.
+// What is printed is held to the file `stdout`, which another implementation printed (conformance/, `screens`); it isn't proved.
+use mistakes::Mistake;
 use store::format;
 
-fn put(text: &[u8]) {
-    let _ = io::write_all(1, text);
+mod beside;
+mod cells;
+mod listed;
+mod mistakes;
+mod node;
+mod table;
+mod text;
+mod transaction;
+mod words;
+
+fn legend() {
+    text::line(b"Question four: power is cut after any call. What is left?");
+    text::line(b"");
+    text::line(b"A row is a call. #: the steps so far. runs: an instruction, or choose, commit,");
+    text::line(b"handler. stores: the word's index, name and new value. ph, op: phase and open");
+    text::line(b"number after the call. If power is cut then, uncut recovery takes so many steps");
+    text::line(b"and leaves this memory and this record waiting; next is the body chosen then.");
+    text::line(b"T0 is task 0, E0 event 0; post 7 posts event 0 with data 7. Words are in hex,");
+    text::line(b"other numbers in decimal. L is 1; Q is 1, in screen 6 it is 2.");
 }
 
-fn spaces(n: u16) {
-    let mut i: u16 = 0;
-    while i < n {
-        put(b" ");
-        i += 1;
-    }
+fn task() {
+    text::line(b"\n1. A task of the counting program");
+    let program = cases::counting();
+    table::table(&program, b"", b"bssssssssssssss");
 }
 
-fn digits(n: u32) -> u16 {
-    if n < 10 {
-        return 1;
-    }
-    2
+fn event() {
+    text::line(b"\n2. An event of the counting program");
+    let program = cases::counting();
+    table::table(&program, b"", b"b7ssssssssssss");
 }
 
-// n in decimal, right in a column of `width`.
-fn decimal(n: u32, width: u16) {
-    let used = digits(n);
-    if used < width {
-        spaces(width - used);
-    }
-    let _ = io::print_decimal(1, n as u64);
+fn event_in_transaction() {
+    text::line(b"\n3. An event posted inside a transaction runs after it, cut or no cut");
+    text::line(b"T0 adds 1 to word 0 and T1 copies word 0 to word 1, both in transaction 1; T2");
+    text::line(b"goes on to itself. The event saves its data in word 0.");
+    let program = transaction::PROGRAM;
+    table::table(&program, b"bsssssssss", b"sssss7ssssssssssssssssssssssss");
 }
 
-fn glyph(d: u16) -> u8 {
-    let glyphs = b"0123456789ABCDEF";
-    glyphs[(d % 16) as usize]
+fn cut_in_recovery() {
+    text::line(b"\n4. A cut in the recovery from a cut: copying starts again at the first pair");
+    let program = cases::counting();
+    table::table(&program, b"bsssssssss", b"scbsscbssss");
 }
 
-// A word, as four hex digits.
-fn hex(n: u16) {
-    let text = [glyph(n / 4096), glyph(n / 256), glyph(n / 16), glyph(n)];
-    put(&text);
+fn cuts_in_post() {
+    text::line(b"\n5. Cuts among a post's three stores: after one, after two, after all");
+    let program = cases::counting();
+    table::table(&program, b"", b"b7scb8sscb9ssscbs");
 }
 
-// Two words.
-fn pair(a: u16, b: u16) {
-    hex(a);
-    put(b" ");
-    hex(b);
-}
-
-// A body with its number, in a column of ten.
-fn body(b: Body) {
-    match b {
-        Body::Task(n) => {
-            put(b"task ");
-            let _ = io::print_decimal(1, n as u64);
-            spaces(4);
-        }
-        Body::Event(n) => {
-            put(b"event ");
-            let _ = io::print_decimal(1, n as u64);
-            spaces(3);
-        }
-    }
-}
-
-// An answer, in a column of 17. Chosen and committed hold the body; the one has two columns more than the other.
-fn answer(a: Answer) {
-    match a {
-        Answer::Done => put(b"done             "),
-        Answer::Chosen(b) => {
-            put(b"chosen ");
-            body(b);
-        }
-        Answer::Worked => put(b"worked           "),
-        Answer::Stored => put(b"stored           "),
-        Answer::Committed(b) => committed(b),
-        Answer::Accepted => put(b"accepted         "),
-        Answer::Refused(_) => put(b"refused          "),
-    }
-}
-
-fn committed(b: Body) {
-    match b {
-        Body::Task(n) => {
-            put(b"committed task ");
-            let _ = io::print_decimal(1, n as u64);
-            spaces(1);
-        }
-        Body::Event(n) => {
-            put(b"committed event ");
-            let _ = io::print_decimal(1, n as u64);
-        }
-    }
-}
-
-// The name of a word of this store (M 2, L 1, Q 1), in a column of twelve. Word 12 is a commit's next task, or its next head.
-fn name(i: u16, serving: bool) {
-    match i {
-        8 => put(b"phase       "),
-        9 => put(b"current task"),
-        10 => put(b"open number "),
-        11 => put(b"count       "),
-        12 => pending(serving),
-        13 => put(b"pending open"),
-        14 => put(b"head        "),
-        15 => put(b"tail        "),
-        16 => put(b"memory 0    "),
-        17 => put(b"memory 1    "),
-        18 => put(b"log address "),
-        19 => put(b"log value   "),
-        20 => put(b"slot 0 event"),
-        21 => put(b"slot 0 data "),
-        22 => put(b"slot 1 event"),
-        23 => put(b"slot 1 data "),
-        _ => put(b"?           "),
-    }
-}
-
-fn pending(serving: bool) {
-    if serving {
-        put(b"pending head");
-        return;
-    }
-    put(b"pending task");
-}
-
-// The word that a step stored, with its value, in a column of 22.
-fn stored(word: Stored, s: &[u16; 24], serving: bool) {
-    match word {
-        Stored::Nothing => put(b"nothing               "),
-        Stored::Word(i) => {
-            decimal(i as u32, 2);
-            put(b" ");
-            name(i, serving);
-            put(b" = ");
-            if i < 24 {
-                hex(s[i as usize]);
-            }
-        }
-    }
-}
-
-// Uncut recovery of a copy of the store: a cut, a boot, then steps while the phase isn't 0. How many steps it took, and what it leaves.
-fn recovered(p: &[u16; 26], store: [u16; 24]) {
-    let mut s = store;
-    let booted = look::boot(p, &s, Device::OFF);
-    let mut d = booted.device;
-    let mut n: u32 = 0;
-    while n < 99 {
-        if s[8] == 0 {
-            break;
-        }
-        let r = runtime::step(p, &mut s, d);
-        d = r.device;
-        n += 1;
-    }
-    decimal(n, 5);
-    put(b"  ");
-    pair(s[16], s[17]);
-    put(b"  ");
-    hex(s[9]);
-    put(b"  ");
-    hex(s[14]);
-    put(b"  ");
-    waiting(&s);
-}
-
-// The waiting record; Q is 1, so there is at most one.
-fn waiting(s: &[u16; 24]) {
-    if s[14] == s[15] {
-        put(b"none\n");
-        return;
-    }
-    if s[14] == 0 {
-        pair(s[20], s[21]);
-    } else {
-        pair(s[22], s[23]);
-    }
-    put(b"\n");
-}
-
-// The rest of a row: memory at the cut, and what recovery leaves.
-fn cut(p: &[u16; 26], s: &[u16; 24]) {
-    put(b"  ");
-    pair(s[16], s[17]);
-    put(b"  ");
-    recovered(p, *s);
-}
-
-// Row 0: what the call before the steps answers, in a column of eleven.
-fn called(a: Answer) {
-    match a {
-        Answer::Done => put(b"done       "),
-        Answer::Chosen(_) => put(b"chosen     "),
-        Answer::Worked => put(b"worked     "),
-        Answer::Stored => put(b"stored     "),
-        Answer::Committed(_) => put(b"committed  "),
-        Answer::Accepted => put(b"accepted   "),
-        Answer::Refused(_) => put(b"refused    "),
-    }
-    put(b"  nothing               ");
-}
-
-fn head() {
-    put(b"                                                 at cut     uncut recovery leaves\n");
-    put(
-        b"step  answers            stores                  memory     steps  memory     task  head  waiting\n",
+// On stores with L and Q 1.
+fn beside_one(program: &[u16], mistake: Mistake, before: &[u8], shown: &[u8], behind: &[u8]) {
+    let mut right = [0; 24];
+    let mut mistaken = [0; 24];
+    let _ = format::format(program, 1, 1, &mut right);
+    let _ = format::format(program, 1, 1, &mut mistaken);
+    beside::beside(
+        program,
+        &mut right,
+        &mut mistaken,
+        mistake,
+        before,
+        shown,
+        behind,
     );
 }
 
-// One row for each step.
-fn rows(p: &[u16; 26], s: &mut [u16; 24], first: Device, last: u32, serving: bool) {
-    let mut d = first;
-    let mut k: u32 = 0;
-    while k < last {
-        k += 1;
-        let r = runtime::step(p, s, d);
-        let a = r.answer;
-        let word = r.stored;
-        d = r.device;
-        decimal(k, 4);
-        put(b"  ");
-        answer(a);
-        put(b"  ");
-        stored(word, s, serving);
-        cut(p, s);
-    }
+// On stores with Q 2.
+fn beside_two(program: &[u16], mistake: Mistake, before: &[u8], shown: &[u8], behind: &[u8]) {
+    let mut right = [0; 26];
+    let mut mistaken = [0; 26];
+    let _ = format::format(program, 1, 2, &mut right);
+    let _ = format::format(program, 1, 2, &mut mistaken);
+    beside::beside(
+        program,
+        &mut right,
+        &mut mistaken,
+        mistake,
+        before,
+        shown,
+        behind,
+    );
 }
 
-// A store with L and Q 1, formatted and booted: the task's steps.
-fn task(p: &[u16; 26]) {
-    put(b"\nA task: boot, the steps, a cut.\n");
-    head();
-    let mut s = [0; 24];
-    let _ = format::format(p, 1, 1, &mut s);
-    let booted = look::boot(p, &s, Device::OFF);
-    let a = booted.answer;
-    put(b"   0  boot: ");
-    called(a);
-    cut(p, &s);
-    rows(p, &mut s, booted.device, 14, false);
+fn head_plus_one() {
+    text::line(b"\n6. Redoing an event's commit by adding one to head: two records go");
+    let program = cases::counting();
+    beside_two(
+        &program,
+        Mistake::HeadPlusOneOnRedo,
+        b"b7sss8ssssssss",
+        b"ssscbssss",
+        b"",
+    );
 }
 
-// The same with a post: the event's steps.
-fn event(p: &[u16; 26]) {
-    put(b"\nAn event: boot, post of event 0 with data 0007, the steps, a cut.\n");
-    head();
-    let mut s = [0; 24];
-    let _ = format::format(p, 1, 1, &mut s);
-    let booted = look::boot(p, &s, Device::OFF);
-    let posted = look::post(p, &s, booted.device, 0, 7);
-    let a = posted.answer;
-    put(b"   0  post: ");
-    called(a);
-    cut(p, &s);
-    rows(p, &mut s, posted.device, 12, true);
+fn tail_before_data() {
+    text::line(b"\n7. Storing tail before data: a cut accepts a stale record");
+    let program = cases::counting();
+    beside_one(
+        &program,
+        Mistake::TailBeforeData,
+        b"b7ssssssssssss8ssssssssssss",
+        b"9sscbs",
+        b"ssssssss",
+    );
+}
+
+fn phase_before_task() {
+    text::line(b"\n8. Clearing the phase before word 9: the task runs again (screen 3's program)");
+    let program = transaction::PROGRAM;
+    beside_one(
+        &program,
+        Mistake::PhaseBeforeTask,
+        b"bsssssssss",
+        b"ssscbsss",
+        b"sssssssssssssssssssssss",
+    );
+}
+
+fn lost_count() {
+    text::line(b"\n9. Taking the log count at recovery from lost state, not word 11");
+    let program = cases::counting();
+    beside_one(
+        &program,
+        Mistake::CountFromLostState,
+        b"bsssssssss",
+        b"scbssss",
+        b"",
+    );
+}
+
+fn lost_open() {
+    text::line(b"\n10. Serving an event after a cut in an open transaction (screen 3's program)");
+    let program = transaction::PROGRAM;
+    beside_one(
+        &program,
+        Mistake::EventInOpenTransaction,
+        b"bssssssssssssss",
+        b"7ssscbs",
+        b"ssssssssssssssssssss",
+    );
 }
 
 fn main() {
-    let p = cases::counting();
-    put(
-        b"The counting program, L 1, Q 1, cut at each point. Words in hex, steps and indices in decimal.\n",
-    );
-    task(&p);
-    event(&p);
+    legend();
+    task();
+    event();
+    event_in_transaction();
+    cut_in_recovery();
+    cuts_in_post();
+    text::line(b"\nFive mistakes, each beside the right run. A bar stands where they differ.");
+    head_plus_one();
+    tail_before_data();
+    phase_before_task();
+    lost_count();
+    lost_open();
 }
