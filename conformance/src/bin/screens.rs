@@ -352,7 +352,7 @@ fn mistakes() {
     runs_beside(&HeadPlusOne, &COUNTING, 2, ["b7sss8ssssssss", "ssscbssss", ""]);
     println!("\n7. Storing tail before data: a cut accepts a stale record");
     let calls = ["b7ssssssssssss8ssssssssssss", "9sscbs", "ssssssss"];
-    runs_beside(&Mutant(Mistake::TailBeforeData), &COUNTING, 1, calls);
+    runs_beside(&Mutant(Mistake::TailBeforeDatum), &COUNTING, 1, calls);
     println!("\n8. Clearing the phase before word 9: the task runs again (screen 3's program)");
     let calls = ["bsssssssss", "ssscbsss", "sssssssssssssssssssssss"];
     runs_beside(&Mutant(Mistake::PhaseBeforeTask), &TRANSACTION, 1, calls);

@@ -3,8 +3,8 @@
 use super::mistakes;
 use super::mistakes::Kept;
 use super::mistakes::Mistake;
-use device::Stepped;
-use device::look;
+use device::CallResult;
+use device::calls;
 use model::Answer;
 use model::Device;
 use model::Stored;
@@ -30,7 +30,7 @@ pub fn off() -> Node {
 }
 
 // The node after a call that left this.
-pub fn after(node: Node, left: Stepped) -> Node {
+pub fn after(node: Node, left: CallResult) -> Node {
     let answer = left.answer;
     let stored = left.stored;
     let device = left.device;
@@ -65,7 +65,7 @@ fn counted(node: Node) -> Node {
 }
 
 fn cut(node: Node) -> Node {
-    let mut next = after(node, look::cut());
+    let mut next = after(node, calls::cut());
     next.kept = mistakes::nothing_kept();
     next
 }
@@ -77,7 +77,7 @@ fn post(program: &[u16], store: &[u16], node: Node, digit: u8) -> Node {
     let device = node.device;
     after(
         node,
-        look::post(program, store, device, 0, (digit - b'0') as u16),
+        calls::post(program, store, device, 0, (digit - b'0') as u16),
     )
 }
 
@@ -87,7 +87,7 @@ pub fn call(program: &[u16], store: &mut [u16], node: Node, call: u8, mistake: M
     }
     if call == b'b' {
         let device = node.device;
-        return after(node, look::boot(program, store, device));
+        return after(node, calls::boot(program, store, device));
     }
     if call == b'c' {
         return cut(node);
