@@ -9,8 +9,8 @@ use lib.Dec.{ltb}
 use Rattle.model.proofs.TestLaws.{then-first, then-rest, impossible}
 use Rattle.model.specs.Accepted.{MayRun, Stands, HasBody, Looked}
 use Rattle.model.specs.Check.{instructionRule}
-use Rattle.model.specs.Device.{endStores, namedRow, openSound, headIs, saves, placeFits, bodySound, Out, refuse, judged, act, saveRest, placeStep}
-use Rattle.model.specs.Program.{word, instructions, number, effectAt}
+use Rattle.model.specs.Device.{endStores, namedRow, openSound, headIs, saves, placeFits, bodySound, Outcome, refuse, judged, act, saveRest, placeStep}
+use Rattle.model.specs.Program.{word, instructions, bodyNumber, effectAt}
 use Rattle.model.specs.Store.{Store, view}
 use Rattle.model.specs.Test.{pick, _and_, must, _then_}
 use Rattle.model.specs.declared.Body.{Body}
@@ -28,7 +28,7 @@ use Rattle.body.specs.declared.Fetched.{Fetched}
 
 module _ (p s : List ℕ) (d : Device) (h : Looked p s d) where
   may-run : (b : Body) → MayRun p (view s) b → word s 8 ≡ 0 → Running p s b
-  unfolding number endStores
+  unfolding bodyNumber endStores
   may-run (Body.Task t) m z =
       record {
         contents = h .contents;
@@ -86,13 +86,13 @@ whole a t m o h = a then pick t m Checked.Accepted then o then must (t and h and
 
 module _ (p : List ℕ) (v : Store) (r : List ℕ) (b : Body) (j : ℕ) where
   abbrev there : Bool
-  there = ltb j (instructions p (number p b))
+  there = ltb j (instructions p (bodyNumber p b))
 
   abbrev at : Effect
-  at = effectAt p (number p b) j r
+  at = effectAt p (bodyNumber p b) j r
 
   abbrev codeChecks : Checked
-  codeChecks = instructionRule p (number p b) j then namedRow p at
+  codeChecks = instructionRule p (bodyNumber p b) j then namedRow p at
 
   fetched-is : fetched p v r b j ≡ does (whole (rowSound p v b) there codeChecks (openSound p v b) (headIs v b)) at
   unfolding fetched bodySound placeFits
@@ -127,10 +127,10 @@ module _ (p : List ℕ) (v : Store) (r : List ℕ) (b : Body) (j : ℕ) where
 
 -- ---- what an accepted row gives
 
-pub row-given : (p s : List ℕ) (b : Body) → Running p s b → rowSound p (view s) b ≡ Checked.Accepted → HasBody p (number p b)
+pub row-given : (p s : List ℕ) (b : Body) → Running p s b → rowSound p (view s) b ≡ Checked.Accepted → HasBody p (bodyNumber p b)
 row-given p s b h e =
     let rest = then-rest _ _ e in
-    used-passed p (number p b)
+    used-passed p (bodyNumber p b)
     (record { rows = inside-passed p (h .contents) (then-first _ _ rest); body = h .body })
     (then-rest _ _ rest)
 
@@ -180,25 +180,25 @@ placed p v x b j f = placed-last _ _ _ _ _ _ _ (placeFits x f) Refusal.State
 
 module _ (p : List ℕ) (v : Store) (d : Device) (b : Body) (j : ℕ) where
   abbrev effectHere : Effect
-  effectHere = effectAt p (number p b) j (d .regs)
+  effectHere = effectAt p (bodyNumber p b) j (d .registers)
 
-  refused-at : {x : Refusal} (y : Place) → fetched p v (d .regs) b j ≡ Fetched.Refused x → bodySound p v y b j effectHere ≡ Checked.Refused x
+  refused-at : {x : Refusal} (y : Place) → fetched p v (d .registers) b j ≡ Fetched.Refused x → bodySound p v y b j effectHere ≡ Checked.Refused x
   unfolding fetched _then_
   refused-at y e = rw (placed, does-refused _ _ e)
 
-  judged-fits : {g : Effect} (y : Place) (o : Effect → Out) → fetched p v (d .regs) b j ≡ Fetched.Does g → judged (bodySound p v y b j effectHere) d (o effectHere) ≡ judged (must (placeFits y g) Refusal.State) d (o g)
+  judged-fits : {g : Effect} (y : Place) (o : Effect → Outcome) → fetched p v (d .registers) b j ≡ Fetched.Does g → judged (bodySound p v y b j effectHere) d (o effectHere) ≡ judged (must (placeFits y g) Refusal.State) d (o g)
   unfolding fetched _then_
   judged-fits y o e = let k = does-accepted _ _ e in rw (placed, k .0, k .1)
 
-  pub run-refused : {x : Refusal} (n : ℕ) → fetched p v (d .regs) b j ≡ Fetched.Refused x → placeStep p v d (Run b j n) ≡ refuse d x
+  pub run-refused : {x : Refusal} (n : ℕ) → fetched p v (d .registers) b j ≡ Fetched.Refused x → placeStep p v d (Run b j n) ≡ refuse d x
   unfolding placeStep judged
   run-refused n e = rw (refused-at (Run b j n) e)
 
-  pub half-refused : {x : Refusal} → fetched p v (d .regs) b j ≡ Fetched.Refused x → placeStep p v d (Half b j) ≡ refuse d x
+  pub half-refused : {x : Refusal} → fetched p v (d .registers) b j ≡ Fetched.Refused x → placeStep p v d (Half b j) ≡ refuse d x
   unfolding placeStep judged
   half-refused e = rw (refused-at (Half b j) e)
 
-  module _ {f : Effect} (e : fetched p v (d .regs) b j ≡ Fetched.Does f) where
+  module _ {f : Effect} (e : fetched p v (d .registers) b j ≡ Fetched.Does f) where
     pub run-unfit : (n : ℕ) → placeFits (Run b j n) f ≡ false → placeStep p v d (Run b j n) ≡ refuse d Refusal.State
     unfolding placeStep judged must
     run-unfit n h = judged-fits (Run b j n) (act p v d b j n) e ∙ rw h
@@ -211,8 +211,8 @@ module _ (p : List ℕ) (v : Store) (d : Device) (b : Body) (j : ℕ) where
     unfolding placeFits saves saveRest judged must
     rest-refuses (Effect.Compute a x) = refl
     rest-refuses (Effect.Jump k) = refl
-    rest-refuses (Effect.Read a x) = refl
-    rest-refuses (Effect.Write x y) = refl
+    rest-refuses (Effect.Load a x) = refl
+    rest-refuses (Effect.Save x y) = refl
     rest-refuses (Effect.EndTask k) = refl
     rest-refuses Effect.EndEvent = refl
     rest-refuses Effect.Unknown = refl
@@ -223,14 +223,14 @@ module _ (p : List ℕ) (v : Store) (d : Device) (b : Body) (j : ℕ) where
 
 -- ---- the same at a place of a body
 
-pub there-refused : (p : List ℕ) (v : Store) (d : Device) {x : Refusal} (y : Place) → OfBody y → fetchedAt p v (d .regs) y ≡ Fetched.Refused x → placeStep p v d y ≡ refuse d x
+pub there-refused : (p : List ℕ) (v : Store) (d : Device) {x : Refusal} (y : Place) → OfBody y → fetchedAt p v (d .registers) y ≡ Fetched.Refused x → placeStep p v d y ≡ refuse d x
 unfolding bodyAt instructionAt
 there-refused p v d (Free n) has e = absurd (has n refl)
 there-refused p v d (Run b j n) has e = run-refused p v d b j n e
 there-refused p v d (Half b j) has e = half-refused p v d b j e
 
 module _ (p : List ℕ) (v : Store) (d : Device) (y : Place) where
-  module _ {f : Effect} (e : fetchedAt p v (d .regs) y ≡ Fetched.Does f) where
+  module _ {f : Effect} (e : fetchedAt p v (d .registers) y ≡ Fetched.Does f) where
     pub there-unfit : (b : Body) (j n : ℕ) → y ≡ Run b j n → placeFits (Run b j n) f ≡ false → placeStep p v d y ≡ refuse d Refusal.State
     unfolding bodyAt instructionAt
     there-unfit b j n q h = rw q (run-unfit p v d b j (rw q at e) n h)

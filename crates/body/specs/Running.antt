@@ -4,9 +4,9 @@
 use Prim.Native.Nat.{ℕ, _≤_, _<_}
 use mathlib.Core.List.{List}
 use mathlib.Core.Path.{_≡_}
-use Rattle.model.specs.Check.{rowsInside, rowUsed, instructionRule}
-use Rattle.model.specs.Device.{Out, endStores, headSound, namedRow, openSound, headIs, bodySound, act}
-use Rattle.model.specs.Program.{word, tasks, bodies, number, effectAt}
+use Rattle.model.specs.Check.{rowsInside, rowUsable, instructionRule}
+use Rattle.model.specs.Device.{Outcome, endStores, headSound, namedRow, openSound, headIs, bodySound, act}
+use Rattle.model.specs.Program.{word, tasks, bodies, bodyNumber, effectAt}
 use Rattle.model.specs.Store.{Store}
 use Rattle.model.specs.Test.{must, _then_}
 use Rattle.model.specs.declared.Body.{Body}
@@ -23,26 +23,26 @@ use Rattle.body.specs.declared.Fetched.{Fetched}
 pub record Running (p s : List ℕ) (b : Body) : Type 0 where
   pub contents : Contents p
   pub shaped : ShapedFor p s
-  pub body : number p b < bodies p
+  pub body : bodyNumber p b < bodies p
   pub phase : word s 8 ≡ 0
   pub task : word s 9 < tasks p
   pub head : word s 14 ≤ word s 3
-  pub endsTask : number p b < tasks p → endStores b ≡ 4
-  pub endsEvent : tasks p ≤ number p b → endStores b ≡ 3
+  pub endsTask : bodyNumber p b < tasks p → endStores b ≡ 4
+  pub endsEvent : tasks p ≤ bodyNumber p b → endStores b ≡ 3
 
 -- its instruction j is there, with what it does
 pub record Fetches (p : List ℕ) (b : Body) (j : ℕ) (f : Effect) : Type 0 where
-  pub instruction : HasInstruction p (number p b) j
-  pub legal : LegalEffect p (number p b) j f
+  pub instruction : HasInstruction p (bodyNumber p b) j
+  pub legal : LegalEffect p (bodyNumber p b) j f
 
 -- what an instruction does, with c stores of its end made, as a case of a step
-abbrev pub acts : List ℕ → Body → ℕ → ℕ → Effect → Store → Device → Out
+abbrev pub acts : List ℕ → Body → ℕ → ℕ → Effect → Store → Device → Outcome
 acts p b j c f v d = act p v d b j c f
 
 -- ---- A fetch: the checks of a body's record and of its row; the instruction with the row that it names; word 10 and a running event's record
 
 abbrev pub rowSound : List ℕ → Store → Body → Checked
-rowSound p v b = headSound p v b then rowsInside p then rowUsed p (number p b)
+rowSound p v b = headSound p v b then rowsInside p then rowUsable p (bodyNumber p b)
 
 abbrev pub lastSound : List ℕ → Store → Body → Checked
 lastSound p v b = openSound p v b then must (headIs v b) Refusal.State
@@ -57,7 +57,7 @@ instructionFetched p r i j = does (instructionRule p i j then namedRow p (effect
 
 unfoldable pub fetched : List ℕ → Store → List ℕ → Body → ℕ → Fetched
 fetched p v r b j =
-    let f = effectAt p (number p b) j r in
+    let f = effectAt p (bodyNumber p b) j r in
     does (bodySound p v (Free 0) b j f) f
 
 -- the body of a place, and its instruction; a place without one has task 0's first

@@ -56,10 +56,10 @@ fn load(
     address: u32,
 ) -> CoreResult
     requires { ⌜ Running (now program) (now store) body ⌝ }
-    requires { ⌜ Fetches (now program) body instruction (Effect.Read register address) ⌝ }
+    requires { ⌜ Fetches (now program) body instruction (Effect.Load register address) ⌝ }
     requires { ⌜ core .count ≤ word (now store) 2 ⌝ }
     ensures { λ r. ⌜ ofCore r (now (registers .exit)) (now (store .entry))
-        ≡ leaves (acts (now (program .entry)) body instruction 0 (Effect.Read register address))
+        ≡ leaves (acts (now (program .entry)) body instruction 0 (Effect.Load register address))
         (now (store .entry)) (device core (now (registers .entry))) ⌝ }
 {
     if address >= program[3] as u32 {
@@ -94,10 +94,10 @@ fn save(
     value: u16,
 ) -> CoreResult
     requires { ⌜ Running (now program) (now store) body ⌝ }
-    requires { ⌜ Fetches (now program) body instruction (Effect.Write address value) ⌝ }
+    requires { ⌜ Fetches (now program) body instruction (Effect.Save address value) ⌝ }
     requires { ⌜ core .count ≤ word (now store) 2 ⌝ }
     ensures { λ r. ⌜ OnAnyRegisters core r (now (store .exit))
-        (leaves (acts (now (program .entry)) body instruction 0 (Effect.Write address value)) (now (store .entry))) ⌝ }
+        (leaves (acts (now (program .entry)) body instruction 0 (Effect.Save address value)) (now (store .entry))) ⌝ }
 {
     if program[3] as u32 <= address {
         return results::refused(core, Refusal::Address);
@@ -129,8 +129,8 @@ fn save_rest(
     match effect {
         Effect::Compute(_, _) => results::refused(core, Refusal::State),
         Effect::Jump(_) => results::refused(core, Refusal::State),
-        Effect::Read(_, _) => results::refused(core, Refusal::State),
-        Effect::Write(_, value) => {
+        Effect::Load(_, _) => results::refused(core, Refusal::State),
+        Effect::Save(_, value) => {
             let log_count = core.count;
             let word = log::write_value(store, log_count, value);
             results::stored(
@@ -170,10 +170,10 @@ fn act(
             results::worked(core, body, at + 1)
         }
         Effect::Jump(target) => results::worked(core, body, target),
-        Effect::Read(into, address) => {
+        Effect::Load(into, address) => {
             load(program, store, registers, core, body, at, into, address)
         }
-        Effect::Write(address, value) => save(program, store, core, body, at, address, value),
+        Effect::Save(address, value) => save(program, store, core, body, at, address, value),
         Effect::EndTask(task) => {
             ending::end_task(program, store, registers, core, body, at, made, task)
         }

@@ -26,8 +26,8 @@ pub fn ends(effect: Effect) -> bool
     match effect {
         Effect::Compute(_, _) => false,
         Effect::Jump(_) => false,
-        Effect::Read(_, _) => false,
-        Effect::Write(_, _) => false,
+        Effect::Load(_, _) => false,
+        Effect::Save(_, _) => false,
         Effect::EndTask(_) => true,
         Effect::EndEvent => true,
         Effect::Unknown => false,

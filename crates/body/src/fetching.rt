@@ -2,7 +2,7 @@
 ghost use Prim.Native.Nat.{ℕ, _≤_, _<_};
 ghost use mathlib.Core.Path.{_≡_};
 ghost use Rattle.model.specs.Device.{headSound, namedRow, openSound, headIs};
-ghost use Rattle.model.specs.Program.{word, tasks, bodies, number};
+ghost use Rattle.model.specs.Program.{word, tasks, bodies, bodyNumber};
 ghost use Rattle.model.specs.Store.{view};
 ghost use Rattle.model.specs.Accepted.{Contents, RowsInside, HasBody, HasInstruction, LegalEffect, Shaped};
 ghost use Rattle.body.specs.Running.{Running, Fetches, rowSound, lastSound, instructionFetched, fetched, bodyAt, instructionAt};
@@ -21,8 +21,8 @@ use store::queue;
 // A body's number among all: tasks first.
 pub fn body_number(program: &[u16], body: Body) -> u16
     requires { ⌜ Contents (now program) ⌝ }
-    requires { ⌜ number (now program) body < bodies (now program) ⌝ }
-    ensures { λ r. ⌜ r ≡ number (now (program .entry)) body ⌝ }
+    requires { ⌜ bodyNumber (now program) body < bodies (now program) ⌝ }
+    ensures { λ r. ⌜ r ≡ bodyNumber (now (program .entry)) body ⌝ }
 {
     match body {
         Body::Task(task) => task,
@@ -95,8 +95,8 @@ fn named_row(program: &[u16], effect: Effect) -> Checked
     match effect {
         Effect::Compute(_, _) => Checked::Accepted,
         Effect::Jump(_) => Checked::Accepted,
-        Effect::Read(_, _) => Checked::Accepted,
-        Effect::Write(_, _) => Checked::Accepted,
+        Effect::Load(_, _) => Checked::Accepted,
+        Effect::Save(_, _) => Checked::Accepted,
         Effect::EndTask(task) => rows::usable(program, task),
         Effect::EndEvent => Checked::Accepted,
         Effect::Unknown => Checked::Accepted,
@@ -108,7 +108,7 @@ fn row_sound(program: &[u16], store: &[u16], body: Body) -> Checked
     requires { ⌜ Running (now program) (now store) body ⌝ }
     ensures { λ found. ⌜ found ≡ rowSound (now (program .entry)) (view (now (store .entry))) body ⌝ }
     ensures given { λ found.
-        ⌜ (found ≡ Checked.Accepted → HasBody (now (program .entry)) (number (now (program .entry)) body)) ⌝ }
+        ⌜ (found ≡ Checked.Accepted → HasBody (now (program .entry)) (bodyNumber (now (program .entry)) body)) ⌝ }
 {
     let record = head_sound(program, store, body);
     let Checked::Accepted = record else {

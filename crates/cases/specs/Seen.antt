@@ -2,7 +2,7 @@
 use Prim.Native.Nat.{ℕ}
 use mathlib.Core.List.{List, [], _∷_}
 use lib.ListN.{replicate}
-use Rattle.model.specs.Calls.{Ran, run}
+use Rattle.model.specs.Calls.{RunOutcome, run}
 use Rattle.model.specs.Device.{boot, cut, post, off}
 use Rattle.model.specs.Program.{word}
 use Rattle.model.specs.Starred.{counting}
@@ -15,7 +15,7 @@ abbrev pub none : Totals
 none = record { committed = 0; accepted = 0; stores = 0 }
 
 -- n steps after a boot that met device d
-abbrev pub ranFrom : List ℕ → List ℕ → Device → ℕ → Ran
+abbrev pub ranFrom : List ℕ → List ℕ → Device → ℕ → RunOutcome
 ranFrom p s d n = run p n s (boot p s d .device) none
 
 -- boot, n steps, a cut, a boot, m steps: the store

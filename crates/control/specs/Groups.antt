@@ -9,7 +9,7 @@ abbrev pub commitRules : List ℕ → Store → List Rule
 commitRules p v = openServing v ∷ countRule v ∷ pendingTaskRule p v ∷ pendingHeadRule v ∷ []
 
 abbrev pub addressRules : List ℕ → Store → List Rule
-addressRules p v = upTo (addressRule p v) (v .pairs)
+addressRules p v = upTo (addressRule p v) (v .logPairs)
 
 abbrev pub recordRules : List ℕ → Store → List Rule
-recordRules p v = upTo (recordRule p v) (v .records + 1)
+recordRules p v = upTo (recordRule p v) (v .queueRecords + 1)

@@ -5,7 +5,7 @@ use mathlib.Core.Bool.{true}
 use mathlib.Core.List.{List}
 use mathlib.Core.Path.{_≡_}
 use Rattle.model.specs.Control.{Rule, rules, blames}
-use Rattle.model.specs.Device.{Out, boot, post, step}
+use Rattle.model.specs.Device.{Outcome, boot, post, step}
 use Rattle.model.specs.Store.{view, settled, storedWord}
 use Rattle.model.specs.declared.Answer.{Answer}
 use Rattle.model.specs.declared.Device.{Device}
@@ -19,7 +19,7 @@ pub record Agrees {A : Type 0} (rs : List Rule) (refused : Refusal → A) (defin
   pub placed : (w : ℕ) → defined ≡ refused (Refusal.Control w) → (x : ℕ) × (actual ≡ refused (Refusal.Control x)) × (blames rs x ≡ true)
 
 -- A call on the words s left r, where the outcome o is defined. Which word it stored is told even where its value stayed the same.
-pub record Performs (p s : List ℕ) (o : Out) (r : Result) : Type 0 where
+pub record Performs (p s : List ℕ) (o : Outcome) (r : Result) : Type 0 where
   pub answer : Agrees (rules p (view s)) Answer.Refused (o .answer) (r .answer)
   pub stored : r .stored ≡ storedWord s (o .write)
   pub device : r .device ≡ o .device

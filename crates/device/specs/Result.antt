@@ -4,7 +4,7 @@ use Prim.Native.Nat.{ℕ}
 use mathlib.Core.Bool.{true}
 use mathlib.Core.List.{List}
 use mathlib.Core.Path.{_≡_}
-use Rattle.model.specs.Device.{Out, placeStep, nextStep}
+use Rattle.model.specs.Device.{Outcome, placeStep, nextStep}
 use Rattle.model.specs.Store.{Store, view, settled, storedWord}
 use Rattle.model.specs.declared.Answer.{Answer}
 use Rattle.model.specs.declared.Device.{Device}
@@ -19,7 +19,7 @@ use Rattle.device.specs.declared.CoreResult.{CoreResult}
 -- ---- A device, and its core
 
 abbrev pub device : Core → List ℕ → Device
-device c r = record { on = c .on; regs = r; place = c .place; count = c .count; handler = c .handler }
+device c r = record { on = c .on; registers = r; place = c .place; count = c .count; handler = c .handler }
 
 abbrev pub coreOf : Device → Core
 coreOf d = record { on = d .on; place = d .place; count = d .count; handler = d .handler }
@@ -51,22 +51,22 @@ abbrev pub ofCall : CallResult → List ℕ → Result
 ofCall x s = record { answer = x .answer; stored = x .stored; device = x .device; store = s }
 
 -- by an outcome, on the words s
-abbrev pub ofOutcome : List ℕ → Out → Result
+abbrev pub ofOutcome : List ℕ → Outcome → Result
 ofOutcome s o = record { answer = o .answer; stored = storedWord s (o .write); device = o .device; store = settled s (o .write) }
 
 -- by a case f of a step, on the words s and device d
-abbrev pub leaves : (Store → Device → Out) → List ℕ → Device → Result
+abbrev pub leaves : (Store → Device → Outcome) → List ℕ → Device → Result
 leaves f s d = ofOutcome s (f (view s) d)
 
 -- a step past its early checks, and that of a handler at rest, as such cases
-abbrev pub placeStepOf : List ℕ → Store → Device → Out
+abbrev pub placeStepOf : List ℕ → Store → Device → Outcome
 placeStepOf p v d = placeStep p v d (d .place)
 
-abbrev pub nextStepOf : List ℕ → Store → Device → Out
+abbrev pub nextStepOf : List ℕ → Store → Device → Outcome
 nextStepOf p v d = nextStep p v d (d .handler)
 
 -- A call that isn't lent the store: whatever its words are, x leaves them, and otherwise what o says.
-abbrev pub OnAnyStore : (List ℕ → Result) → Out → Type 0
+abbrev pub OnAnyStore : (List ℕ → Result) → Outcome → Type 0
 OnAnyStore x o = (s : List ℕ) → x s ≡ ofOutcome s o
 
 -- A step that isn't lent the registers: whatever they are, x leaves them and the words s, and otherwise what f says of the device.

@@ -96,11 +96,11 @@ fn post_check(program: &[u16], store: &[u16], device: Device, event: u16) -> Che
 fn with_handler(device: Device, handler: Handler) -> Device
     ensures { λ next. ⌜ next ≡ withHandler device handler ⌝ }
 {
-    let regs = device.regs;
+    let registers = device.registers;
     let place = device.place;
     Device {
         on: device.on,
-        regs,
+        registers,
         place,
         count: device.count,
         handler,

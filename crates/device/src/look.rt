@@ -196,6 +196,6 @@ pub fn look_whole(program: &[u16], store: &[u16], device: Device) -> Checked
     ensures { λ found. ⌜ found ≡ look (now (program .entry)) (now (store .entry)) device ⌝ }
     ensures given { λ found. ⌜ (found ≡ Checked.Accepted → Looked (now (program .entry)) (now (store .entry)) device) ⌝ }
 {
-    let registers = device.regs;
+    let registers = device.registers;
     look(program, store, &registers, core_of(device))
 }

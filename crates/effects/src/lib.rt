@@ -38,18 +38,18 @@ fn address(operand: u16, offset: u16) -> u32
 }
 
 // Where a jump goes, from the instruction with this number.
-fn target(jumps: bool, operand: u16, number: u16) -> u16
-    requires { ⌜ number < 65535 ⌝ }
-    ensures { λ r. ⌜ r ≡ pick jumps operand (number + 1) ⌝ }
+fn target(jumps: bool, operand: u16, place: u16) -> u16
+    requires { ⌜ place < 65535 ⌝ }
+    ensures { λ r. ⌜ r ≡ pick jumps operand (place + 1) ⌝ }
 {
-    if jumps { operand } else { number + 1 }
+    if jumps { operand } else { place + 1 }
 }
 
 // An instruction with this number in its body.
-pub fn effect(instruction: Instruction, registers: &[u16; 8], number: u16) -> Effect
+pub fn effect(instruction: Instruction, registers: &[u16; 8], place: u16) -> Effect
     requires { ⌜ Registers instruction ⌝ }
-    requires { ⌜ number < 65535 ⌝ }
-    ensures { λ r. ⌜ r ≡ effect instruction (now (registers .entry)) number ⌝ }
+    requires { ⌜ place < 65535 ⌝ }
+    ensures { λ r. ⌜ r ≡ effect instruction (now (registers .entry)) place ⌝ }
 {
     match instruction {
         Instruction::Set(a, k) => Effect::Compute(a, k),
@@ -63,19 +63,19 @@ pub fn effect(instruction: Instruction, registers: &[u16; 8], number: u16) -> Ef
         Instruction::Or(a, b) => Effect::Compute(a, reg(registers, a) | reg(registers, b)),
         Instruction::Xor(a, b) => Effect::Compute(a, reg(registers, a) ^ reg(registers, b)),
         Instruction::Shift(a, k) => Effect::Compute(a, shr(reg(registers, a), k)),
-        Instruction::Load(a, k) => Effect::Read(a, k as u32),
-        Instruction::Save(a, k) => Effect::Write(k as u32, reg(registers, a)),
-        Instruction::LoadX(a, b, k) => Effect::Read(a, address(k, reg(registers, b))),
-        Instruction::SaveX(a, b, k) => Effect::Write(
+        Instruction::Load(a, k) => Effect::Load(a, k as u32),
+        Instruction::Save(a, k) => Effect::Save(k as u32, reg(registers, a)),
+        Instruction::LoadX(a, b, k) => Effect::Load(a, address(k, reg(registers, b))),
+        Instruction::SaveX(a, b, k) => Effect::Save(
             address(k, reg(registers, b)),
             reg(registers, a),
         ),
         Instruction::Jump(k) => Effect::Jump(k),
-        Instruction::JumpZero(a, k) => Effect::Jump(target(reg(registers, a) == 0, k, number)),
+        Instruction::JumpZero(a, k) => Effect::Jump(target(reg(registers, a) == 0, k, place)),
         Instruction::JumpLess(a, b, k) => Effect::Jump(target(
             less(reg(registers, a), reg(registers, b)),
             k,
-            number,
+            place,
         )),
         Instruction::Go(k) => Effect::EndTask(k),
         Instruction::Done => Effect::EndEvent,

@@ -14,10 +14,10 @@ use Rattle.model.proofs.Demand3.{demand3}
 use Rattle.model.proofs.Observed.{observed}
 use Rattle.model.proofs.Words.{fresh-device-words, words-stay-words, format-stays-words}
 use Rattle.model.specs.Answer.{refusal}
-use Rattle.model.specs.Calls.{Call, Boot, Step, Cut, Post, Now, call, afterCalls, steps, noTotals, counted, totalsAfter, Ran as Defined, run}
-use Rattle.model.specs.Claims.{Words, HandlerWords, DeviceWords, CallWords, EndedSo, IsSteps, AreCounts}
+use Rattle.model.specs.Calls.{Call, Boot, Step, Cut, Post, Now, call, afterCalls, steps, noTotals, counted, totalsAfter, RunOutcome as Defined, run}
+use Rattle.model.specs.Claims.{TypedWords, TypedHandler, TypedDevice, TypedCall, EndedSo, IsSteps, AreCounts}
 use Rattle.model.specs.Demand3.{isIn, mayMeet, Expected, Left, recoverySteps, recovering}
-use Rattle.model.specs.Device.{Out, fresh, off, boot, cut, post, step}
+use Rattle.model.specs.Device.{Outcome, fresh, off, boot, cut, post, step}
 use Rattle.model.specs.Store.{view, settled, format, formatCheck}
 use Rattle.model.specs.Test.{_or_}
 use Rattle.model.specs.declared.Answer.{Answer}
@@ -49,8 +49,8 @@ record At (p s : List ℕ) (cs : List Call) (h : Held) : Type 0 where
   store : h .store ≡ afterCalls p s off cs .store
   device : h .device ≡ deviceWords (afterCalls p s off cs .device)
   totals : h .totals ≡ totalsWords (totalsAfter p s off cs noTotals)
-  words : Words (afterCalls p s off cs .store)
-  device-words : DeviceWords (afterCalls p s off cs .device)
+  words : TypedWords (afterCalls p s off cs .store)
+  device-words : TypedDevice (afterCalls p s off cs .device)
 
 -- and after one more
 record Did (p s : List ℕ) (cs : List Call) (c : Call) (a : List ℕ) (g : Held) : Type 0 where
@@ -63,19 +63,19 @@ totals-read : (t : Totals) → totalsOf (totalsWords t) ≡ t
 unfolding totalsOf totalsWords
 totals-read t = refl
 
-store-left : (h : Handler) → HandlerWords h → StoreLeft h
+store-left : (h : Handler) → TypedHandler h → StoreLeft h
 store-left Resting ws = tt
 store-left (Storing c e x) ws = ws .0
 
-steps-words : (p : List ℕ) → Words p → (n : ℕ) (s : List ℕ) (d : Device) → Words s → DeviceWords d
-    → Words (afterCalls p s d (steps n) .store) × DeviceWords (afterCalls p s d (steps n) .device)
+steps-words : (p : List ℕ) → TypedWords p → (n : ℕ) (s : List ℕ) (d : Device) → TypedWords s → TypedDevice d
+    → TypedWords (afterCalls p s d (steps n) .store) × TypedDevice (afterCalls p s d (steps n) .device)
 unfolding afterCalls steps
 steps-words p ps zero s d ss ds = (ss, ds)
 steps-words p ps (suc n) s d ss ds =
     let h = words-stay-words p s d Step ps ss ds tt in
     steps-words p ps n (settled s (call p s d Step .write)) (call p s d Step .device) (h .store) (h .device)
 
-module _ (p : List ℕ) (ps : Words p) (l q : ℕ) (before : List ℕ) (e : formatCheck p l q before ≡ Checked.Accepted) where
+module _ (p : List ℕ) (ps : TypedWords p) (l q : ℕ) (before : List ℕ) (e : formatCheck p l q before ≡ Checked.Accepted) where
   abbrev s : List ℕ
   s = format p l q before
 
@@ -90,7 +90,7 @@ module _ (p : List ℕ) (ps : Words p) (l q : ℕ) (before : List ℕ) (e : form
     T = totalsAfter p s off cs noTotals
 
     has-words : HasWords D
-    has-words = record { registers = at .device-words .regs-length; handler = store-left (D .handler) (at .device-words .handler) }
+    has-words = record { registers = at .device-words .registers-length; handler = store-left (D .handler) (at .device-words .handler) }
 
     read : deviceOf (h .device) ≡ known D
     read = ap deviceOf (at .device) ∙ back D has-words
@@ -112,7 +112,7 @@ module _ (p : List ℕ) (ps : Words p) (l q : ℕ) (before : List ℕ) (e : form
           totals = totals;
         }
 
-    unread : (g : Held) (o : Out) → g .totals ≡ h .totals → counted T o ≡ T → g .totals ≡ totalsWords (counted T o)
+    unread : (g : Held) (o : Outcome) → g .totals ≡ h .totals → counted T o ≡ T → g .totals ≡ totalsWords (counted T o)
     unread g o stays same = stays ∙ at .totals ∙ ap totalsWords (sym same)
 
     did-single : (c : Call) (a : List ℕ) (g : Held) → Makes p h (single c a) g → Did p s cs c a g
@@ -130,13 +130,13 @@ module _ (p : List ℕ) (ps : Words p) (l q : ℕ) (before : List ℕ) (e : form
     did-single (Post n v) a g (b, stays, totals, _) =
         did (Post n v) a g (h .store) (b .state D read) stays (unread g (post p S D n v) totals (post-counts-nothing p S D n v T))
 
-    single-words : (c : Call) (a : List ℕ) (g : Held) → Makes p h (single c a) g → CallWords c
+    single-words : (c : Call) (a : List ℕ) (g : Held) → Makes p h (single c a) g → TypedCall c
     single-words Boot a g m = tt
     single-words Step a g m = tt
     single-words Cut a g m = tt
     single-words (Post n v) a g (b, stays, totals, ws) = ws
 
-    at-single : (c : Call) (a : List ℕ) (g : Held) → CallWords c → Did p s cs c a g → At p s (cs ++ (c ∷ [])) g
+    at-single : (c : Call) (a : List ℕ) (g : Held) → TypedCall c → Did p s cs c a g → At p s (cs ++ (c ∷ [])) g
     unfolding afterCalls totalsAfter
     at-single c a g ws m =
         let w = words-stay-words p S D c ps (at .words) (at .device-words) ws in
@@ -145,8 +145,8 @@ module _ (p : List ℕ) (ps : Words p) (l q : ℕ) (before : List ℕ) (e : form
           store = m .store ∙ sym (ap (λ (x : Now). x .store) now-is);
           device = m .device ∙ sym (ap (λ (x : Now). deviceWords (x .device)) now-is);
           totals = m .totals ∙ sym (ap totalsWords (totals-append p s off cs (c ∷ []) noTotals));
-          words = subst (λ (x : Now). Words (x .store)) (sym now-is) (w .store);
-          device-words = subst (λ (x : Now). DeviceWords (x .device)) (sym now-is) (w .device);
+          words = subst (λ (x : Now). TypedWords (x .store)) (sym now-is) (w .store);
+          device-words = subst (λ (x : Now). TypedDevice (x .device)) (sym now-is) (w .device);
         }
 
     -- ---- a run
@@ -184,8 +184,8 @@ module _ (p : List ℕ) (ps : Words p) (l q : ℕ) (before : List ℕ) (e : form
             totals =
                 totals
                 ∙ ap totalsWords (performs .totals ∙ ran-is .totals ∙ sym (totals-append p s off cs (steps (ran .steps)) noTotals));
-            words = subst (λ (x : Now). Words (x .store)) (sym now-is) (ws .0);
-            device-words = subst (λ (x : Now). DeviceWords (x .device)) (sym now-is) (ws .1);
+            words = subst (λ (x : Now). TypedWords (x .store)) (sym now-is) (ws .0);
+            device-words = subst (λ (x : Now). TypedDevice (x .device)) (sym now-is) (ws .1);
           } in (
             (count-is, said ∙ ap endedWords (performs .ended .same no-control-in)),
             subst (λ (k : ℕ). At p s (cs ++ steps k) g) (sym count-is) left,
@@ -216,7 +216,7 @@ module _ (p : List ℕ) (ps : Words p) (l q : ℕ) (before : List ℕ) (e : form
       let (rest, last) = each-one xs (cs ++ callsOf x) k g next ms in
       ((answered, rest), subst (λ (ds : List Call). At p s ds g) (append-assoc cs (callsOf x) (allCalls xs)) last)
 
-  module _ (bs : Words before) (xs : List Exchange) (g : Held) (made : MakesAll p (atFirst s) xs g) where
+  module _ (bs : TypedWords before) (xs : List Exchange) (g : Held) (made : MakesAll p (atFirst s) xs g) where
     start : At p s [] (atFirst s)
     unfolding afterCalls totalsAfter fresh deviceWords totalsWords flag placeWords handlerWords
     start =

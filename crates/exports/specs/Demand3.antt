@@ -9,7 +9,7 @@ use mathlib.Core.Logic.{_≢_}
 use mathlib.Core.Path.{_≡_}
 use Rattle.exports.specs.Exported.{Held, holding, Formats, Boots, Posts, Cuts, Steps, Runs, wordsOf, totalsOf}
 use Rattle.model.specs.Calls.{Call, Boot, Step, Cut, Post, call, afterCalls, steps, noTotals, totalsAfter, run}
-use Rattle.model.specs.Claims.{Words, CallWords, AreCounts}
+use Rattle.model.specs.Claims.{TypedWords, TypedCall, AreCounts}
 use Rattle.model.specs.Demand3.{Left, recoverySteps, Observed}
 use Rattle.model.specs.Device.{off}
 use Rattle.model.specs.Serial.{Serial}
@@ -28,7 +28,7 @@ Makes p h (single Boot a) g = Boots p (h .store) (h .device) a (g .device) × (g
 Makes p h (single Step a) g = Steps p h a g
 Makes p h (single Cut a) g = Cuts a (g .device) × (g .store ≡ h .store) × (g .totals ≡ h .totals)
 Makes p h (single (Post e v) a) g =
-    Posts p (h .store) (h .device) e v a (g .device) × (g .store ≡ h .store) × (g .totals ≡ h .totals) × CallWords (Post e v)
+    Posts p (h .store) (h .device) e v a (g .device) × (g .store ≡ h .store) × (g .totals ≡ h .totals) × TypedCall (Post e v)
 Makes p h (run-of b n a) g = Runs p h b n a g
 
 -- a list of them, from h to g
@@ -81,5 +81,5 @@ atFirst s = holding s (replicate 18 0) (replicate 3 0)
 
 abbrev pub Demand3OfExports : Type 0
 Demand3OfExports =
-    (p : List ℕ) (l q : ℕ) (before answer s : List ℕ) → Words p → Words before → Formats p l q before answer s
+    (p : List ℕ) (l q : ℕ) (before answer s : List ℕ) → TypedWords p → TypedWords before → Formats p l q before answer s
     → answer ≡ checkedWords Checked.Accepted → (xs : List Exchange) (g : Held) → MakesAll p (atFirst s) xs g → ExportsObserved p l q s xs g

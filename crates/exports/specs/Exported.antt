@@ -8,9 +8,9 @@ use mathlib.Core.Path.{_≡_}
 use Rattle.device.specs.Agree.{Performs}
 use Rattle.device.specs.Result.{ofCall}
 use Rattle.device.specs.declared.CallResult.{CallResult}
-use Rattle.model.specs.Calls.{Call, Boot, Step, Cut, Post, Ran as Defined, counted, run}
+use Rattle.model.specs.Calls.{Call, Boot, Step, Cut, Post, RunOutcome as Defined, counted, run}
 use Rattle.model.specs.Check.{check}
-use Rattle.model.specs.Device.{Out, boot, post, step, off}
+use Rattle.model.specs.Device.{Outcome, boot, post, step, off}
 use Rattle.model.specs.Program.{word}
 use Rattle.model.specs.Store.{formatCheck, format}
 use Rattle.model.specs.declared.Answer.{Answer}
@@ -51,7 +51,7 @@ wordsOf (Post e v) a w = answerWords a
 
 -- Call c of program p on the words s, for which o is defined, left the answer a, the device words x and the words z: some result performs
 -- it, and these are its words.
-abbrev pub PerformsInWords : Call → List ℕ → List ℕ → Out → List ℕ → List ℕ → List ℕ → Type 0
+abbrev pub PerformsInWords : Call → List ℕ → List ℕ → Outcome → List ℕ → List ℕ → List ℕ → Type 0
 PerformsInWords c p s o a x z =
     (r : CallResult) × Performs p s o (ofCall r z) × (a ≡ wordsOf c (r .answer) (r .stored)) × (x ≡ deviceWords (r .device))
 

@@ -21,7 +21,7 @@ use Rattle.model.specs.Calls.{Boot, Step, Cut, Post, call}
 use Rattle.model.specs.Claims.{PlaceIsBroken}
 use Rattle.model.specs.Control.{Rule, broken, obey, obeyAll, upTo, inPhase, phaseRule, openRule, countRule, headRule, tailRule, addressRule, between, recordRule, controlRules, rules, earlyOf, earlyRules, blames}
 use Rattle.model.specs.Device.{look, bootCheck, cut, postCheck, recordSound, headSound, openSound, bodySound}
-use Rattle.model.specs.Program.{events, memoryWords, number}
+use Rattle.model.specs.Program.{events, memoryWords, bodyNumber}
 use Rattle.model.specs.Store.{Store, view, address, event, firstWaiting}
 use Rattle.model.specs.Test.{_or_, must}
 use Rattle.model.specs.Types.{Body, Checked, Device, Effect, Place, Refusal}
@@ -97,8 +97,8 @@ module _ (p : List ℕ) (v : Store) where
   in-control : (r : Rule) → Among r (controlRules p v) → Among r all
   unfolding rules
   in-control r m =
-      among-left r (controlRules p v ++ upTo (addressRule p v) (v .pairs)) (upTo (recordRule p v) (v .records + 1))
-      (among-left r (controlRules p v) (upTo (addressRule p v) (v .pairs)) m)
+      among-left r (controlRules p v ++ upTo (addressRule p v) (v .logPairs)) (upTo (recordRule p v) (v .queueRecords + 1))
+      (among-left r (controlRules p v) (upTo (addressRule p v) (v .logPairs)) m)
 
   early-among : (r : Rule) → Among r (earlyRules p v) → Among r all
   unfolding earlyRules
@@ -109,13 +109,13 @@ module _ (p : List ℕ) (v : Store) where
   open-among = in-control (openRule p v) (inr (inr (inl refl)))
 
   -- the record at head, with the queue not empty in phase 0
-  record-among : v .head ≤ v .records → Among (recordRule p v (v .head)) all
+  record-among : v .head ≤ v .queueRecords → Among (recordRule p v (v .head)) all
   unfolding rules
   record-among h =
-      among-right (recordRule p v (v .head)) (controlRules p v ++ upTo (addressRule p v) (v .pairs)) (upTo (recordRule p v) (v .records + 1))
-      (among-upTo (recordRule p v) (v .records + 1) (v .head) (omega arith))
+      among-right (recordRule p v (v .head)) (controlRules p v ++ upTo (addressRule p v) (v .logPairs)) (upTo (recordRule p v) (v .queueRecords + 1))
+      (among-upTo (recordRule p v) (v .queueRecords + 1) (v .head) (omega arith))
 
-  record-broken : v .phase ≡ 0 → v .head ≤ v .records → v .tail ≤ v .records → v .head ≢ v .tail → events p ≤ event v (v .head)
+  record-broken : v .phase ≡ 0 → v .head ≤ v .queueRecords → v .tail ≤ v .queueRecords → v .head ≢ v .tail → events p ≤ event v (v .head)
       → broken (recordRule p v (v .head)) ≡ true
   unfolding recordRule phaseRule headRule tailRule
   record-broken z h t ne l =
@@ -127,14 +127,14 @@ module _ (p : List ℕ) (v : Store) where
       (and-true (le-leb _ _ h) (and-true (le-leb _ _ t) (and-true (or-true-left _ _ (ap (λ (x : ℕ). not (eqb x 2)) z)) waits))))
       (ap not (le-ltb _ _ l))
 
-  address-among : (c : ℕ) → c < v .pairs → Among (addressRule p v c) all
+  address-among : (c : ℕ) → c < v .logPairs → Among (addressRule p v c) all
   unfolding rules
   address-among c h =
-      among-left (addressRule p v c) (controlRules p v ++ upTo (addressRule p v) (v .pairs)) (upTo (recordRule p v) (v .records + 1))
-      (among-right (addressRule p v c) (controlRules p v) (upTo (addressRule p v) (v .pairs)) (among-upTo (addressRule p v) (v .pairs) c h))
+      among-left (addressRule p v c) (controlRules p v ++ upTo (addressRule p v) (v .logPairs)) (upTo (recordRule p v) (v .queueRecords + 1))
+      (among-right (addressRule p v c) (controlRules p v) (upTo (addressRule p v) (v .logPairs)) (among-upTo (addressRule p v) (v .logPairs) c h))
 
   -- a pair that is copied
-  address-broken : (c : ℕ) → v .phase ≢ 0 → v .phase ≤ 2 → v .count ≤ v .pairs → c < v .count → memoryWords p ≤ address v c
+  address-broken : (c : ℕ) → v .phase ≢ 0 → v .phase ≤ 2 → v .count ≤ v .logPairs → c < v .count → memoryWords p ≤ address v c
       → broken (addressRule p v c) ≡ true
   unfolding addressRule countRule
   address-broken c nz two l h m =
@@ -188,8 +188,8 @@ module _ (p s : List ℕ) (d : Device) where
     blamed-body x b j f m =
         refuses-then _ _ (blamed-head b m)
         (refuses-then _ _ (blamed-low rs _ (low-inside p))
-        (refuses-then _ _ (blamed-low rs _ (low-used p (number p b)))
-        (refuses-then _ _ (blamed-low rs _ (low-body p (number p b) j _ f)) (refuses-then _ _ (open-blamed p v b) (blamed-other rs _ _ refl)))))
+        (refuses-then _ _ (blamed-low rs _ (low-used p (bodyNumber p b)))
+        (refuses-then _ _ (blamed-low rs _ (low-body p (bodyNumber p b) j _ f)) (refuses-then _ _ (open-blamed p v b) (blamed-other rs _ _ refl)))))
 
   blamed-step : (w : ℕ) → Why p s d (Refusal.Control w) → blames rs w ≡ true
   unfolding recordRule addressRule

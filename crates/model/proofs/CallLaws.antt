@@ -9,9 +9,9 @@ use native.Mathlib.Nat.{not-suc-le-zero, le-of-suc-le-suc, add-zero}
 use native.Mathlib.Omega.{arith}
 use borrow.Author.Tests.{eqb-true, eqb-false}
 use Rattle.model.proofs.TestLaws.{pick-case, pick-false, impossible}
-use Rattle.model.specs.Calls.{Call, Boot, Now, call, history, afterCalls, steps, countBy, unlessRefused, isRefusal, moreBy, oneIf, isCommit, isAccept, acceptedEvents, isStore, noTotals, counted, totalsAfter, storesMade, Ran, runFrom, run, recovered, refused, unfinished, finish, recovery}
+use Rattle.model.specs.Calls.{Call, Boot, Now, call, history, afterCalls, steps, countBy, unlessRefused, isRefusal, moreBy, oneIf, isCommit, isAccept, acceptedEvents, isStore, noTotals, counted, totalsAfter, storesMade, RunOutcome, runFrom, run, recovered, refused, unfinished, finish, recovery}
 use Rattle.model.specs.Claims.{EndedSo, RunIsSteps, TotalsAreCounts, ByCalls, RecoveryByCalls}
-use Rattle.model.specs.Device.{Out, out, judged, turnedOn, off, bootCheck, boot, cut, postCheck, post, step}
+use Rattle.model.specs.Device.{Outcome, out, judged, turnedOn, off, bootCheck, boot, cut, postCheck, post, step}
 use Rattle.model.specs.Store.{view, none, settled}
 use Rattle.model.specs.Test.{pick}
 use Rattle.model.specs.Types.{Answer, Checked, Device, Ended, Refusal, Totals}
@@ -50,7 +50,7 @@ none-more : (x : ℕ) → moreBy x 0 ≡ x
 unfolding moreBy
 none-more x = omega arith
 
-pub adds-nothing : (t : Totals) (o : Out) → isCommit (o .answer) ≡ false → acceptedEvents (o .answer) ≡ 0 → isStore (o .write) ≡ false → counted t o ≡ t
+pub adds-nothing : (t : Totals) (o : Outcome) → isCommit (o .answer) ≡ false → acceptedEvents (o .answer) ≡ 0 → isStore (o .write) ≡ false → counted t o ≡ t
 unfolding counted oneIf pick
 adds-nothing t o c a w = simp (c, a, w, none-more)
 
@@ -75,7 +75,7 @@ post-counts-nothing p s d e x t = counts-nothing t d _ (postCheck p s d e)
 -- ---- a run is its steps
 
 -- a run of k steps more, n steps made
-record Made (p : List ℕ) (k n : ℕ) (s : List ℕ) (d : Device) (t : Totals) (r : Ran) : Type 0 where
+record Made (p : List ℕ) (k n : ℕ) (s : List ℕ) (d : Device) (t : Totals) (r : RunOutcome) : Type 0 where
   made : ℕ
   steps-is : r .steps ≡ n + made
   store : r .store ≡ afterCalls p s d (steps made) .store
@@ -148,7 +148,7 @@ unfolding moreBy
 more-min a n q e = omega arith
 
 -- how many calls came out so
-tally : (Out → Bool) → List ℕ → List ℕ → Device → List Call → ℕ
+tally : (Outcome → Bool) → List ℕ → List ℕ → Device → List Call → ℕ
 tally f p s d [] = 0
 tally f p s d (c ∷ cs) =
     let o = call p s d c in
@@ -175,7 +175,7 @@ sum-if true a n = omega arith
 sum-if false a n = omega arith
 
 -- the field g of the totals counts the calls that came out so as f says
-module _ (g : Totals → ℕ) (f : Out → Bool) (is : (t : Totals) (o : Out) → g (counted t o) ≡ moreBy (g t) (oneIf (f o))) where
+module _ (g : Totals → ℕ) (f : Outcome → Bool) (is : (t : Totals) (o : Outcome) → g (counted t o) ≡ moreBy (g t) (oneIf (f o))) where
   total-from : (p s : List ℕ) (d : Device) (cs : List Call) (t : Totals) (a : ℕ) → g t ≡ min a largest
       → g (totalsAfter p s d cs t) ≡ min (a + tally f p s d cs) largest
   unfolding totalsAfter tally

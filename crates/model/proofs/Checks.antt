@@ -9,7 +9,7 @@ use native.Mathlib.Omega.{arith}
 use borrow.Author.Tests.{lt-ltb, le-ltb, le-leb, eq-eqb, ne-eqb}
 use lib.Dec.{ltb, leb, eqb}
 use lib.ListN.{length}
-use Rattle.model.proofs.Invariant.{Handles, HeldAt, StillAt, CopyingAt, MineAt, EndingAt, HalfSaved, BodyAt, Placed, Resumes, On}
+use Rattle.model.proofs.Invariant.{Handles, HeldAt, StillAt, CopyingAt, ChosenAt, EndingAt, HalfSaved, BodyAt, Placed, Resumes, On}
 use Rattle.model.proofs.Kept.{known-waiting, first-head, first-pending, lasting-in, task-last-is, event-last-is}
 use Rattle.model.proofs.LogLaws.{addr}
 use Rattle.model.proofs.RingLaws.{Between, between-is, between-first, known-passes}
@@ -18,9 +18,9 @@ use Rattle.model.specs.Accepted.{LegalEffect, Sound}
 use Rattle.model.specs.Control.{obey, obeyAll, upTo, phaseRule, taskRule, openRule, openServing, countRule, pendingTaskRule, headRule, tailRule, pendingHeadRule, pendingOpenRule, addressRule, between, recordRule, controlRules, rules, earlyRules}
 use Rattle.model.specs.Device.{taskStores, eventStores, mayRun, endStores, placeSound, recordsSound, handlerSound, deviceSound, recordSound, headSound, namedRow, openSound, headIs, ends, saves, placeFits, bodySound}
 use Rattle.model.proofs.RuleLaws.{obey-kept, obey-unasked, obey-append, obey-upTo, obey-early}
-use Rattle.model.specs.Program.{tasks, events, memoryWords, instructions, transaction, number, effectAt}
+use Rattle.model.specs.Program.{tasks, events, memoryWords, instructions, transaction, bodyNumber, effectAt}
 use Rattle.model.specs.Serial.{Serial}
-use Rattle.model.specs.Store.{Store, event, carried, after, firstWaiting, distance, room, Task, Write}
+use Rattle.model.specs.Store.{Store, event, carried, slotAfter, firstWaiting, distance, room, Task, Write}
 use Rattle.model.specs.Test.{_and_, _or_}
 use Rattle.model.specs.Types.{Body, Checked, Device, Effect, Free, Half, Handler, Place, Resting, Run, Storing}
 
@@ -30,14 +30,14 @@ abbrev pub OpenIn : List ℕ → ℕ → ℕ → Type 0
 OpenIn p o t = (o ≡ 0) ⊎ (o ≡ transaction p t)
 
 pub record Copies (p : List ℕ) (v : Store) : Type 0 where
-  pub count-in : v .count ≤ v .pairs
+  pub count-in : v .count ≤ v .logPairs
   pub addresses : (j : ℕ) → j < v .count → addr (v .log) j < memoryWords p
 
 pub data Phases (p : List ℕ) (v : Store) : Type 0 where
   runs : v .phase ≡ 0 → OpenIn p (v .openNumber) (v .task) → Phases p v
   ends-task : v .phase ≡ 1 → Copies p v → v .pending < tasks p → OpenIn p (v .pendingOpen) (v .pending) → Phases p v
-  ends-event : v .phase ≡ 2 → Copies p v → v .openNumber ≡ 0 → v .pending ≤ v .records
-      → (v .pending ≡ v .head) ⊎ ((v .pending ≡ after (v .records) (v .head)) × (v .head ≢ v .tail)) → Phases p v
+  ends-event : v .phase ≡ 2 → Copies p v → v .openNumber ≡ 0 → v .pending ≤ v .queueRecords
+      → (v .pending ≡ v .head) ⊎ ((v .pending ≡ slotAfter (v .queueRecords) (v .head)) × (v .head ≢ v .tail)) → Phases p v
 
 module _ (p : List ℕ) (v : Store) (z : Serial) (held : HeldAt p v z) where
   copies : (c : ℕ) → CopyingAt p v z c → Copies p v
@@ -105,11 +105,11 @@ module _ (p : List ℕ) (v : Store) where
   pendingOpen-obeyed (ends-task e c t o) = obey-kept (pendingOpenRule p v) (open-test p (v .pendingOpen) (v .pending) o)
   pendingOpen-obeyed (ends-event e c o l h) = obey-unasked (pendingOpenRule p v) (rw (in-phase 2 1 e refl))
 
-  head-obeyed : v .head ≤ v .records → obey (headRule v) ≡ Checked.Accepted
+  head-obeyed : v .head ≤ v .queueRecords → obey (headRule v) ≡ Checked.Accepted
   unfolding headRule
   head-obeyed l = obey-kept (headRule v) (le-leb _ _ l)
 
-  tail-obeyed : v .tail ≤ v .records → obey (tailRule v) ≡ Checked.Accepted
+  tail-obeyed : v .tail ≤ v .queueRecords → obey (tailRule v) ≡ Checked.Accepted
   unfolding tailRule
   tail-obeyed l = obey-kept (tailRule v) (le-leb _ _ l)
 
@@ -134,8 +134,8 @@ module _ (p : List ℕ) (v : Store) where
   address-obeyed (ends-task e c t o) j = address-in c j
   address-obeyed (ends-event e c o l h) j = address-in c j
 
-  record-obeyed : ((x : ℕ) → x ≤ v .records → Between (firstWaiting v) (v .tail) x → event v x < events p)
-      → (x : ℕ) → x ≤ v .records → obey (recordRule p v x) ≡ Checked.Accepted
+  record-obeyed : ((x : ℕ) → x ≤ v .queueRecords → Between (firstWaiting v) (v .tail) x → event v x < events p)
+      → (x : ℕ) → x ≤ v .queueRecords → obey (recordRule p v x) ≡ Checked.Accepted
   unfolding recordRule
   record-obeyed known x l = go (between (firstWaiting v) (v .tail) x) refl
     where
@@ -167,10 +167,10 @@ module _ (p : List ℕ) (v : Store) (z : Serial) (held : HeldAt p v z) (resumes 
   pub rules-obeyed : obeyAll (rules p v) ≡ Checked.Accepted
   unfolding rules
   rules-obeyed =
-      obey-append (controlRules p v ++ upTo (addressRule p v) (v .pairs)) (upTo (recordRule p v) (v .records + 1))
-      (obey-append (controlRules p v) (upTo (addressRule p v) (v .pairs)) control-obeyed
-      (obey-upTo (addressRule p v) (v .pairs) (λ j l. address-obeyed p v ph j)))
-      (obey-upTo (recordRule p v) (v .records + 1) (λ x l. record-obeyed p v (known-waiting (held .waits)) x (omega arith)))
+      obey-append (controlRules p v ++ upTo (addressRule p v) (v .logPairs)) (upTo (recordRule p v) (v .queueRecords + 1))
+      (obey-append (controlRules p v) (upTo (addressRule p v) (v .logPairs)) control-obeyed
+      (obey-upTo (addressRule p v) (v .logPairs) (λ j l. address-obeyed p v ph j)))
+      (obey-upTo (recordRule p v) (v .queueRecords + 1) (λ x l. record-obeyed p v (known-waiting (held .waits)) x (omega arith)))
 
   pub early-obeyed : obeyAll (earlyRules p v) ≡ Checked.Accepted
   unfolding earlyRules
@@ -179,8 +179,8 @@ module _ (p : List ℕ) (v : Store) (z : Serial) (held : HeldAt p v z) (resumes 
 -- ---- 25
 
 module _ (p : List ℕ) (v : Store) (d : Device) (z : Serial) (k : ℕ) (i : On p v d z k) where
-  may-run : (b : Body) (x : ℕ) → MineAt v x b → number p b < tasks p + events p → mayRun p v b ≡ true
-  unfolding mayRun number
+  may-run : (b : Body) (x : ℕ) → ChosenAt v x b → bodyNumber p b < tasks p + events p → mayRun p v b ≡ true
+  unfolding mayRun bodyNumber
   may-run (Body.Task t) x m l = eq-eqb _ _ (m .0)
   may-run (Body.Event e) x m l =
       let below : e < events p = omega arith in
@@ -191,8 +191,8 @@ module _ (p : List ℕ) (v : Store) (d : Device) (z : Serial) (k : ℕ) (i : On 
   unfolding taskStores eventStores
   ends-four b c (Effect.Compute a x) t = omega arith
   ends-four b c (Effect.Jump a) t = omega arith
-  ends-four b c (Effect.Read a x) t = omega arith
-  ends-four b c (Effect.Write x y) t = omega arith
+  ends-four b c (Effect.Load a x) t = omega arith
+  ends-four b c (Effect.Save x y) t = omega arith
   ends-four b c (Effect.EndTask a) t = t .0
   ends-four b c Effect.EndEvent t = omega (arith, t .0)
   ends-four b c Effect.Unknown t = absurd t
@@ -201,22 +201,22 @@ module _ (p : List ℕ) (v : Store) (d : Device) (z : Serial) (k : ℕ) (i : On 
   unfolding eventStores
   ends-three b e j c (Effect.Compute a x) l t = omega arith
   ends-three b e j c (Effect.Jump a) l t = omega arith
-  ends-three b e j c (Effect.Read a x) l t = omega arith
-  ends-three b e j c (Effect.Write x y) l t = omega arith
+  ends-three b e j c (Effect.Load a x) l t = omega arith
+  ends-three b e j c (Effect.Save x y) l t = omega arith
   ends-three b e j c (Effect.EndTask a) l t = absurd (omega (arith, l .1))
   ends-three b e j c Effect.EndEvent l t = t .0
   ends-three b e j c Effect.Unknown l t = absurd t
 
-  ends-in : (b : Body) (j c : ℕ) (f : Effect) → LegalEffect p (number p b) j f → EndingAt p v d b c f → c < endStores b
-  unfolding endStores number
+  ends-in : (b : Body) (j c : ℕ) (f : Effect) → LegalEffect p (bodyNumber p b) j f → EndingAt p v d b c f → c < endStores b
+  unfolding endStores bodyNumber
   ends-in (Body.Task t) j c f l s = ends-four (Body.Task t) c f s
   ends-in (Body.Event e) j c f l s = ends-three (Body.Event e) e j c f l s
 
-  half-in : (l : ℕ) (f : Effect) → HalfSaved p (v .log) (v .pairs) l f → l < v .pairs
+  half-in : (l : ℕ) (f : Effect) → HalfSaved p (v .log) (v .logPairs) l f → l < v .logPairs
   half-in l (Effect.Compute a x) h = absurd h
   half-in l (Effect.Jump a) h = absurd h
-  half-in l (Effect.Read a x) h = absurd h
-  half-in l (Effect.Write x y) h = h .1 .0
+  half-in l (Effect.Load a x) h = absurd h
+  half-in l (Effect.Save x y) h = h .1 .0
   half-in l (Effect.EndTask a) h = absurd h
   half-in l Effect.EndEvent h = absurd h
   half-in l Effect.Unknown h = absurd h
@@ -235,15 +235,15 @@ module _ (p : List ℕ) (v : Store) (d : Device) (z : Serial) (k : ℕ) (i : On 
   place-sound sound (Run b j c) ((s, (x, m, r)), e) =
       and-true (eq-eqb _ _ (s .phase-is))
       (and-true (may-run b x m (r .body-in))
-      (lt-ltb _ _ (ends-in b j c (effectAt p (number p b) j (d .regs)) (sound .legal (number p b) j (d .regs) (r .body-in) (r .place-in)) e)))
+      (lt-ltb _ _ (ends-in b j c (effectAt p (bodyNumber p b) j (d .registers)) (sound .legal (bodyNumber p b) j (d .registers) (r .body-in) (r .place-in)) e)))
   place-sound sound (Half b j) ((s, (x, m, r)), e) =
-      and-true (eq-eqb _ _ (s .phase-is)) (and-true (may-run b x m (r .body-in)) (lt-ltb _ _ (half-in (d .count) (effectAt p (number p b) j (d .regs)) e)))
+      and-true (eq-eqb _ _ (s .phase-is)) (and-true (may-run b x m (r .body-in)) (lt-ltb _ _ (half-in (d .count) (effectAt p (bodyNumber p b) j (d .registers)) e)))
 
-  handler-sound : (h : Handler) → Handles p (v .queue) (v .records) (v .head) (v .tail) (z .posted) h → handlerSound p v h ≡ true
+  handler-sound : (h : Handler) → Handles p (v .queue) (v .queueRecords) (v .head) (v .tail) (z .posted) h → handlerSound p v h ≡ true
   unfolding handlerSound recordsSound room
   handler-sound Resting a = refl
   handler-sound (Storing c e x) a =
-      let fits : length (carried e x) ≤ v .records - distance (v .records) (v .head) (v .tail) = omega (arith, a .room) in
+      let fits : length (carried e x) ≤ v .queueRecords - distance (v .queueRecords) (v .head) (v .tail) = omega (arith, a .room) in
       and-true (known-passes p (carried e x) (a .known)) (and-true (le-leb _ _ fits) (lt-ltb _ _ (a .inside)))
 
   pub device-sound : Sound p → deviceSound p v d ≡ true
@@ -254,7 +254,7 @@ module _ (p : List ℕ) (v : Store) (d : Device) (z : Serial) (k : ℕ) (i : On 
 
   -- ---- what a step checks of a body
 
-  head-sound : (b : Body) (x : ℕ) → StillAt v z → MineAt v x b → headSound p v b ≡ Checked.Accepted
+  head-sound : (b : Body) (x : ℕ) → StillAt v z → ChosenAt v x b → headSound p v b ≡ Checked.Accepted
   unfolding headSound recordSound
   head-sound (Body.Task t) x s m = refl
   head-sound (Body.Event e) x s m =
@@ -267,7 +267,7 @@ module _ (p : List ℕ) (v : Store) (d : Device) (z : Serial) (k : ℕ) (i : On 
   open-sound (Body.Task t) s = open-obeyed p v (phases p v z (i .held) (inl s))
   open-sound (Body.Event e) s = refl
 
-  head-is : (b : Body) (x : ℕ) → MineAt v x b → headIs v b ≡ true
+  head-is : (b : Body) (x : ℕ) → ChosenAt v x b → headIs v b ≡ true
   unfolding headIs
   head-is (Body.Task t) x m = refl
   head-is (Body.Event e) x m = eq-eqb _ _ (m .1 .1 .0)
@@ -276,17 +276,17 @@ module _ (p : List ℕ) (v : Store) (d : Device) (z : Serial) (k : ℕ) (i : On 
   unfolding namedRow
   named-row sound n j (Effect.Compute a x) l = refl
   named-row sound n j (Effect.Jump a) l = refl
-  named-row sound n j (Effect.Read a x) l = refl
-  named-row sound n j (Effect.Write x y) l = refl
+  named-row sound n j (Effect.Load a x) l = refl
+  named-row sound n j (Effect.Save x y) l = refl
   named-row sound n j (Effect.EndTask a) l = sound .row a (omega (arith, l .0))
   named-row sound n j Effect.EndEvent l = refl
   named-row sound n j Effect.Unknown l = refl
 
-  pub body-sound : Sound p → (y : Place) (b : Body) (j : ℕ) → BodyAt p v d z k b j → placeFits y (effectAt p (number p b) j (d .regs)) ≡ true
-      → bodySound p v y b j (effectAt p (number p b) j (d .regs)) ≡ Checked.Accepted
+  pub body-sound : Sound p → (y : Place) (b : Body) (j : ℕ) → BodyAt p v d z k b j → placeFits y (effectAt p (bodyNumber p b) j (d .registers)) ≡ true
+      → bodySound p v y b j (effectAt p (bodyNumber p b) j (d .registers)) ≡ Checked.Accepted
   unfolding bodySound
   body-sound sound y b j (s, (x, m, r)) fits =
-      let n = number p b in
+      let n = bodyNumber p b in
       let there : ltb j (instructions p n) ≡ true = lt-ltb _ _ (r .place-in) in
       then-passed (head-sound b x s m)
       (then-passed (sound .inside)
@@ -294,25 +294,25 @@ module _ (p : List ℕ) (v : Store) (d : Device) (z : Serial) (k : ℕ) (i : On 
       (then-passed
       (pick-true _ _ there
       ∙ then-passed (sound .rule n j (r .body-in) (r .place-in))
-      (named-row sound n j _ (sound .legal n j (d .regs) (r .body-in) (r .place-in))))
+      (named-row sound n j _ (sound .legal n j (d .registers) (r .body-in) (r .place-in))))
       (then-passed (open-sound b s) (must-true _ (and-true there (and-true (head-is b x m) fits)))))))
 
   pub run-fits : (b : Body) (j c : ℕ) (f : Effect) → EndingAt p v d b c f → placeFits (Run b j c) f ≡ true
   unfolding placeFits ends
   run-fits b j c (Effect.Compute a x) t = pick-true _ _ (eq-eqb _ _ t)
   run-fits b j c (Effect.Jump a) t = pick-true _ _ (eq-eqb _ _ t)
-  run-fits b j c (Effect.Read a x) t = pick-true _ _ (eq-eqb _ _ t)
-  run-fits b j c (Effect.Write x y) t = pick-true _ _ (eq-eqb _ _ t)
+  run-fits b j c (Effect.Load a x) t = pick-true _ _ (eq-eqb _ _ t)
+  run-fits b j c (Effect.Save x y) t = pick-true _ _ (eq-eqb _ _ t)
   run-fits b j c (Effect.EndTask a) t = pick-case (λ (o : Bool). o ≡ true) (λ e. refl) (λ e. refl)
   run-fits b j c Effect.EndEvent t = pick-case (λ (o : Bool). o ≡ true) (λ e. refl) (λ e. refl)
   run-fits b j c Effect.Unknown t = absurd t
 
-  pub half-fits : (b : Body) (j l : ℕ) (f : Effect) → HalfSaved p (v .log) (v .pairs) l f → placeFits (Half b j) f ≡ true
+  pub half-fits : (b : Body) (j l : ℕ) (f : Effect) → HalfSaved p (v .log) (v .logPairs) l f → placeFits (Half b j) f ≡ true
   unfolding placeFits saves
   half-fits b j l (Effect.Compute a x) h = absurd h
   half-fits b j l (Effect.Jump a) h = absurd h
-  half-fits b j l (Effect.Read a x) h = absurd h
-  half-fits b j l (Effect.Write x y) h = refl
+  half-fits b j l (Effect.Load a x) h = absurd h
+  half-fits b j l (Effect.Save x y) h = refl
   half-fits b j l (Effect.EndTask a) h = absurd h
   half-fits b j l Effect.EndEvent h = absurd h
   half-fits b j l Effect.Unknown h = absurd h

@@ -22,18 +22,18 @@ use Rattle.model.specs.Store.{waiting, settled, formatted}
 use Rattle.model.specs.Types.{Device}
 
 -- after a list of calls that begins with the invariant, and k calls before it
-record After (p : List ℕ) (l q : ℕ) (s : List ℕ) (d : Device) (z : Serial) (k : ℕ) (cs : List Call) : Type 0 where
+record SlotAfter (p : List ℕ) (l q : ℕ) (s : List ℕ) (d : Device) (z : Serial) (k : ℕ) (cs : List Call) : Type 0 where
   state : Serial
   ran : (fuel : ℕ) → k + length cs ≤ fuel → serialFrom fuel (given p l q) z (history p s d cs) ≡ some state
   inv : InvWords p l q (afterCalls p s d cs .store) (afterCalls p s d cs .device) state (k + length cs)
 
-calls-kept : (p : List ℕ) → Sound p → (l q : ℕ) (cs : List Call) (s : List ℕ) (d : Device) (z : Serial) (k : ℕ) → InvWords p l q s d z k → After p l q s d z k cs
+calls-kept : (p : List ℕ) → Sound p → (l q : ℕ) (cs : List Call) (s : List ℕ) (d : Device) (z : Serial) (k : ℕ) → InvWords p l q s d z k → SlotAfter p l q s d z k cs
 unfolding serialFrom history afterCalls andThen
 calls-kept p sound l q [] s d z k i = record { state = z; ran = λ fuel h. refl; inv = rw add-zero i }
 calls-kept p sound l q (c ∷ cs) s d z k i =
     let o = call p s d c in
     let h = call-kept p sound l q s d z k i c in
-    let rest = calls-kept p sound l q cs (settled s (o .write)) (o .device) (h .after) (suc k) (h .inv) in
+    let rest = calls-kept p sound l q cs (settled s (o .write)) (o .device) (h .serial) (suc k) (h .inv) in
     let e : suc k + length cs ≡ k + length (c ∷ cs) = omega arith in
     record {
       state = rest .state;
@@ -63,8 +63,8 @@ from-formatted p sound l q cs i =
       refusals = λ c. next c .expected;
       bodies =
           λ b e.
-          let t : runBody (suc n) p (a .state) b ≡ some (next Step .after) = rw e at (next Step .tells (suc n) (omega arith)) in
-          runs-body (suc n) p (a .state) (next Step .after) b t;
+          let t : runBody (suc n) p (a .state) b ≡ some (next Step .serial) = rw e at (next Step .tells (suc n) (omega arith)) in
+          runs-body (suc n) p (a .state) (next Step .serial) b t;
     }
 
 pub demand3 : Demand3

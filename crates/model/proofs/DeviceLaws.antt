@@ -1,6 +1,6 @@
 -- Laws of specs/Device.antt, for all words and device states. First its cases as equations. Then what a step's outcome can be:
 -- `Made` has a case for each store and for each step without a store, with the facts that it comes with; `Why` says why a step is
--- refused; `outcome` says that every step is one of these. Whatever is proved of a step's outcome splits on them. Demand 3 alone goes
+-- refused; `step-outcome` says that every step is one of these. Whatever is proved of a step's outcome splits on them. Demand 3 alone goes
 -- its own way through a step (Kept, KeptBody), so that a wrong definition fails there. Assumes nothing.
 use Prim.Native.Nat.{ℕ, zero, suc, _+_, _-_, _*_, _≤_, _<_}
 use mathlib.Core.Path.{_≡_, refl, ap, _∙_}
@@ -17,25 +17,25 @@ use Rattle.model.proofs.Passed.{look-passed, body-passed}
 use Rattle.model.proofs.TestLaws.{pick-case, pick-true, pick-false, clash, same-or, below-or}
 use Rattle.model.specs.Accepted.{LegalEffect, MayRun, Stands, Attends, Looked}
 use Rattle.model.specs.Calls.{unlessRefused, isRefusal}
-use Rattle.model.specs.Device.{Out, out, refuse, judged, turnedOn, moved, withHandler, storing, recordStores, taskStores, eventStores, taskLastStores, eventLastStores, lastStores, endStores, look, bootCheck, boot, postCheck, post, handlerStep, pairSound, copyStep, begun, recordSound, chooseStep, saves, placeFits, bodySound, shown, saveStep, act, saveRest, placeStep, nextStep, step}
-use Rattle.model.specs.Program.{events, memoryWords, transaction, number, effectAt, newOpen}
-use Rattle.model.specs.Store.{Store, view, address, value, event, datum, empty, carried, after, find, logAt, queueAt, Phase, Task, Open, Count, Pending, PendingOpen, Head, Tail, Memory, Address, Value, Event, Write, none, to}
+use Rattle.model.specs.Device.{Outcome, out, refuse, judged, turnedOn, withPlace, withHandler, storing, recordStores, taskStores, eventStores, taskLastStores, eventLastStores, lastStores, endStores, look, bootCheck, boot, postCheck, post, handlerStep, pairSound, copyStep, begun, recordSound, chooseStep, saves, placeFits, bodySound, shown, saveStep, act, saveRest, placeStep, nextStep, step}
+use Rattle.model.specs.Program.{events, memoryWords, transaction, bodyNumber, effectAt, newOpen}
+use Rattle.model.specs.Store.{Store, view, address, value, event, datum, empty, carried, slotAfter, find, logAt, queueAt, Phase, Task, Open, Count, Pending, PendingOpen, Head, Tail, Memory, Address, Value, Event, Write, none, to}
 use Rattle.model.specs.Test.{pick, _and_, must}
 use Rattle.model.specs.Types.{Answer, Body, Checked, Device, Effect, Found, Free, Half, Handler, Place, Refusal, Resting, Run, Storing}
 
 -- ---- checks before an outcome
 
-pub judged-case : (P : Out → Type 0) (x : Checked) {d : Device} {o : Out} → ((r : Refusal) → x ≡ Checked.Refused r → P (refuse d r))
+pub judged-case : (P : Outcome → Type 0) (x : Checked) {d : Device} {o : Outcome} → ((r : Refusal) → x ≡ Checked.Refused r → P (refuse d r))
     → (x ≡ Checked.Accepted → P o) → P (judged x d o)
 unfolding judged
 judged-case P Checked.Accepted f g = g refl
 judged-case P (Checked.Refused r) f g = f r refl
 
-pub judged-refused : {x : Checked} (d : Device) (o : Out) {r : Refusal} → x ≡ Checked.Refused r → judged x d o ≡ refuse d r
+pub judged-refused : {x : Checked} (d : Device) (o : Outcome) {r : Refusal} → x ≡ Checked.Refused r → judged x d o ≡ refuse d r
 unfolding judged
 judged-refused d o e = rw e
 
-pub judged-accepted : {x : Checked} (d : Device) (o : Out) → x ≡ Checked.Accepted → judged x d o ≡ o
+pub judged-accepted : {x : Checked} (d : Device) (o : Outcome) → x ≡ Checked.Accepted → judged x d o ≡ o
 unfolding judged
 judged-accepted d o e = rw e
 
@@ -66,7 +66,7 @@ module _ (p s : List ℕ) (d : Device) where
 
   -- with the handler at rest, at an instruction whose checks pass
   pub step-acts : look p s d ≡ Checked.Accepted → d .handler ≡ Resting → (b : Body) (j c : ℕ) (f : Effect) → d .place ≡ Run b j c
-      → effectAt p (number p b) j (d .regs) ≡ f → bodySound p (view s) (Run b j c) b j f ≡ Checked.Accepted → step p s d ≡ act p (view s) d b j c f
+      → effectAt p (bodyNumber p b) j (d .registers) ≡ f → bodySound p (view s) (Run b j c) b j f ≡ Checked.Accepted → step p s d ≡ act p (view s) d b j c f
   unfolding nextStep placeStep
   step-acts e rests b j c f q does sound =
       step-goes e ∙ ap (nextStep p (view s) d) rests ∙ ap (placeStep p (view s) d) q ∙ rw does (judged-accepted d _ sound)
@@ -83,7 +83,7 @@ module _ (p : List ℕ) (v : Store) (d : Device) (n : ℕ) where
   free-copies e = pick-false _ _ (ne-eqb (v .phase) 0 e)
 
 module _ (p : List ℕ) (v : Store) (d : Device) where
-  abbrev task-begun : Out
+  abbrev task-begun : Outcome
   task-begun = out none (begun d (Body.Task (v .task)) 0) (Answer.Chosen (Body.Task (v .task)))
 
   pub choose-open : v .openNumber ≢ 0 → chooseStep p v d ≡ task-begun
@@ -95,7 +95,7 @@ module _ (p : List ℕ) (v : Store) (d : Device) where
   choose-empty e f = pick-false _ _ (rw (eq-eqb (v .openNumber) 0 e, f))
 
   pub choose-refused : v .openNumber ≡ 0 → empty v ≡ false → events p ≤ event v (v .head)
-      → chooseStep p v d ≡ refuse d (Refusal.Control (queueAt (memoryWords p) (v .pairs) + 2 * v .head))
+      → chooseStep p v d ≡ refuse d (Refusal.Control (queueAt (memoryWords p) (v .logPairs) + 2 * v .head))
   unfolding chooseStep judged recordSound must _and_
   choose-refused e f l = pick-true _ _ (rw (eq-eqb (v .openNumber) 0 e, f)) ∙ rw (le-ltb (event v (v .head)) (events p) l)
 
@@ -108,7 +108,7 @@ module _ (p : List ℕ) (v : Store) (d : Device) where
 
 -- the device elsewhere
 abbrev pub atPlace : Device → Place → Device
-atPlace d x = moved d (d .regs) x (d .count)
+atPlace d x = withPlace d (d .registers) x (d .count)
 
 module _ (p : List ℕ) (v : Store) (d : Device) (n : ℕ) where
   pub copy-refused : n < v .count → memoryWords p ≤ address v n
@@ -121,7 +121,7 @@ module _ (p : List ℕ) (v : Store) (d : Device) (n : ℕ) where
   unfolding copyStep judged pairSound must
   copy-made l m = pick-true _ _ (lt-ltb n (v .count) l) ∙ rw (lt-ltb (address v n) (memoryWords p) m)
 
-  abbrev last : List Write → Out
+  abbrev last : List Write → Outcome
   last ws = storing ws (n - v .count) (atPlace d (Free (n + 1))) turnedOn Answer.Stored
 
   pub task-last : v .count ≤ n → v .phase ≡ 1 → copyStep p v d n ≡ last (taskLastStores v)
@@ -150,18 +150,18 @@ least-last v = same-or (v .phase) 1 (λ e. omega (arith, task-lasts v e)) (λ ne
 -- ---- an instruction that 23 or 24 refuses
 
 module _ (p : List ℕ) (v : Store) (d : Device) (b : Body) (j c : ℕ) where
-  pub load-refused : (a x : ℕ) → memoryWords p ≤ x → act p v d b j c (Effect.Read a x) ≡ refuse d Refusal.Address
+  pub load-refused : (a x : ℕ) → memoryWords p ≤ x → act p v d b j c (Effect.Load a x) ≡ refuse d Refusal.Address
   unfolding act
   load-refused a x l = pick-false _ _ (le-ltb x (memoryWords p) l)
 
-  pub save-refused : (x y : ℕ) → memoryWords p ≤ x → act p v d b j c (Effect.Write x y) ≡ refuse d Refusal.Address
+  pub save-refused : (x y : ℕ) → memoryWords p ≤ x → act p v d b j c (Effect.Save x y) ≡ refuse d Refusal.Address
   unfolding act
   save-refused x y l = pick-false _ _ (le-ltb x (memoryWords p) l)
 
-  pub save-full : (x y : ℕ) → x < memoryWords p → find (v .log) (d .count) x ≡ Found.Nothing → v .pairs ≤ d .count
-      → act p v d b j c (Effect.Write x y) ≡ refuse d Refusal.LogFull
+  pub save-full : (x y : ℕ) → x < memoryWords p → find (v .log) (d .count) x ≡ Found.Nothing → v .logPairs ≤ d .count
+      → act p v d b j c (Effect.Save x y) ≡ refuse d Refusal.LogFull
   unfolding act saveStep
-  save-full x y l e k = pick-true _ _ (lt-ltb x (memoryWords p) l) ∙ ap (saveStep v d b j x y) e ∙ pick-false _ _ (le-ltb (d .count) (v .pairs) k)
+  save-full x y l e k = pick-true _ _ (lt-ltb x (memoryWords p) l) ∙ ap (saveStep v d b j x y) e ∙ pick-false _ _ (le-ltb (d .count) (v .logPairs) k)
 
 -- ---- what a step's outcome comes with
 
@@ -183,46 +183,46 @@ pub record Acts (p : List ℕ) (v : Store) (d : Device) (x : Place) (b : Body) (
   pub rests : d .handler ≡ Resting
   pub place : d .place ≡ x
   pub stands : Stands p v (d .count) x
-  pub does : effectAt p (number p b) j (d .regs) ≡ f
+  pub does : effectAt p (bodyNumber p b) j (d .registers) ≡ f
   pub sound : bodySound p v x b j f ≡ Checked.Accepted
-  pub legal : LegalEffect p (number p b) j f
+  pub legal : LegalEffect p (bodyNumber p b) j f
 
 -- at an instruction, c stores of the body's end made
 abbrev pub RunsAt : List ℕ → Store → Device → Body → ℕ → ℕ → Effect → Type 0
 RunsAt p v d b j c f = Acts p v d (Run b j c) b j f
 
 -- what a handler does, c of whose stores are made: a store for one of its records, or the tail store
-pub data HandlerMade (p : List ℕ) (v : Store) (d : Device) (c e x : ℕ) : Out → Type 0 where
-  record-made : {w : Write} → Attends p v (Storing (c + 1) e x) → RecordStore (v .records) (v .tail) (carried e x) w
+pub data HandlerMade (p : List ℕ) (v : Store) (d : Device) (c e x : ℕ) : Outcome → Type 0 where
+  record-made : {w : Write} → Attends p v (Storing (c + 1) e x) → RecordStore (v .queueRecords) (v .tail) (carried e x) w
       → HandlerMade p v d c e x (out w (withHandler d (Storing (c + 1) e x)) Answer.Stored)
   tail-made : Attends p v (Storing c e x)
-      → HandlerMade p v d c e x (out (to Tail (forward (v .records) (v .tail) (length (carried e x)))) (withHandler d Resting) Answer.Accepted)
+      → HandlerMade p v d c e x (out (to Tail (forward (v .queueRecords) (v .tail) (length (carried e x)))) (withHandler d Resting) Answer.Accepted)
 
 module _ (p : List ℕ) (v : Store) (d : Device) (c e x : ℕ) (a : Attends p v (Storing c e x)) where
   abbrev stores : List Write
-  stores = recordStores (v .records) (v .tail) (carried e x)
+  stores = recordStores (v .queueRecords) (v .tail) (carried e x)
 
   stores-are : length stores ≡ 2 * length (carried e x) + 1
-  stores-are = record-stores (v .records) (carried e x) (v .tail)
+  stores-are = record-stores (v .queueRecords) (carried e x) (v .tail)
 
   goes : c < 2 * length (carried e x) → HandlerMade p v d c e x (handlerStep v d c e x)
   unfolding handlerStep
   goes l =
       rw (storing-goes stores c _ _ _ (omega (arith, stores-are)))
-      (record-made (record { known = a .known; room = a .room; inside = omega (arith, stores-are) }) (record-store (v .records) (carried e x) (v .tail) c l))
+      (record-made (record { known = a .known; room = a .room; inside = omega (arith, stores-are) }) (record-store (v .queueRecords) (carried e x) (v .tail) c l))
 
   ends : c ≡ 2 * length (carried e x) → HandlerMade p v d c e x (handlerStep v d c e x)
   unfolding handlerStep
-  ends l = rw (storing-ends stores c _ _ _ (omega (arith, stores-are)), tail-store (v .records) (carried e x) (v .tail) c l) (tail-made a)
+  ends l = rw (storing-ends stores c _ _ _ (omega (arith, stores-are)), tail-store (v .queueRecords) (carried e x) (v .tail) c l) (tail-made a)
 
   pub handler-made : HandlerMade p v d c e x (handlerStep v d c e x)
   handler-made = below-or c (2 * length (carried e x)) goes (λ l. ends (omega (arith, stores-are, a .inside)))
 
 -- ---- what a step that isn't refused does
 
-pub data Made (p : List ℕ) (v : Store) (d : Device) : Out → Type 0 where
+pub data Made (p : List ℕ) (v : Store) (d : Device) : Outcome → Type 0 where
   -- "A handler at work makes its next store: event, data, then tail."
-  handler : {c e x : ℕ} {o : Out} → d .handler ≡ Storing c e x → HandlerMade p v d c e x o → Made p v d o
+  handler : {c e x : ℕ} {o : Outcome} → d .handler ≡ Storing c e x → HandlerMade p v d c e x o → Made p v d o
   -- "n copies, 9 from 12, 10 from 13, 8 becomes 0", in phase 2 "14 from 12, 8 becomes 0"
   commit-copy : {c : ℕ} → Commits v d c → c < v .count → address v c < memoryWords p
       → Made p v d (out (to (Memory (address v c)) (value v c)) (atPlace d (Free (c + 1))) Answer.Stored)
@@ -240,16 +240,16 @@ pub data Made (p : List ℕ) (v : Store) (d : Device) : Out → Type 0 where
       → Made p v d (out none (begun d (Body.Task (v .task)) 0) (Answer.Chosen (Body.Task (v .task))))
   -- "One instruction runs."
   computed : {b : Body} {j c a x : ℕ} → RunsAt p v d b j c (Effect.Compute a x)
-      → Made p v d (out none (moved d (set (d .regs) a x) (Run b (j + 1) 0) (d .count)) Answer.Worked)
+      → Made p v d (out none (withPlace d (set (d .registers) a x) (Run b (j + 1) 0) (d .count)) Answer.Worked)
   jumped : {b : Body} {j c k : ℕ} → RunsAt p v d b j c (Effect.Jump k) → Made p v d (out none (atPlace d (Run b k 0)) Answer.Worked)
-  loaded : {b : Body} {j c a x : ℕ} → RunsAt p v d b j c (Effect.Read a x) → x < memoryWords p
-      → Made p v d (out none (moved d (set (d .regs) a (shown v (find (v .log) (d .count) x) x)) (Run b (j + 1) 0) (d .count)) Answer.Worked)
-  overwritten : {b : Body} {j c x y i : ℕ} → RunsAt p v d b j c (Effect.Write x y) → x < memoryWords p → find (v .log) (d .count) x ≡ Found.Pair i
+  loaded : {b : Body} {j c a x : ℕ} → RunsAt p v d b j c (Effect.Load a x) → x < memoryWords p
+      → Made p v d (out none (withPlace d (set (d .registers) a (shown v (find (v .log) (d .count) x) x)) (Run b (j + 1) 0) (d .count)) Answer.Worked)
+  overwritten : {b : Body} {j c x y i : ℕ} → RunsAt p v d b j c (Effect.Save x y) → x < memoryWords p → find (v .log) (d .count) x ≡ Found.Pair i
       → Made p v d (out (to (Value i) y) (atPlace d (Run b (j + 1) 0)) Answer.Stored)
-  half-saved : {b : Body} {j c x y : ℕ} → RunsAt p v d b j c (Effect.Write x y) → x < memoryWords p → find (v .log) (d .count) x ≡ Found.Nothing
-      → d .count < v .pairs → Made p v d (out (to (Address (d .count)) x) (atPlace d (Half b j)) Answer.Stored)
-  saved : {b : Body} {j x y : ℕ} → Acts p v d (Half b j) b j (Effect.Write x y)
-      → Made p v d (out (to (Value (d .count)) y) (moved d (d .regs) (Run b (j + 1) 0) (d .count + 1)) Answer.Stored)
+  half-saved : {b : Body} {j c x y : ℕ} → RunsAt p v d b j c (Effect.Save x y) → x < memoryWords p → find (v .log) (d .count) x ≡ Found.Nothing
+      → d .count < v .logPairs → Made p v d (out (to (Address (d .count)) x) (atPlace d (Half b j)) Answer.Stored)
+  saved : {b : Body} {j x y : ℕ} → Acts p v d (Half b j) b j (Effect.Save x y)
+      → Made p v d (out (to (Value (d .count)) y) (withPlace d (d .registers) (Run b (j + 1) 0) (d .count + 1)) Answer.Stored)
   -- GO, at a task: "11 is n, 12 the next task, 13 the new open number, 8 becomes 1 (the commit store)"
   go-count : {t j k : ℕ} → RunsAt p v d (Body.Task t) j 0 (Effect.EndTask k)
       → Made p v d (out (to Count (d .count)) (atPlace d (Run (Body.Task t) j 1)) Answer.Stored)
@@ -263,7 +263,7 @@ pub data Made (p : List ℕ) (v : Store) (d : Device) : Out → Type 0 where
   done-count : {e j : ℕ} → RunsAt p v d (Body.Event e) j 0 Effect.EndEvent
       → Made p v d (out (to Count (d .count)) (atPlace d (Run (Body.Event e) j 1)) Answer.Stored)
   done-pending : {e j : ℕ} → RunsAt p v d (Body.Event e) j 1 Effect.EndEvent
-      → Made p v d (out (to Pending (after (v .records) (v .head))) (atPlace d (Run (Body.Event e) j 2)) Answer.Stored)
+      → Made p v d (out (to Pending (slotAfter (v .queueRecords) (v .head))) (atPlace d (Run (Body.Event e) j 2)) Answer.Stored)
   done-phase : {e j : ℕ} → RunsAt p v d (Body.Event e) j 2 Effect.EndEvent
       → Made p v d (out (to Phase 2) turnedOn (Answer.Committed (Body.Event e)))
 
@@ -273,17 +273,17 @@ pub data Made (p : List ℕ) (v : Store) (d : Device) : Out → Type 0 where
 pub data Meets (p : List ℕ) (v : Store) (d : Device) : Refusal → Type 0 where
   -- the event of the record to be chosen isn't below E, the address of the pair to be copied not below M
   by-record : Chooses v d → v .openNumber ≡ 0 → v .head ≢ v .tail → events p ≤ event v (v .head)
-      → Meets p v d (Refusal.Control (queueAt (memoryWords p) (v .pairs) + 2 * v .head))
+      → Meets p v d (Refusal.Control (queueAt (memoryWords p) (v .logPairs) + 2 * v .head))
   by-pair : {c : ℕ} → Commits v d c → c < v .count → memoryWords p ≤ address v c → Meets p v d (Refusal.Control (logAt (memoryWords p) + 2 * c))
   -- the checks of a body at place x
   by-body : (x : Place) (b : Body) (j : ℕ) (f : Effect) {r : Refusal} → d .place ≡ x → v .phase ≡ 0 → MayRun p v b
       → bodySound p v x b j f ≡ Checked.Refused r → Meets p v d r
   -- "23: address k + b not below M", of a LOAD and of a SAVE
-  load-above : {b : Body} {j c a x : ℕ} → RunsAt p v d b j c (Effect.Read a x) → memoryWords p ≤ x → Meets p v d Refusal.Address
-  save-above : {b : Body} {j c x y : ℕ} → RunsAt p v d b j c (Effect.Write x y) → memoryWords p ≤ x → Meets p v d Refusal.Address
+  load-above : {b : Body} {j c a x : ℕ} → RunsAt p v d b j c (Effect.Load a x) → memoryWords p ≤ x → Meets p v d Refusal.Address
+  save-above : {b : Body} {j c x y : ℕ} → RunsAt p v d b j c (Effect.Save x y) → memoryWords p ≤ x → Meets p v d Refusal.Address
   -- "24: SAVE to an address not in the log, with L pairs there"
-  log-full : {b : Body} {j c x y : ℕ} → RunsAt p v d b j c (Effect.Write x y) → x < memoryWords p → find (v .log) (d .count) x ≡ Found.Nothing
-      → v .pairs ≤ d .count → Meets p v d Refusal.LogFull
+  log-full : {b : Body} {j c x y : ℕ} → RunsAt p v d b j c (Effect.Save x y) → x < memoryWords p → find (v .log) (d .count) x ≡ Found.Nothing
+      → v .logPairs ≤ d .count → Meets p v d Refusal.LogFull
 
 pub data Why (p s : List ℕ) (d : Device) : Refusal → Type 0 where
   looked : {r : Refusal} → look p s d ≡ Checked.Refused r → Why p s d r
@@ -291,18 +291,18 @@ pub data Why (p s : List ℕ) (d : Device) : Refusal → Type 0 where
 
 -- ---- every step is refused so, or does one of these
 
-pub data Outcome (p s : List ℕ) (d : Device) : Out → Type 0 where
-  refused : {r : Refusal} → Why p s d r → Outcome p s d (refuse d r)
-  made : {o : Out} → Looked p s d → Made p (view s) d o → isRefusal (o .answer) ≡ false → Outcome p s d o
+pub data StepOutcome (p s : List ℕ) (d : Device) : Outcome → Type 0 where
+  refused : {r : Refusal} → Why p s d r → StepOutcome p s d (refuse d r)
+  made : {o : Outcome} → Looked p s d → Made p (view s) d o → isRefusal (o .answer) ≡ false → StepOutcome p s d o
 
 module _ (p s : List ℕ) (d : Device) (early : Looked p s d) where
   abbrev v : Store
   v = view s
 
-  abbrev Is : Out → Type 0
-  Is = Outcome p s d
+  abbrev Is : Outcome → Type 0
+  Is = StepOutcome p s d
 
-  handler-outcome : {c e x : ℕ} → d .handler ≡ Storing c e x → (o : Out) → HandlerMade p v d c e x o → Is o
+  handler-outcome : {c e x : ℕ} → d .handler ≡ Storing c e x → (o : Outcome) → HandlerMade p v d c e x o → Is o
   unfolding isRefusal unlessRefused
   handler-outcome q o (record-made a s) = made early (handler q (record-made a s)) refl
   handler-outcome q o (tail-made a) = made early (handler q (tail-made a)) refl
@@ -344,7 +344,7 @@ module _ (p s : List ℕ) (d : Device) (early : Looked p s d) where
       (λ l. rw (choose-refused p v d o (ne-eqb _ _ ne) l) (refused (met early (h .rests) (by-record h o ne l))))))
       (λ no-o. rw (choose-open p v d no-o) (made early (chosen-task h (λ o. absurd (no-o o))) refl))
 
-  save-outcome : (b : Body) (j c x y : ℕ) → RunsAt p v d b j c (Effect.Write x y) → x < memoryWords p → (f : Found) → find (v .log) (d .count) x ≡ f
+  save-outcome : (b : Body) (j c x y : ℕ) → RunsAt p v d b j c (Effect.Save x y) → x < memoryWords p → (f : Found) → find (v .log) (d .count) x ≡ f
       → Is (saveStep v d b j x y f)
   unfolding saveStep isRefusal unlessRefused
   save-outcome b j c x y h l (Found.Pair i) e = made early (overwritten h l e) refl
@@ -352,7 +352,7 @@ module _ (p s : List ℕ) (d : Device) (early : Looked p s d) where
       pick-case Is (λ q. made early (half-saved h l e (ltb-true _ _ q)) refl) (λ q. refused (met early (h .rests) (log-full h l e (ltb-false _ _ q))))
 
   go-outcome : (t j k c : ℕ) → c < 4 → RunsAt p v d (Body.Task t) j c (Effect.EndTask k) → Is (act p v d (Body.Task t) j c (Effect.EndTask k))
-  unfolding act storing taskStores number pick isRefusal unlessRefused
+  unfolding act storing taskStores bodyNumber pick isRefusal unlessRefused
   go-outcome t j k zero l h = made early (go-count h) refl
   go-outcome t j k (suc zero) l h = made early (go-pending h) refl
   go-outcome t j k (suc (suc zero)) l h = made early (go-open h) refl
@@ -367,12 +367,12 @@ module _ (p s : List ℕ) (d : Device) (early : Looked p s d) where
   done-outcome e j (suc (suc (suc c))) l h = absurd (omega arith)
 
   act-outcome : (b : Body) (j c : ℕ) (f : Effect) → RunsAt p v d b j c f → Is (act p v d b j c f)
-  unfolding act number endStores isRefusal unlessRefused
+  unfolding act bodyNumber endStores isRefusal unlessRefused
   act-outcome b j c (Effect.Compute a x) h = made early (computed h) refl
   act-outcome b j c (Effect.Jump k) h = made early (jumped h) refl
-  act-outcome b j c (Effect.Read a x) h =
+  act-outcome b j c (Effect.Load a x) h =
       pick-case Is (λ q. made early (loaded h (ltb-true _ _ q)) refl) (λ q. refused (met early (h .rests) (load-above h (ltb-false _ _ q))))
-  act-outcome b j c (Effect.Write x y) h =
+  act-outcome b j c (Effect.Save x y) h =
       pick-case Is (λ q. save-outcome b j c x y h (ltb-true _ _ q) (find (v .log) (d .count) x) refl)
       (λ q. refused (met early (h .rests) (save-above h (ltb-false _ _ q))))
   act-outcome (Body.Task t) j c (Effect.EndTask k) h = go-outcome t j k c (h .stands .2) h
@@ -386,18 +386,18 @@ module _ (p s : List ℕ) (d : Device) (early : Looked p s d) where
   unfolding saveRest placeFits saves isRefusal unlessRefused
   rest-outcome b j (Effect.Compute a x) h e = clash e refl
   rest-outcome b j (Effect.Jump k) h e = clash e refl
-  rest-outcome b j (Effect.Read a x) h e = clash e refl
-  rest-outcome b j (Effect.Write x y) h e = made early (saved h) refl
+  rest-outcome b j (Effect.Load a x) h e = clash e refl
+  rest-outcome b j (Effect.Save x y) h e = made early (saved h) refl
   rest-outcome b j (Effect.EndTask k) h e = clash e refl
   rest-outcome b j Effect.EndEvent h e = clash e refl
   rest-outcome b j Effect.Unknown h e = clash e refl
 
   module _ (rests : d .handler ≡ Resting) where
-    acts : (x : Place) (b : Body) (j : ℕ) → d .place ≡ x → Stands p v (d .count) x → bodySound p v x b j (effectAt p (number p b) j (d .regs)) ≡ Checked.Accepted
-        → Acts p v d x b j (effectAt p (number p b) j (d .regs))
+    acts : (x : Place) (b : Body) (j : ℕ) → d .place ≡ x → Stands p v (d .count) x → bodySound p v x b j (effectAt p (bodyNumber p b) j (d .registers)) ≡ Checked.Accepted
+        → Acts p v d x b j (effectAt p (bodyNumber p b) j (d .registers))
     acts x b j q h e =
         let is = body-passed p v x b j _ e in
-        record { rests = rests; place = q; stands = h; does = refl; sound = e; legal = instruction-leads p (number p b) j (d .regs) (is .there) (is .rule) }
+        record { rests = rests; place = q; stands = h; does = refl; sound = e; legal = instruction-leads p (bodyNumber p b) j (d .registers) (is .there) (is .rule) }
 
     place-outcome : (x : Place) → d .place ≡ x → Stands p v (d .count) x → Is (placeStep p v d x)
     unfolding placeStep
@@ -415,16 +415,16 @@ module _ (p s : List ℕ) (d : Device) (early : Looked p s d) where
   next-outcome Resting q = place-outcome q (d .place) refl (early .place)
   next-outcome (Storing c e x) q = handler-outcome q _ (handler-made p v d c e x (rw q at (early .handler)))
 
-pub outcome : (p s : List ℕ) (d : Device) → Outcome p s d (step p s d)
+pub step-outcome : (p s : List ℕ) (d : Device) → StepOutcome p s d (step p s d)
 unfolding step
-outcome p s d =
-    judged-case (Outcome p s d) (look p s d) (λ r e. refused (looked e)) (λ e. next-outcome p s d (look-passed p s d e) (d .handler) refl)
+step-outcome p s d =
+    judged-case (StepOutcome p s d) (look p s d) (λ r e. refused (looked e)) (λ e. next-outcome p s d (look-passed p s d e) (d .handler) refl)
 
 -- a refused step is its refusal and nothing else, for a reason
 pub why : (p s : List ℕ) (d : Device) (r : Refusal) → step p s d .answer ≡ Answer.Refused r → Why p s d r × (step p s d ≡ refuse d r)
 unfolding isRefusal unlessRefused
-why p s d r = go (step p s d) (outcome p s d)
+why p s d r = go (step p s d) (step-outcome p s d)
   where
-    go : (o : Out) → Outcome p s d o → o .answer ≡ Answer.Refused r → Why p s d r × (o ≡ refuse d r)
+    go : (o : Outcome) → StepOutcome p s d o → o .answer ≡ Answer.Refused r → Why p s d r × (o ≡ refuse d r)
     go o (refused {r = q} w) e = let f : q ≡ r = cc in (rw f at w, ap (refuse d) f)
     go o (made early m u) e = clash (ap isRefusal e) u

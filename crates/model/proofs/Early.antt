@@ -88,7 +88,7 @@ handler-passes p v (Storing c e x) m =
 pub record Fit (p : List ℕ) (v : Store) (d : Device) : Type 0 where
   pub control : Controlled p v
   pub on : d .on ≡ true
-  pub count-in : d .count ≤ v .pairs
+  pub count-in : d .count ≤ v .logPairs
   pub place : Stands p v (d .count) (d .place)
   pub handler : Attends p v (d .handler)
 

@@ -12,9 +12,9 @@ use Rattle.model.proofs.LogLaws.{addr, overlay, Distinct}
 use Rattle.model.proofs.RingLaws.{RecordsMade}
 use Rattle.model.specs.Accepted.{Known}
 use Rattle.model.specs.Device.{off, recordStores, taskStores, eventStores, taskLastStores, eventLastStores}
-use Rattle.model.specs.Program.{word, tasks, events, memoryWords, instructions, transaction, number, effectAt}
+use Rattle.model.specs.Program.{word, tasks, events, memoryWords, instructions, transaction, bodyNumber, effectAt}
 use Rattle.model.specs.Serial.{Serial, walk}
-use Rattle.model.specs.Store.{Store, Record, carried, after, firstWaiting, recordsFrom, distance, Phase, Task, Open, Count, Pending, PendingOpen, Head, Tail, Memory, Address, Value, Event, Datum, Write, none, to}
+use Rattle.model.specs.Store.{Store, Record, carried, slotAfter, firstWaiting, recordsFrom, distance, Phase, Task, Open, Count, Pending, PendingOpen, Head, Tail, Memory, Address, Value, Event, Datum, Write, none, to}
 use Rattle.model.specs.Types.{Body, Device, Effect, Free, Half, Handler, Place, Resting, Run, Storing}
 
 -- ---- the control words, but tail, which is the handler's
@@ -62,8 +62,8 @@ Has k (to (Datum i) x) = ⊥
 -- the parts have their lengths
 pub record Lengths (p : List ℕ) (v : Store) : Type 0 where
   pub memory-length : length (v .memory) ≡ memoryWords p
-  pub log-length : length (v .log) ≡ 2 * v .pairs
-  pub queue-length : length (v .queue) ≡ 2 * (v .records + 1)
+  pub log-length : length (v .log) ≡ 2 * v .logPairs
+  pub queue-length : length (v .queue) ≡ 2 * (v .queueRecords + 1)
 
 -- the serial run's task and open number are a task's
 pub record Tasked (p : List ℕ) (task open′ : ℕ) : Type 0 where
@@ -133,33 +133,33 @@ pub record EventCommit (k : Controls) (ws : List Write) (q t c y o : ℕ) : Type
   pub task-is : k .task ≡ y
   pub open-is : k .openNumber ≡ o
   pub open-none : k .openNumber ≡ 0
-  pub pending-is : (k .pending ≡ k .head) ⊎ ((k .pending ≡ after q (k .head)) × (k .head ≢ t))
+  pub pending-is : (k .pending ≡ k .head) ⊎ ((k .pending ≡ slotAfter q (k .head)) × (k .head ≢ t))
   pub lasting : Lasting k ws c
 
 -- ---- a body runs in phase 0
 
 -- it is word 9's task, or the event of the record at head with word 10 at 0; its register 0 was x at choosing
-abbrev pub Mine : ℕ → ℕ → ℕ → ℕ → List ℕ → ℕ → Body → Type 0
-Mine task open′ h t queue x (Body.Task n) = (n ≡ task) × (x ≡ 0)
-Mine task open′ h t queue x (Body.Event e) = (open′ ≡ 0) × ((h ≢ t) × ((word queue (2 * h) ≡ e) × (word queue (2 * h + 1) ≡ x)))
+abbrev pub ChosenBody : ℕ → ℕ → ℕ → ℕ → List ℕ → ℕ → Body → Type 0
+ChosenBody task open′ h t queue x (Body.Task n) = (n ≡ task) × (x ≡ 0)
+ChosenBody task open′ h t queue x (Body.Event e) = (open′ ≡ 0) × ((h ≢ t) × ((word queue (2 * h) ≡ e) × (word queue (2 * h + 1) ≡ x)))
 
 -- at instruction j with registers r and l log pairs; k bounds the instructions that it has run
 pub record Running (p : List ℕ) (memory log m : List ℕ) (k : ℕ) (b : Body) (x j : ℕ) (r : List ℕ) (l : ℕ) : Type 0 where
-  pub body-in : number p b < tasks p + events p
-  pub place-in : j < instructions p (number p b)
+  pub body-in : bodyNumber p b < tasks p + events p
+  pub place-in : j < instructions p (bodyNumber p b)
   pub addresses : (i : ℕ) → i < l → addr log i < memoryWords p
   pub distinct : Distinct log l
   -- so many instructions without a log lead from choosing to here
   pub ran : ℕ
   pub ran-in : ran ≤ k
-  pub same : (f : ℕ) → walk (ran + f) p (number p b) 0 (x ∷ replicate 7 0) m ≡ walk f p (number p b) j r (overlay memory log l)
+  pub same : (f : ℕ) → walk (ran + f) p (bodyNumber p b) 0 (x ∷ replicate 7 0) m ≡ walk f p (bodyNumber p b) j r (overlay memory log l)
 
 -- the first c stores of the body's end are made, at GO those of ws, at DONE those of us
 abbrev pub Ending : Controls → (ℕ → List Write) → List Write → ℕ → Effect → Type 0
 Ending k ws us c (Effect.Compute a x) = c ≡ 0
 Ending k ws us c (Effect.Jump a) = c ≡ 0
-Ending k ws us c (Effect.Read a x) = c ≡ 0
-Ending k ws us c (Effect.Write x y) = c ≡ 0
+Ending k ws us c (Effect.Load a x) = c ≡ 0
+Ending k ws us c (Effect.Save x y) = c ≡ 0
 Ending k ws us c (Effect.EndTask a) = (c < length (ws a)) × First (Has k) c (ws a)
 Ending k ws us c Effect.EndEvent = (c < length us) × First (Has k) c us
 Ending k ws us c Effect.Unknown = ⊥
@@ -168,8 +168,8 @@ Ending k ws us c Effect.Unknown = ⊥
 abbrev pub HalfSaved : List ℕ → List ℕ → ℕ → ℕ → Effect → Type 0
 HalfSaved p log pairs l (Effect.Compute a x) = ⊥
 HalfSaved p log pairs l (Effect.Jump k) = ⊥
-HalfSaved p log pairs l (Effect.Read a x) = ⊥
-HalfSaved p log pairs l (Effect.Write x y) = (x < memoryWords p) × ((l < pairs) × ((addr log l ≡ x) × ((i : ℕ) → i < l → addr log i ≢ x)))
+HalfSaved p log pairs l (Effect.Load a x) = ⊥
+HalfSaved p log pairs l (Effect.Save x y) = (x < memoryWords p) × ((l < pairs) × ((addr log l ≡ x) × ((i : ℕ) → i < l → addr log i ≢ x)))
 HalfSaved p log pairs l (Effect.EndTask k) = ⊥
 HalfSaved p log pairs l Effect.EndEvent = ⊥
 HalfSaved p log pairs l Effect.Unknown = ⊥
@@ -177,38 +177,38 @@ HalfSaved p log pairs l Effect.Unknown = ⊥
 -- ---- the whole, for the store v, the device d and the serial state z after k calls
 
 abbrev pub HeldAt : List ℕ → Store → Serial → Type 0
-HeldAt p v z = Held p (v .queue) (v .records) (v .head) (firstWaiting v) (v .tail) (z .records) (z .task) (z .openNumber)
+HeldAt p v z = Held p (v .queue) (v .queueRecords) (v .head) (firstWaiting v) (v .tail) (z .records) (z .task) (z .openNumber)
 
 abbrev pub StillAt : Store → Serial → Type 0
 StillAt v z = Still (v .phase) (v .task) (v .openNumber) (v .memory) (z .task) (z .openNumber) (z .memory)
 
 abbrev pub CopyingAt : List ℕ → Store → Serial → ℕ → Type 0
-CopyingAt p v z c = Copying p (v .pairs) (v .count) c (v .memory) (v .log) (z .memory)
+CopyingAt p v z c = Copying p (v .logPairs) (v .count) c (v .memory) (v .log) (z .memory)
 
 abbrev pub TaskCommitAt : List ℕ → Store → Serial → ℕ → Type 0
 TaskCommitAt p v z c = TaskCommit p (controls v) (taskLastStores v) c (z .task) (z .openNumber)
 
 abbrev pub EventCommitAt : Store → Serial → ℕ → Type 0
-EventCommitAt v z c = EventCommit (controls v) (eventLastStores v) (v .records) (v .tail) c (z .task) (z .openNumber)
+EventCommitAt v z c = EventCommit (controls v) (eventLastStores v) (v .queueRecords) (v .tail) c (z .task) (z .openNumber)
 
 -- a commit of which c stores are made
 abbrev pub CommitAt : List ℕ → Store → Serial → ℕ → Type 0
 CommitAt p v z c = CopyingAt p v z c × (TaskCommitAt p v z c ⊎ EventCommitAt v z c)
 
-abbrev pub MineAt : Store → ℕ → Body → Type 0
-MineAt v x b = Mine (v .task) (v .openNumber) (v .head) (v .tail) (v .queue) x b
+abbrev pub ChosenAt : Store → ℕ → Body → Type 0
+ChosenAt v x b = ChosenBody (v .task) (v .openNumber) (v .head) (v .tail) (v .queue) x b
 
 abbrev pub BodyAt : List ℕ → Store → Device → Serial → ℕ → Body → ℕ → Type 0
 BodyAt p v d z k b j =
-    StillAt v z × ((x : ℕ) × MineAt v x b × Running p (v .memory) (v .log) (z .memory) k b x j (d .regs) (d .count))
+    StillAt v z × ((x : ℕ) × ChosenAt v x b × Running p (v .memory) (v .log) (z .memory) k b x j (d .registers) (d .count))
 
 abbrev pub EndingAt : List ℕ → Store → Device → Body → ℕ → Effect → Type 0
-EndingAt p v d b c f = Ending (controls v) (λ a. taskStores p (number p b) a (d .count)) (eventStores v (d .count)) c f
+EndingAt p v d b c f = Ending (controls v) (λ a. taskStores p (bodyNumber p b) a (d .count)) (eventStores v (d .count)) c f
 
 abbrev pub Placed : List ℕ → Store → Device → Serial → ℕ → Place → Type 0
 Placed p v d z k (Free c) = (StillAt v z × (c ≡ 0)) ⊎ CommitAt p v z c
-Placed p v d z k (Run b j c) = BodyAt p v d z k b j × EndingAt p v d b c (effectAt p (number p b) j (d .regs))
-Placed p v d z k (Half b j) = BodyAt p v d z k b j × HalfSaved p (v .log) (v .pairs) (d .count) (effectAt p (number p b) j (d .regs))
+Placed p v d z k (Run b j c) = BodyAt p v d z k b j × EndingAt p v d b c (effectAt p (bodyNumber p b) j (d .registers))
+Placed p v d z k (Half b j) = BodyAt p v d z k b j × HalfSaved p (v .log) (v .logPairs) (d .count) (effectAt p (bodyNumber p b) j (d .registers))
 
 -- what a boot finds: nothing begun, or a commit to be made from its first pair on
 abbrev pub Resumes : List ℕ → Store → Serial → Type 0
@@ -222,8 +222,8 @@ pub record Off (p : List ℕ) (v : Store) (d : Device) (z : Serial) : Type 0 whe
 pub record On (p : List ℕ) (v : Store) (d : Device) (z : Serial) (k : ℕ) : Type 0 where
   pub held : HeldAt p v z
   pub on : d .on ≡ true
-  pub handles : Handles p (v .queue) (v .records) (v .head) (v .tail) (z .posted) (d .handler)
-  pub count-in : d .count ≤ v .pairs
+  pub handles : Handles p (v .queue) (v .queueRecords) (v .head) (v .tail) (z .posted) (d .handler)
+  pub count-in : d .count ≤ v .logPairs
   pub placed : Placed p v d z k (d .place)
 
 abbrev pub Inv : List ℕ → Store → Device → Serial → ℕ → Type 0

@@ -12,7 +12,7 @@ use lib.Dec.{eqb}
 use lib.ListN.{length, getD, set}
 use borrow.Author.Tests.{lt-ltb, le-ltb, eq-eqb}
 use Rattle.model.proofs.FirstStores.{First, storing-goes, storing-ends}
-use Rattle.model.proofs.Invariant.{Controls, controls, Has, Lengths, Waiting, AtWork, Handles, HeldAt, Lasting, Copying, CopyingAt, TaskCommitAt, EventCommitAt, CommitAt, MineAt, Running, Placed, On, Inv}
+use Rattle.model.proofs.Invariant.{Controls, controls, Has, Lengths, Waiting, AtWork, Handles, HeldAt, Lasting, Copying, CopyingAt, TaskCommitAt, EventCommitAt, CommitAt, ChosenAt, Running, Placed, On, Inv}
 use Rattle.model.proofs.LogLaws.{overlay, overlay-suc}
 use Rattle.model.proofs.RingLaws.{Between, known-between, forward, forward-le, distance-some, distance-head, forward-distance, distance-forward, tail-apart, slot-apart, records-append, records-same, known-append, RecordStore, event-store, datum-store, record-store, tail-store, record-stores, records-made, queueAfter, slot-stays, next-made}
 use Rattle.model.proofs.StoreLaws.{apply, requeued, retasked, Inside}
@@ -20,30 +20,30 @@ use Rattle.model.proofs.TestLaws.{pick-true, pick-false, below-or, must
 use Rattle.model.specs.Demand3.{Expected}
 use Rattle.model.specs.Calls.{Call, Step, acceptedEvents}
 use Rattle.model.specs.Accepted.{Known}
-use Rattle.model.specs.Device.{Out, out, refuse, judged, fresh, withHandler, moved, recordStores, handlerStep, storing, taskStores, eventStores, taskLastStores, eventLastStores, lastStores, pairSound, copyStep}
+use Rattle.model.specs.Device.{Outcome, out, refuse, judged, fresh, withHandler, withPlace, recordStores, handlerStep, storing, taskStores, eventStores, taskLastStores, eventLastStores, lastStores, pairSound, copyStep}
 use Rattle.model.specs.Program.{word, tasks, events, memoryWords}
 use Rattle.model.specs.Serial.{Serial, given, tell, withRecords, accept}
-use Rattle.model.specs.Store.{Store, address, value, logAt, Record, carried, after, distance, firstWaiting, slot, Phase, Task, Open, Head, Tail, Memory, Write, none, to}
+use Rattle.model.specs.Store.{Store, address, value, logAt, Record, carried, slotAfter, distance, firstWaiting, slot, Phase, Task, Open, Head, Tail, Memory, Write, none, to}
 use Rattle.model.specs.Test.{pick}
 use Rattle.model.specs.Types.{Answer, Body, Checked, Device, Free, Half, Handler, Place, Refusal, Resting, Run, Storing}
 
 -- a store to a word that is there
 abbrev pub InsideOf : List ℕ → Store → Write → Type 0
 InsideOf p v none = Unit {0}
-InsideOf p v (to w x) = Inside (memoryWords p) (v .pairs) (v .records) w
+InsideOf p v (to w x) = Inside (memoryWords p) (v .logPairs) (v .queueRecords) w
 
-pub record Kept (p : List ℕ) (v : Store) (z : Serial) (k : ℕ) (c : Call) (o : Out) : Type 0 where
+pub record Kept (p : List ℕ) (v : Store) (z : Serial) (k : ℕ) (c : Call) (o : Outcome) : Type 0 where
   pub inside : InsideOf p v (o .write)
-  pub after : Serial
-  pub tells : (fuel : ℕ) → k < fuel → tell fuel (given p (v .pairs) (v .records)) z c (o .answer) ≡ some after
+  pub serial : Serial
+  pub tells : (fuel : ℕ) → k < fuel → tell fuel (given p (v .logPairs) (v .queueRecords)) z c (o .answer) ≡ some serial
   pub expected : Expected c (o .answer)
-  pub inv : Inv p (apply v (o .write)) (o .device) after (suc k)
+  pub inv : Inv p (apply v (o .write)) (o .device) serial (suc k)
 
 -- a step that stores a word and leaves the serial run where it was
 pub stored-kept : {p : List ℕ} {v : Store} {z : Serial} {k : ℕ} (w : Write) (e : Device) → InsideOf p v w → Inv p (apply v w) e z (suc k)
     → Kept p v z k Step (out w e Answer.Stored)
 unfolding tell
-stored-kept {z = z} w e inside i = record { inside = inside; after = z; tells = λ fuel l. refl; expected = tt; inv = i }
+stored-kept {z = z} w e inside i = record { inside = inside; serial = z; tells = λ fuel l. refl; expected = tt; inv = i }
 
 -- ---- one call later
 
@@ -79,7 +79,7 @@ inv-later p v d z k (inr i) =
 -- a refused call
 pub refused-kept : (p : List ℕ) (v : Store) (d : Device) (z : Serial) (k : ℕ) (c : Call) (r : Refusal) → Expected c (Answer.Refused r) → Inv p v d z k → Kept p v z k c (refuse d r)
 unfolding tell apply
-refused-kept p v d z k c r e i = record { inside = tt; after = z; tells = λ fuel l. refl; expected = e; inv = inv-later p v d z k i }
+refused-kept p v d z k c r e i = record { inside = tt; serial = z; tells = λ fuel l. refl; expected = e; inv = inv-later p v d z k i }
 
 -- ---- where the waiting records start
 
@@ -100,7 +100,7 @@ known-waiting {p = p} {queue = queue} {q = q} {f = f} {t = t} w x l b =
 -- as many records as fit behind tail by head fit by the first waiting one, too
 module _ (p : List ℕ) (v : Store) (d : Device) (z : Serial) (k : ℕ) (i : On p v d z k) where
   abbrev Room : ℕ → Type 0
-  Room n = distance (v .records) (v .head) (v .tail) + n ≤ v .records → distance (v .records) (firstWaiting v) (v .tail) + n ≤ v .records
+  Room n = distance (v .queueRecords) (v .head) (v .tail) + n ≤ v .queueRecords → distance (v .queueRecords) (firstWaiting v) (v .tail) + n ≤ v .queueRecords
 
   room-first : (n : ℕ) → Room n
   room-first n = by-place (d .place) (i .placed)
@@ -113,11 +113,11 @@ module _ (p : List ℕ) (v : Store) (d : Device) (z : Serial) (k : ℕ) (i : On 
       by-place (Free c) (inr (y, inl t)) = by-head 1 (t .phase-is) refl
       by-place (Free c) (inr (y, inr t)) = λ room. rw (first-pending v (t .phase-is)) (from-pending (t .pending-is) room)
         where
-          from-pending : (v .pending ≡ v .head) ⊎ ((v .pending ≡ after (v .records) (v .head)) × (v .head ≢ v .tail))
-              → distance (v .records) (v .head) (v .tail) + n ≤ v .records → distance (v .records) (v .pending) (v .tail) + n ≤ v .records
+          from-pending : (v .pending ≡ v .head) ⊎ ((v .pending ≡ slotAfter (v .queueRecords) (v .head)) × (v .head ≢ v .tail))
+              → distance (v .queueRecords) (v .head) (v .tail) + n ≤ v .queueRecords → distance (v .queueRecords) (v .pending) (v .tail) + n ≤ v .queueRecords
           from-pending (inl e) room = rw e room
           from-pending (inr (e, ne)) room =
-              let fewer = distance-head (v .records) (v .head) (v .tail) (i .held .head-in) (i .held .waits .tail-in) ne in
+              let fewer = distance-head (v .queueRecords) (v .head) (v .tail) (i .held .head-in) (i .held .waits .tail-in) ne in
               rw e (omega (arith, fewer, room))
       by-place (Run b j c) ((s, r), e) = by-head 0 (s .phase-is) refl
       by-place (Half b j) ((s, r), e) = by-head 0 (s .phase-is) refl
@@ -129,10 +129,10 @@ abbrev pub queued : Serial → List Record → List Record → Serial
 queued z rs x = record { memory = z .memory; task = z .task; openNumber = z .openNumber; records = rs; posted = x }
 
 module _ (p : List ℕ) (v : Store) (d : Device) (z : Serial) (k : ℕ) (queue : List ℕ) (t : ℕ) where
-  abbrev pub MineStays : Type 0
-  MineStays = (b : Body) (x : ℕ) → MineAt v x b → MineAt (requeued v queue t) x b
+  abbrev pub ChosenStays : Type 0
+  ChosenStays = (b : Body) (x : ℕ) → ChosenAt v x b → ChosenAt (requeued v queue t) x b
 
-  pub placed-requeued : (h : Handler) (rs : List Record) (y : List Record) → MineStays → (v .head ≢ v .tail → v .head ≢ t) → (x : Place)
+  pub placed-requeued : (h : Handler) (rs : List Record) (y : List Record) → ChosenStays → (v .head ≢ v .tail → v .head ≢ t) → (x : Place)
       → Placed p v d z k x → Placed p (requeued v queue t) (withHandler d h) (queued z rs y) (suc k) x
   unfolding withHandler taskStores eventStores taskLastStores eventLastStores
   placed-requeued h rs y f g (Free c) (inl s) = inl s
@@ -155,23 +155,23 @@ module _ (p : List ℕ) (v : Store) (d : Device) (z : Serial) (k : ℕ) (queue :
 
 -- the stores of a handler at work on the records rs, c of which are made
 module _ (p : List ℕ) (v : Store) (lengths : Lengths p v) (d : Device) (z : Serial) (k : ℕ) (i : On p v d z k) (rs : List Record) (c : ℕ)
-    (a : AtWork p (v .queue) (v .records) (v .head) (v .tail) (z .posted) c rs) where
+    (a : AtWork p (v .queue) (v .queueRecords) (v .head) (v .tail) (z .posted) c rs) where
   -- a slot that its stores go to isn't head's, if a record waits there, nor a waiting one
-  head-apart : v .head ≢ v .tail → (n : ℕ) → n < length rs → v .head ≢ forward (v .records) (v .tail) n
+  head-apart : v .head ≢ v .tail → (n : ℕ) → n < length rs → v .head ≢ forward (v .queueRecords) (v .tail) n
   unfolding forward
   head-apart ne n l =
-      slot-apart (v .records) (v .head) (v .tail) n (i .held .head-in) (i .held .waits .tail-in) (omega (arith, a .room)) 0
-      (distance-some (v .records) (v .head) (v .tail) (i .held .head-in) (i .held .waits .tail-in) ne)
+      slot-apart (v .queueRecords) (v .head) (v .tail) n (i .held .head-in) (i .held .waits .tail-in) (omega (arith, a .room)) 0
+      (distance-some (v .queueRecords) (v .head) (v .tail) (i .held .head-in) (i .held .waits .tail-in) ne)
 
-  waiting-apart : (j : ℕ) → j < distance (v .records) (firstWaiting v) (v .tail) → (n : ℕ) → n < length rs
-      → forward (v .records) (firstWaiting v) j ≢ forward (v .records) (v .tail) n
+  waiting-apart : (j : ℕ) → j < distance (v .queueRecords) (firstWaiting v) (v .tail) → (n : ℕ) → n < length rs
+      → forward (v .queueRecords) (firstWaiting v) j ≢ forward (v .queueRecords) (v .tail) n
   waiting-apart j l n m =
-      slot-apart (v .records) (firstWaiting v) (v .tail) n (i .held .waits .first-in) (i .held .waits .tail-in)
+      slot-apart (v .queueRecords) (firstWaiting v) (v .tail) n (i .held .waits .first-in) (i .held .waits .tail-in)
       (omega (arith, room-first p v d z k i (length rs) (a .room))) j l
 
   -- ---- a store before the last
 
-  module _ (w : Write) (s : RecordStore (v .records) (v .tail) rs w) where
+  module _ (w : Write) (s : RecordStore (v .queueRecords) (v .tail) rs w) where
     abbrev queue′ : List ℕ
     queue′ = queueAfter (v .queue) w
 
@@ -179,40 +179,40 @@ module _ (p : List ℕ) (v : Store) (lengths : Lengths p v) (d : Device) (z : Se
     unfolding apply queueAfter
     store-is = go w s
       where
-        go : (w : Write) → RecordStore (v .records) (v .tail) rs w → apply v w ≡ requeued v (queueAfter (v .queue) w) (v .tail)
+        go : (w : Write) → RecordStore (v .queueRecords) (v .tail) rs w → apply v w ≡ requeued v (queueAfter (v .queue) w) (v .tail)
         go w (event-store n r l m) = refl
         go w (datum-store n r l m) = refl
 
     store-inside : InsideOf p v w
     store-inside = go w s
       where
-        below : (n : ℕ) → n < length rs → forward (v .records) (v .tail) n ≤ v .records
-        below n l = forward-le (v .records) (v .tail) n (i .held .waits .tail-in) (omega (arith, a .room))
+        below : (n : ℕ) → n < length rs → forward (v .queueRecords) (v .tail) n ≤ v .queueRecords
+        below n l = forward-le (v .queueRecords) (v .tail) n (i .held .waits .tail-in) (omega (arith, a .room))
 
-        go : (w : Write) → RecordStore (v .records) (v .tail) rs w → InsideOf p v w
+        go : (w : Write) → RecordStore (v .queueRecords) (v .tail) rs w → InsideOf p v w
         go w (event-store n r l m) = below n l
         go w (datum-store n r l m) = below n l
 
-    mine-stays : MineStays p v d z k queue′ (v .tail)
+    chosen-stays : ChosenStays p v d z k queue′ (v .tail)
     unfolding slot
-    mine-stays (Body.Task n) x m = m
-    mine-stays (Body.Event e) x (o, (ne, (f, g))) =
-        let same = slot-stays (v .queue) (v .records) (v .tail) rs w s (v .head) (head-apart ne) in
+    chosen-stays (Body.Task n) x m = m
+    chosen-stays (Body.Event e) x (o, (ne, (f, g))) =
+        let same = slot-stays (v .queue) (v .queueRecords) (v .tail) rs w s (v .head) (head-apart ne) in
         (o, (ne, (ap (λ (r : Record). r .event) same ∙ f, ap (λ (r : Record). r .datum) same ∙ g)))
 
-    waits-stay : Waiting p queue′ (v .records) (firstWaiting v) (v .tail) (z .records)
+    waits-stay : Waiting p queue′ (v .queueRecords) (firstWaiting v) (v .tail) (z .records)
     waits-stay =
         let q = i .held .waits in
         record {
           first-in = q .first-in;
           tail-in = q .tail-in;
           same =
-              records-same (v .queue) queue′ (v .records) _ (firstWaiting v)
-              (λ j l. slot-stays (v .queue) (v .records) (v .tail) rs w s _ (waiting-apart j l)) ∙ q .same;
+              records-same (v .queue) queue′ (v .queueRecords) _ (firstWaiting v)
+              (λ j l. slot-stays (v .queue) (v .queueRecords) (v .tail) rs w s _ (waiting-apart j l)) ∙ q .same;
           known = q .known;
         }
 
-    pub record-kept : (h : Handler) → Handles p queue′ (v .records) (v .head) (v .tail) (z .posted) h → Kept p v z k Step (out w (withHandler d h) Answer.Stored)
+    pub record-kept : (h : Handler) → Handles p queue′ (v .queueRecords) (v .head) (v .tail) (z .posted) h → Kept p v z k Step (out w (withHandler d h) Answer.Stored)
     unfolding withHandler firstWaiting
     record-kept h hs =
         stored-kept w (withHandler d h) store-inside
@@ -223,38 +223,38 @@ module _ (p : List ℕ) (v : Store) (lengths : Lengths p v) (d : Device) (z : Se
           on = i .on;
           handles = hs;
           count-in = i .count-in;
-          placed = placed-requeued p v d z k queue′ (v .tail) h (z .records) (z .posted) mine-stays (λ ne. ne) (d .place) (i .placed);
+          placed = placed-requeued p v d z k queue′ (v .tail) h (z .records) (z .posted) chosen-stays (λ ne. ne) (d .place) (i .placed);
         })))
 
   -- ---- the last, after which the records wait
 
   module _ (last : c ≡ 2 * length rs) (some-record : 0 < length rs) where
     abbrev tail′ : ℕ
-    tail′ = forward (v .records) (v .tail) (length rs)
+    tail′ = forward (v .queueRecords) (v .tail) (length rs)
 
     -- head isn't the new tail
     tail-free : v .head ≢ tail′
-    tail-free = tail-apart (v .records) (v .head) (v .tail) (length rs) (i .held .head-in) (i .held .waits .tail-in) (a .room) (omega arith)
+    tail-free = tail-apart (v .queueRecords) (v .head) (v .tail) (length rs) (i .held .head-in) (i .held .waits .tail-in) (a .room) (omega arith)
 
     held-longer : HeldAt p (requeued v (v .queue) tail′) (withRecords z rs)
     unfolding firstWaiting withRecords
     held-longer =
         let q = i .held .waits in
         let room = room-first p v d z k i (length rs) (a .room) in
-        let n = distance (v .records) (firstWaiting v) (v .tail) in
-        let more = distance-forward (v .records) (firstWaiting v) (v .tail) (length rs) (q .first-in) (q .tail-in) room in
-        let behind = forward-distance (v .records) (firstWaiting v) (v .tail) (q .first-in) (q .tail-in) in
+        let n = distance (v .queueRecords) (firstWaiting v) (v .tail) in
+        let more = distance-forward (v .queueRecords) (firstWaiting v) (v .tail) (length rs) (q .first-in) (q .tail-in) room in
+        let behind = forward-distance (v .queueRecords) (firstWaiting v) (v .tail) (q .first-in) (q .tail-in) in
         record {
           tasked = i .held .tasked;
           head-in = i .held .head-in;
           waits =
               record {
                 first-in = q .first-in;
-                tail-in = forward-le (v .records) (v .tail) (length rs) (q .tail-in) (omega (arith, a .room));
+                tail-in = forward-le (v .queueRecords) (v .tail) (length rs) (q .tail-in) (omega (arith, a .room));
                 same =
                     rw more
-                    (records-append (v .queue) (v .records) n (length rs) (firstWaiting v)
-                    ∙ rw (q .same, behind, records-made (v .queue) (v .records) rs (v .tail) c last (a .made)));
+                    (records-append (v .queue) (v .queueRecords) n (length rs) (firstWaiting v)
+                    ∙ rw (q .same, behind, records-made (v .queue) (v .queueRecords) rs (v .tail) c last (a .made)));
                 known = known-append p (z .records) rs (q .known) (a .known);
               };
         }
@@ -268,46 +268,46 @@ module _ (p : List ℕ) (v : Store) (lengths : Lengths p v) (d : Device) (z : Se
           on = i .on;
           handles = tt;
           count-in = i .count-in;
-          placed = placed-requeued p v d z k (v .queue) tail′ Resting (z .records ++ rs) (z .posted) mine (λ _. tail-free) (d .place) (i .placed);
+          placed = placed-requeued p v d z k (v .queue) tail′ Resting (z .records ++ rs) (z .posted) chosen (λ _. tail-free) (d .place) (i .placed);
         })
       where
-        mine : MineStays p v d z k (v .queue) tail′
-        mine (Body.Task n) y m = m
-        mine (Body.Event n) y (o, (ne, m)) = (o, (tail-free, m))
+        chosen : ChosenStays p v d z k (v .queue) tail′
+        chosen (Body.Task n) y m = m
+        chosen (Body.Event n) y (o, (ne, m)) = (o, (tail-free, m))
 
     pub tail-kept : length rs ≡ acceptedEvents Answer.Accepted → Kept p v z k Step (out (to Tail tail′) (withHandler d Resting) Answer.Accepted)
     unfolding apply tell accept
     tail-kept one =
         record {
           inside = tt;
-          after = withRecords z rs;
+          serial = withRecords z rs;
           tells = λ fuel l. pick-true _ _ (eq-eqb _ _ (ap length (a .posted-is) ∙ one)) ∙ ap (λ (xs : List Record). some (withRecords z xs)) (a .posted-is);
           expected = tt;
           inv = tail-stored;
         }
 
 module _ (p : List ℕ) (v : Store) (lengths : Lengths p v) (d : Device) (z : Serial) (k : ℕ) (i : On p v d z k) (c e x : ℕ)
-    (a : AtWork p (v .queue) (v .records) (v .head) (v .tail) (z .posted) c (carried e x)) where
+    (a : AtWork p (v .queue) (v .queueRecords) (v .head) (v .tail) (z .posted) c (carried e x)) where
   abbrev stores : List Write
-  stores = recordStores (v .records) (v .tail) (carried e x)
+  stores = recordStores (v .queueRecords) (v .tail) (carried e x)
 
   abbrev many : ℕ
   many = 2 * length (carried e x)
 
   stores-are : length stores ≡ many + 1
-  stores-are = record-stores (v .records) (carried e x) (v .tail)
+  stores-are = record-stores (v .queueRecords) (carried e x) (v .tail)
 
   ends : c ≡ many → Kept p v z k Step (handlerStep v d c e x)
   unfolding handlerStep carried acceptedEvents
   ends last =
-      rw (storing-ends stores c _ _ _ (omega (arith, stores-are)), tail-store (v .records) (carried e x) (v .tail) c last)
+      rw (storing-ends stores c _ _ _ (omega (arith, stores-are)), tail-store (v .queueRecords) (carried e x) (v .tail) c last)
       (tail-kept p v lengths d z k i (carried e x) c a last (omega arith) refl)
 
   goes : c < many → Kept p v z k Step (handlerStep v d c e x)
   unfolding handlerStep
   goes before =
       rw (storing-goes stores c _ _ _ (omega (arith, stores-are)))
-      (record-kept p v lengths d z k i (carried e x) c a (getD stores c none) (record-store (v .records) (carried e x) (v .tail) c before) (Storing (c + 1) e x)
+      (record-kept p v lengths d z k i (carried e x) c a (getD stores c none) (record-store (v .queueRecords) (carried e x) (v .tail) c before) (Storing (c + 1) e x)
       (record {
         known = a .known;
         room = a .room;
@@ -315,7 +315,7 @@ module _ (p : List ℕ) (v : Store) (lengths : Lengths p v) (d : Device) (z : Se
         inside = omega (arith, stores-are);
         made =
             rw (add-one c)
-            (next-made (v .queue) (v .records) (lengths .queue-length) (carried e x) (v .tail) c (i .held .waits .tail-in) (omega (arith, a .room)) before (a .made));
+            (next-made (v .queue) (v .queueRecords) (lengths .queue-length) (carried e x) (v .tail) c (i .held .waits .tail-in) (omega (arith, a .room)) before (a .made));
       }))
 
   pub handler-kept : Kept p v z k Step (handlerStep v d c e x)
@@ -335,7 +335,7 @@ abbrev pub Remaining : Store → ℕ → ℕ → Type 0
 Remaining v c r = ((v .phase ≡ 0) × (r ≡ 0)) ⊎ ((v .phase ≢ 0) × (r + c ≡ v .count + length (lastStores v)))
 
 -- a commit's store, after which r are left
-pub record Turn (v : Store) (o : Out) (r : ℕ) : Type 0 where
+pub record LeavesStores (v : Store) (o : Outcome) (r : ℕ) : Type 0 where
   pub answer-is : o .answer ≡ Answer.Stored
   pub on : o .device .on ≡ true
   pub rests : o .device .handler ≡ Resting
@@ -355,11 +355,11 @@ module _ (p : List ℕ) (v : Store) (d : Device) (rest : d .handler ≡ Resting)
     (m : CopyingAt p v z c) where
   -- the device one store later
   abbrev further : Device
-  further = moved d (d .regs) (Free (c + 1)) (d .count)
+  further = withPlace d (d .registers) (Free (c + 1)) (d .count)
 
   -- the same at another store: the commit goes on
-  goes-on : (u : Store) → HeldAt p u z → u .pairs ≡ v .pairs → CommitAt p u z (c + 1) → Inv p u further z (suc k)
-  unfolding moved
+  goes-on : (u : Store) → HeldAt p u z → u .logPairs ≡ v .logPairs → CommitAt p u z (c + 1) → Inv p u further z (suc k)
+  unfolding withPlace
   goes-on u held pairs commit =
       inr (record { held = held; on = i .on; handles = rw rest tt; count-in = omega (arith, i .count-in); placed = inr commit })
 
@@ -370,7 +370,7 @@ module _ (p : List ℕ) (v : Store) (d : Device) (rest : d .handler ≡ Resting)
       ∙ ap (λ (x : Checked). judged x d (out (to (Memory (address v c)) (value v c)) further Answer.Stored))
       (must-true (Refusal.Control (logAt (memoryWords p) + 2 * c)) (lt-ltb _ _ (m .addresses c h)))
 
-  copied-one : c < v .count → Copying p (v .pairs) (v .count) (c + 1) (set (v .memory) (address v c) (value v c)) (v .log) (z .memory)
+  copied-one : c < v .count → Copying p (v .logPairs) (v .count) (c + 1) (set (v .memory) (address v c) (value v c)) (v .log) (z .memory)
   copied-one h =
       record {
         count-in = m .count-in;
@@ -482,7 +482,7 @@ module _ (p : List ℕ) (v : Store) (d : Device) (rest : d .handler ≡ Resting)
     unfolding apply eventLastStores
     head-stored at =
         let u = apply v (to Head (v .pending)) in
-        let waits : Waiting p (v .queue) (v .records) (firstWaiting u) (v .tail) (z .records) =
+        let waits : Waiting p (v .queue) (v .queueRecords) (firstWaiting u) (v .tail) (z .records) =
         rw (first-pending u (s .phase-is)) (rw (first-pending v (s .phase-is)) at (i .held .waits)) in
         stored-kept (to Head (v .pending)) further tt
         (goes-on u (record { tasked = i .held .tasked; head-in = rw (first-pending v (s .phase-is)) at (i .held .waits .first-in); waits = waits }) refl (
@@ -544,18 +544,18 @@ module _ (p : List ℕ) (v : Store) (d : Device) (rest : d .handler ≡ Resting)
   none-left h ws e f r (inl n) = absurd (omega arith)
   none-left h ws e f r (inr n) = let l : length (lastStores v) ≡ length ws = ap length e in omega arith
 
-  turn-copy : (r : ℕ) → Remaining v c (suc r) → c < v .count → Turn v (copyStep p v d c) r
-  unfolding apply moved lastStores taskLastStores eventLastStores
-  turn-copy r n h =
+  leaves-copy : (r : ℕ) → Remaining v c (suc r) → c < v .count → LeavesStores v (copyStep p v d c) r
+  unfolding apply withPlace lastStores taskLastStores eventLastStores
+  leaves-copy r n h =
       rw (copy-is h)
       (record { answer-is = refl; on = i .on; rests = rest; place = c + 1; place-is = refl; remaining = less-left r n })
 
-  turn-task : v .count ≤ c → v .phase ≡ 1 → (j : ℕ) → c - v .count ≡ j → j < length (taskLastStores v) → (r : ℕ) → Remaining v c (suc r)
-      → Turn v (storing (taskLastStores v) j further (fresh true) Answer.Stored) r
-  unfolding taskLastStores eventLastStores lastStores apply moved storing pick fresh
-  turn-task h e zero at more r n = record { answer-is = refl; on = i .on; rests = rest; place = c + 1; place-is = refl; remaining = less-left r n }
-  turn-task h e (suc zero) at more r n = record { answer-is = refl; on = i .on; rests = rest; place = c + 1; place-is = refl; remaining = less-left r n }
-  turn-task h e (suc (suc zero)) at more r n =
+  leaves-task : v .count ≤ c → v .phase ≡ 1 → (j : ℕ) → c - v .count ≡ j → j < length (taskLastStores v) → (r : ℕ) → Remaining v c (suc r)
+      → LeavesStores v (storing (taskLastStores v) j further (fresh true) Answer.Stored) r
+  unfolding taskLastStores eventLastStores lastStores apply withPlace storing pick fresh
+  leaves-task h e zero at more r n = record { answer-is = refl; on = i .on; rests = rest; place = c + 1; place-is = refl; remaining = less-left r n }
+  leaves-task h e (suc zero) at more r n = record { answer-is = refl; on = i .on; rests = rest; place = c + 1; place-is = refl; remaining = less-left r n }
+  leaves-task h e (suc (suc zero)) at more r n =
       record {
         answer-is = refl;
         on = refl;
@@ -564,13 +564,13 @@ module _ (p : List ℕ) (v : Store) (d : Device) (rest : d .handler ≡ Resting)
         place-is = refl;
         remaining = inl (refl, none-left h _ (task-last-is v e) (omega arith) r n);
       }
-  turn-task h e (suc (suc (suc j))) at more r n = absurd (omega arith)
+  leaves-task h e (suc (suc (suc j))) at more r n = absurd (omega arith)
 
-  turn-event : v .count ≤ c → v .phase ≡ 2 → (j : ℕ) → c - v .count ≡ j → j < length (eventLastStores v) → (r : ℕ) → Remaining v c (suc r)
-      → Turn v (storing (eventLastStores v) j further (fresh true) Answer.Stored) r
-  unfolding taskLastStores eventLastStores lastStores apply moved storing pick fresh
-  turn-event h e zero at more r n = record { answer-is = refl; on = i .on; rests = rest; place = c + 1; place-is = refl; remaining = less-left r n }
-  turn-event h e (suc zero) at more r n =
+  leaves-event : v .count ≤ c → v .phase ≡ 2 → (j : ℕ) → c - v .count ≡ j → j < length (eventLastStores v) → (r : ℕ) → Remaining v c (suc r)
+      → LeavesStores v (storing (eventLastStores v) j further (fresh true) Answer.Stored) r
+  unfolding taskLastStores eventLastStores lastStores apply withPlace storing pick fresh
+  leaves-event h e zero at more r n = record { answer-is = refl; on = i .on; rests = rest; place = c + 1; place-is = refl; remaining = less-left r n }
+  leaves-event h e (suc zero) at more r n =
       record {
         answer-is = refl;
         on = refl;
@@ -579,15 +579,15 @@ module _ (p : List ℕ) (v : Store) (d : Device) (rest : d .handler ≡ Resting)
         place-is = refl;
         remaining = inl (refl, none-left h _ (event-last-is v e) (omega arith) r n);
       }
-  turn-event h e (suc (suc j)) at more r n = absurd (omega arith)
+  leaves-event h e (suc (suc j)) at more r n = absurd (omega arith)
 
-  turn-last : (TaskCommitAt p v z c ⊎ EventCommitAt v z c) → (r : ℕ) → Remaining v c (suc r) → v .count ≤ c → Turn v (copyStep p v d c) r
-  turn-last (inl s) r n h =
+  leaves-last : (TaskCommitAt p v z c ⊎ EventCommitAt v z c) → (r : ℕ) → Remaining v c (suc r) → v .count ≤ c → LeavesStores v (copyStep p v d c) r
+  leaves-last (inl s) r n h =
       let l = s .lasting in
-      rw (last-is h (l .last) (l .last-is), task-last-is v (s .phase-is)) (turn-task h (s .phase-is) (l .last) (l .last-is) (l .inside) r n)
-  turn-last (inr s) r n h =
+      rw (last-is h (l .last) (l .last-is), task-last-is v (s .phase-is)) (leaves-task h (s .phase-is) (l .last) (l .last-is) (l .inside) r n)
+  leaves-last (inr s) r n h =
       let l = s .lasting in
-      rw (last-is h (l .last) (l .last-is), event-last-is v (s .phase-is)) (turn-event h (s .phase-is) (l .last) (l .last-is) (l .inside) r n)
+      rw (last-is h (l .last) (l .last-is), event-last-is v (s .phase-is)) (leaves-event h (s .phase-is) (l .last) (l .last-is) (l .inside) r n)
 
-  pub turn : (TaskCommitAt p v z c ⊎ EventCommitAt v z c) → (r : ℕ) → Remaining v c (suc r) → Turn v (copyStep p v d c) r
-  turn t r n = below-or c (v .count) (turn-copy r n) (turn-last t r n)
+  pub leaves-stores : (TaskCommitAt p v z c ⊎ EventCommitAt v z c) → (r : ℕ) → Remaining v c (suc r) → LeavesStores v (copyStep p v d c) r
+  leaves-stores t r n = below-or c (v .count) (leaves-copy r n) (leaves-last t r n)

@@ -10,20 +10,20 @@ use native.Mathlib.Omega.{arith}
 use borrow.Author.Tests.{lt-ltb, eqb-true, eqb-false, eq-eqb, ltb-true, not-true}
 use lib.ListN.{length, set, replicate}
 use lib.Seq.{getD-set-other, getD-set-same}
-use Rattle.model.proofs.Invariant.{Lengths, Waiting, StillAt, Copying, MineAt, Running, EndingAt, HalfSaved, On, Inv}
+use Rattle.model.proofs.Invariant.{Lengths, Waiting, StillAt, Copying, ChosenAt, Running, EndingAt, HalfSaved, On, Inv}
 use Rattle.model.proofs.Kept.{Kept, refused-kept, stored-kept, copies-left, running-later, known-waiting, first-head, first-pending}
 use Rattle.model.proofs.LogLaws.{addr, overlay, overlay-zero, overlay-other, overlay-elsewhere, overlay-pair, overlay-overwrite, overlay-append, Distinct, find-pair, find-nothing}
-use Rattle.model.proofs.RingLaws.{after-le, between-first, records-head}
+use Rattle.model.proofs.RingLaws.{slot-after-le, between-first, records-head}
 use Rattle.model.proofs.StoreLaws.{apply, relogged, recommitted, Inside}
 use Rattle.model.proofs.TestLaws.{pick-case, pick-true, below-or, and-true, and-left, and-right, must-true}
 use Rattle.model.specs.Accepted.{Known, LegalEffect, Sound}
 use Rattle.model.specs.Answer.{refusal}
 use Rattle.model.specs.Calls.{Step}
 use Rattle.model.specs.Demand3.{isIn, mayMeet}
-use Rattle.model.specs.Device.{Out, out, judged, fresh, moved, begun, storing, taskStores, eventStores, taskLastStores, eventLastStores, recordSound, chooseStep, shown, saveStep, act, saveRest}
-use Rattle.model.specs.Program.{word, tasks, events, memoryWords, instructions, transaction, number, effectAt, newOpen}
+use Rattle.model.specs.Device.{Outcome, out, judged, fresh, withPlace, begun, storing, taskStores, eventStores, taskLastStores, eventLastStores, recordSound, chooseStep, shown, saveStep, act, saveRest}
+use Rattle.model.specs.Program.{word, tasks, events, memoryWords, instructions, transaction, bodyNumber, effectAt, newOpen}
 use Rattle.model.specs.Serial.{Serial, went, advance, walk, walkBody, afterTask, afterEvent, serveOldest, runBody, tell}
-use Rattle.model.specs.Store.{Store, event, datum, after, firstWaiting, slot, recordsFrom, distance, find, Word, Phase, Count, Pending, PendingOpen, Address, Value, Write, none, to}
+use Rattle.model.specs.Store.{Store, event, datum, slotAfter, firstWaiting, slot, recordsFrom, distance, find, Word, Phase, Count, Pending, PendingOpen, Address, Value, Write, none, to}
 use Rattle.model.specs.Test.{pick, _or_}
 use Rattle.model.specs.Types.{Answer, Body, Checked, Device, Effect, Found, Half, Refusal, Run}
 
@@ -32,8 +32,8 @@ ending-none : (p : List ℕ) (v : Store) (d : Device) (b : Body) (i j : ℕ) (f 
 unfolding taskStores eventStores
 ending-none p v d b i j (Effect.Compute a x) h = refl
 ending-none p v d b i j (Effect.Jump k) h = refl
-ending-none p v d b i j (Effect.Read a x) h = refl
-ending-none p v d b i j (Effect.Write x y) h = refl
+ending-none p v d b i j (Effect.Load a x) h = refl
+ending-none p v d b i j (Effect.Save x y) h = refl
 ending-none p v d b i j (Effect.EndTask k) h = (omega arith, tt)
 ending-none p v d b i j Effect.EndEvent h = (omega arith, tt)
 ending-none p v d b i j Effect.Unknown h = absurd h
@@ -42,12 +42,12 @@ module _ (p : List ℕ) (sound : Sound p) (v : Store) (lengths : Lengths p v) (d
     (i : On p v d z k) (still : StillAt v z) where
   -- a body goes on at instruction j
   runs : (log : List ℕ) (b : Body) (x j : ℕ) (r : List ℕ) (l : ℕ)
-      → MineAt v x b
+      → ChosenAt v x b
       → Running p (v .memory) log (z .memory) (suc k) b x j r l
-      → l ≤ v .pairs
-      → Inv p (relogged v log) (moved d r (Run b j 0) l) z (suc k)
-  unfolding moved firstWaiting
-  runs log b x j r l mine h s =
+      → l ≤ v .logPairs
+      → Inv p (relogged v log) (withPlace d r (Run b j 0) l) z (suc k)
+  unfolding withPlace firstWaiting
+  runs log b x j r l chosen h s =
       inr
       (record {
         held = i .held;
@@ -55,27 +55,27 @@ module _ (p : List ℕ) (sound : Sound p) (v : Store) (lengths : Lengths p v) (d
         handles = i .handles;
         count-in = s;
         placed = (
-          (still, (x, mine, h)),
-          ending-none p (relogged v log) (moved d r (Run b j 0) l) b (number p b) j (effectAt p (number p b) j r) (sound .legal (number p b) j r (h .body-in) (h .place-in)),
+          (still, (x, chosen, h)),
+          ending-none p (relogged v log) (withPlace d r (Run b j 0) l) b (bodyNumber p b) j (effectAt p (bodyNumber p b) j r) (sound .legal (bodyNumber p b) j r (h .body-in) (h .place-in)),
         );
       })
 
   -- ---- choosing
 
-  begins : (b : Body) (x : ℕ) → MineAt v x b → number p b < tasks p + events p
+  begins : (b : Body) (x : ℕ) → ChosenAt v x b → bodyNumber p b < tasks p + events p
       → Kept p v z k Step (out none (begun d b x) (Answer.Chosen b))
   unfolding begun tell apply
-  begins b x mine h =
+  begins b x chosen h =
       record {
         inside = tt;
-        after = z;
+        serial = z;
         tells = λ fuel l. refl;
         expected = tt;
         inv =
-            runs (v .log) b x 0 (x ∷ replicate 7 0) 0 mine
+            runs (v .log) b x 0 (x ∷ replicate 7 0) 0 chosen
             (record {
               body-in = h;
-              place-in = sound .some-instruction (number p b) h;
+              place-in = sound .some-instruction (bodyNumber p b) h;
               addresses = λ n l. absurd (omega arith);
               distinct = record { apart = λ n m l s. absurd (omega arith) };
               ran = 0;
@@ -85,9 +85,9 @@ module _ (p : List ℕ) (sound : Sound p) (v : Store) (lengths : Lengths p v) (d
       }
 
   pub choose-kept : Kept p v z k Step (chooseStep p v d)
-  unfolding chooseStep judged recordSound number
+  unfolding chooseStep judged recordSound bodyNumber
   choose-kept =
-      pick-case (λ (o : Out). Kept p v z k Step o)
+      pick-case (λ (o : Outcome). Kept p v z k Step o)
       (λ e.
       let open′ : v .openNumber ≡ 0 = eqb-true _ _ (and-left _ _ e) in
       let some-record : v .head ≢ v .tail = eqb-false _ _ (not-true _ (and-right _ _ e)) in
@@ -119,30 +119,30 @@ shown-is v l y apart h = go (find (v .log) l y) refl
 
 module _ (p : List ℕ) (sound : Sound p) (v : Store) (lengths : Lengths p v) (d : Device) (z : Serial) (k : ℕ)
     (i : On p v d z k) (still : StillAt v z) (b : Body) (j x : ℕ)
-    (mine : MineAt v x b)
-    (h : Running p (v .memory) (v .log) (z .memory) k b x j (d .regs) (d .count)) where
+    (chosen : ChosenAt v x b)
+    (h : Running p (v .memory) (v .log) (z .memory) k b x j (d .registers) (d .count)) where
   abbrev n : ℕ
-  n = number p b
+  n = bodyNumber p b
 
   -- memory as the body sees it
   abbrev seen : List ℕ
   seen = overlay (v .memory) (v .log) (d .count)
 
-  walked : (f : Effect) → effectAt p n j (d .regs) ≡ f → (g : ℕ)
-      → walk (suc (h .ran) + g) p n 0 (x ∷ replicate 7 0) (z .memory) ≡ advance p j (d .regs) seen (λ a s o. walk g p n a s o) f
+  walked : (f : Effect) → effectAt p n j (d .registers) ≡ f → (g : ℕ)
+      → walk (suc (h .ran) + g) p n 0 (x ∷ replicate 7 0) (z .memory) ≡ advance p j (d .registers) seen (λ a s o. walk g p n a s o) f
   walked f e g =
       ap (λ (a : ℕ). walk a p n 0 (x ∷ replicate 7 0) (z .memory)) (suc-add (h .ran) g ∙ sym (add-suc (h .ran) g))
       ∙ h .same (suc g)
-      ∙ walk-step p n j (d .regs) seen g (h .place-in)
-      ∙ ap (advance p j (d .regs) seen (λ a s o. walk g p n a s o)) e
+      ∙ walk-step p n j (d .registers) seen g (h .place-in)
+      ∙ ap (advance p j (d .registers) seen (λ a s o. walk g p n a s o)) e
 
   -- the body goes on at instruction a, with registers r and l pairs in the log
-  goes-on : (f : Effect) → effectAt p n j (d .regs) ≡ f → (log : List ℕ) (a : ℕ) (r : List ℕ) (l : ℕ) → a < instructions p n
-      → ((y : ℕ) → y < l → addr log y < memoryWords p) → Distinct log l → l ≤ v .pairs
-      → ((g : ℕ) → advance p j (d .regs) seen (λ c s o. walk g p n c s o) f ≡ walk g p n a r (overlay (v .memory) log l))
-      → Inv p (relogged v log) (moved d r (Run b a 0) l) z (suc k)
+  goes-on : (f : Effect) → effectAt p n j (d .registers) ≡ f → (log : List ℕ) (a : ℕ) (r : List ℕ) (l : ℕ) → a < instructions p n
+      → ((y : ℕ) → y < l → addr log y < memoryWords p) → Distinct log l → l ≤ v .logPairs
+      → ((g : ℕ) → advance p j (d .registers) seen (λ c s o. walk g p n c s o) f ≡ walk g p n a r (overlay (v .memory) log l))
+      → Inv p (relogged v log) (withPlace d r (Run b a 0) l) z (suc k)
   goes-on f e log a r l place addresses apart count same =
-      runs p sound v lengths d z k i still log b x a r l mine
+      runs p sound v lengths d z k i still log b x a r l chosen
       (record {
         body-in = h .body-in;
         place-in = place;
@@ -154,24 +154,24 @@ module _ (p : List ℕ) (sound : Sound p) (v : Store) (lengths : Lengths p v) (d
       }) count
 
   -- without a store
-  works : (f : Effect) → effectAt p n j (d .regs) ≡ f → (a : ℕ) (r : List ℕ) → a < instructions p n
-      → ((g : ℕ) → advance p j (d .regs) seen (λ c s o. walk g p n c s o) f ≡ walk g p n a r seen)
-      → Kept p v z k Step (out none (moved d r (Run b a 0) (d .count)) Answer.Worked)
+  works : (f : Effect) → effectAt p n j (d .registers) ≡ f → (a : ℕ) (r : List ℕ) → a < instructions p n
+      → ((g : ℕ) → advance p j (d .registers) seen (λ c s o. walk g p n c s o) f ≡ walk g p n a r seen)
+      → Kept p v z k Step (out none (withPlace d r (Run b a 0) (d .count)) Answer.Worked)
   unfolding tell apply
   works f e a r place same =
       record {
         inside = tt;
-        after = z;
+        serial = z;
         tells = λ fuel l. refl;
         expected = tt;
         inv = goes-on f e (v .log) a r (d .count) place (h .addresses) (h .distinct) (i .count-in) same;
       }
 
   -- the address is stored behind the pairs
-  half-saved : (y w : ℕ) → effectAt p n j (d .regs) ≡ Effect.Write y w → y < memoryWords p
-      → ((m : ℕ) → m < d .count → addr (v .log) m ≢ y) → d .count < v .pairs
-      → Kept p v z k Step (out (to (Address (d .count)) y) (moved d (d .regs) (Half b j) (d .count)) Answer.Stored)
-  unfolding tell apply moved firstWaiting
+  half-saved : (y w : ℕ) → effectAt p n j (d .registers) ≡ Effect.Save y w → y < memoryWords p
+      → ((m : ℕ) → m < d .count → addr (v .log) m ≢ y) → d .count < v .logPairs
+      → Kept p v z k Step (out (to (Address (d .count)) y) (withPlace d (d .registers) (Half b j) (d .count)) Answer.Stored)
+  unfolding tell apply withPlace firstWaiting
   half-saved y w e below new room =
       let l = d .count in
       let log = set (v .log) (2 * l) y in
@@ -188,7 +188,7 @@ module _ (p : List ℕ) (sound : Sound p) (v : Store) (lengths : Lengths p v) (d
             still,
             (
               x,
-              mine,
+              chosen,
               record {
                 body-in = h .body-in;
                 place-in = h .place-in;
@@ -210,41 +210,41 @@ module _ (p : List ℕ) (sound : Sound p) (v : Store) (lengths : Lengths p v) (d
         );
       }))
 
-  save-kept : (y w : ℕ) → effectAt p n j (d .regs) ≡ Effect.Write y w → j + 1 < instructions p n → y < memoryWords p
+  save-kept : (y w : ℕ) → effectAt p n j (d .registers) ≡ Effect.Save y w → j + 1 < instructions p n → y < memoryWords p
       → (f : Found) → find (v .log) (d .count) y ≡ f → Kept p v z k Step (saveStep v d b j y w f)
-  unfolding saveStep tell apply moved advance refusal isIn mayMeet _or_
+  unfolding saveStep tell apply withPlace advance refusal isIn mayMeet _or_
   save-kept y w e place below (Found.Pair a) q =
       let pair = find-pair (v .log) (d .count) y a q in
       let keeps : (m : ℕ) → addr (set (v .log) (2 * a + 1) w) m ≡ addr (v .log) m = λ m. getD-set-other (v .log) (2 * a + 1) (2 * m) w 0 (omega arith) in
       stored-kept (to (Value a) w) _ (omega (arith, pair .0, i .count-in))
-      (goes-on (Effect.Write y w) e (set (v .log) (2 * a + 1) w) (j + 1) (d .regs) (d .count) place
+      (goes-on (Effect.Save y w) e (set (v .log) (2 * a + 1) w) (j + 1) (d .registers) (d .count) place
       (λ m l. rw (keeps m) (h .addresses m l))
       (record { apart = λ m o l s. rw (keeps m, keeps o) (h .distinct .apart m o l s) }) (i .count-in)
       (λ g.
       pick-true _ _ (lt-ltb _ _ below)
-      ∙ ap (λ (m : List ℕ). walk g p n (j + 1) (d .regs) m)
+      ∙ ap (λ (m : List ℕ). walk g p n (j + 1) (d .registers) m)
       (sym (overlay-overwrite (v .memory) (v .log) (d .count) a w (h .distinct) (omega (arith, i .count-in, lengths .log-length)) (pair .0)
       ∙ ap (λ (c : ℕ). set seen c w) (pair .1)))))
   save-kept y w e place below Found.Nothing q =
-      pick-case (λ (o : Out). Kept p v z k Step o) (λ s. half-saved y w e below (find-nothing (v .log) (d .count) y q) (ltb-true _ _ s))
+      pick-case (λ (o : Outcome). Kept p v z k Step o) (λ s. half-saved y w e below (find-nothing (v .log) (d .count) y q) (ltb-true _ _ s))
       (λ s. refused-kept p v d z k Step Refusal.LogFull refl (inr i))
 
-  pub rest-kept : (f : Effect) → effectAt p n j (d .regs) ≡ f → LegalEffect p n j f → HalfSaved p (v .log) (v .pairs) (d .count) f → Kept p v z k Step (saveRest d b j f)
+  pub rest-kept : (f : Effect) → effectAt p n j (d .registers) ≡ f → LegalEffect p n j f → HalfSaved p (v .log) (v .logPairs) (d .count) f → Kept p v z k Step (saveRest d b j f)
   unfolding saveRest tell apply advance
   rest-kept (Effect.Compute a y) e leads t = absurd t
   rest-kept (Effect.Jump a) e leads t = absurd t
-  rest-kept (Effect.Read a y) e leads t = absurd t
-  rest-kept (Effect.Write y w) e leads (below, (room, (stored, new))) =
+  rest-kept (Effect.Load a y) e leads t = absurd t
+  rest-kept (Effect.Save y w) e leads (below, (room, (stored, new))) =
       let l = d .count in
       let log = set (v .log) (2 * l + 1) w in
       let keeps : (m : ℕ) → addr log m ≡ addr (v .log) m = λ m. getD-set-other (v .log) (2 * l + 1) (2 * m) w 0 (omega arith) in
       record {
         inside = room;
-        after = z;
+        serial = z;
         tells = λ fuel s. refl;
         expected = tt;
         inv =
-            goes-on (Effect.Write y w) e log (j + 1) (d .regs) (l + 1) leads
+            goes-on (Effect.Save y w) e log (j + 1) (d .registers) (l + 1) leads
             (λ m s. rw (keeps m) (below-or m l (h .addresses m) (λ t. let f : m ≡ l = omega arith in rw (f, stored) below)))
             (record {
               apart =
@@ -254,7 +254,7 @@ module _ (p : List ℕ) (sound : Sound p) (v : Store) (lengths : Lengths p v) (d
             }) (omega arith)
             (λ g.
             pick-true _ _ (lt-ltb _ _ below)
-            ∙ ap (λ (m : List ℕ). walk g p n (j + 1) (d .regs) m)
+            ∙ ap (λ (m : List ℕ). walk g p n (j + 1) (d .registers) m)
             (sym (ap (overlay (v .memory) log) (add-one l) ∙ overlay-append (v .memory) (v .log) l y w (omega (arith, lengths .log-length)) stored)));
       }
   rest-kept (Effect.EndTask a) e leads t = absurd t
@@ -264,20 +264,20 @@ module _ (p : List ℕ) (sound : Sound p) (v : Store) (lengths : Lengths p v) (d
   -- ---- the stores of its end
 
   -- the serial run of the whole body
-  walk-ends : (f : Effect) → effectAt p n j (d .regs) ≡ f → (fuel : ℕ) → k < fuel
-      → walk fuel p n 0 (x ∷ replicate 7 0) (z .memory) ≡ advance p j (d .regs) seen (λ a s o. walk (fuel - suc (h .ran)) p n a s o) f
+  walk-ends : (f : Effect) → effectAt p n j (d .registers) ≡ f → (fuel : ℕ) → k < fuel
+      → walk fuel p n 0 (x ∷ replicate 7 0) (z .memory) ≡ advance p j (d .registers) seen (λ a s o. walk (fuel - suc (h .ran)) p n a s o) f
   walk-ends f e fuel l =
       let q : fuel ≡ suc (h .ran) + (fuel - suc (h .ran)) = omega (arith, h .ran-in) in
       ap (λ (a : ℕ). walk a p n 0 (x ∷ replicate 7 0) (z .memory)) q ∙ walked f e (fuel - suc (h .ran))
 
-  waits-head : Waiting p (v .queue) (v .records) (v .head) (v .tail) (z .records)
+  waits-head : Waiting p (v .queue) (v .queueRecords) (v .head) (v .tail) (z .records)
   waits-head = rw (first-head v 0 (still .phase-is) refl) at (i .held .waits)
 
   -- words 11 to 13 are stored one by one
-  staged : (w : Word) (y c a o m : ℕ) → Inside (memoryWords p) (v .pairs) (v .records) w → apply v (to w y) ≡ recommitted v a o m
-      → (f : Effect) → effectAt p n j (d .regs) ≡ f → EndingAt p (recommitted v a o m) d b c f
-      → Kept p v z k Step (out (to w y) (moved d (d .regs) (Run b j c) (d .count)) Answer.Stored)
-  unfolding moved
+  staged : (w : Word) (y c a o m : ℕ) → Inside (memoryWords p) (v .logPairs) (v .queueRecords) w → apply v (to w y) ≡ recommitted v a o m
+      → (f : Effect) → effectAt p n j (d .registers) ≡ f → EndingAt p (recommitted v a o m) d b c f
+      → Kept p v z k Step (out (to w y) (withPlace d (d .registers) (Run b j c) (d .count)) Answer.Stored)
+  unfolding withPlace
   staged w y c a o m s q f e t =
       stored-kept (to w y) _ s
       (rw q
@@ -292,11 +292,11 @@ module _ (p : List ℕ) (sound : Sound p) (v : Store) (lengths : Lengths p v) (d
         on = i .on;
         handles = i .handles;
         count-in = i .count-in;
-        placed = ((still, (x, mine, running-later h)), rw e t);
+        placed = ((still, (x, chosen, running-later h)), rw e t);
       })))
 
   -- the commit store: nothing is copied yet
-  none-copied : v .count ≡ d .count → Copying p (v .pairs) (v .count) 0 (v .memory) (v .log) seen
+  none-copied : v .count ≡ d .count → Copying p (v .logPairs) (v .count) 0 (v .memory) (v .log) seen
   none-copied count =
       record {
         count-in = omega (arith, i .count-in);
@@ -314,20 +314,20 @@ new-open-in p x a =
 
 task-commits : (p : List ℕ) (sound : Sound p) (v : Store) (lengths : Lengths p v) (d : Device) (z : Serial) (k : ℕ)
     (i : On p v d z k) (still : StillAt v z) (t j x : ℕ)
-    (mine : MineAt v x (Body.Task t))
-    (h : Running p (v .memory) (v .log) (z .memory) k (Body.Task t) x j (d .regs) (d .count)) (a : ℕ)
-    → effectAt p t j (d .regs) ≡ Effect.EndTask a → a < tasks p → v .count ≡ d .count → v .pending ≡ a
+    (chosen : ChosenAt v x (Body.Task t))
+    (h : Running p (v .memory) (v .log) (z .memory) k (Body.Task t) x j (d .registers) (d .count)) (a : ℕ)
+    → effectAt p t j (d .registers) ≡ Effect.EndTask a → a < tasks p → v .count ≡ d .count → v .pending ≡ a
     → v .pendingOpen ≡ newOpen (transaction p t) (transaction p a)
     → Kept p v z k Step (out (to Phase 1) (fresh true) (Answer.Committed (Body.Task t)))
-unfolding tell apply fresh runBody afterTask walkBody number advance taskLastStores
-task-commits p sound v lengths d z k i still t j x mine h a e below count pending pendingOpen =
-    let is : t ≡ z .task = mine .0 ∙ still .task-is in
+unfolding tell apply fresh runBody afterTask walkBody bodyNumber advance taskLastStores
+task-commits p sound v lengths d z k i still t j x chosen h a e below count pending pendingOpen =
+    let is : t ≡ z .task = chosen .0 ∙ still .task-is in
     let w = overlay (v .memory) (v .log) (d .count) in
     let ends : (fuel : ℕ) → k < fuel → walk fuel p t 0 (0 ∷ replicate 7 0) (z .memory) ≡ went a w =
-    λ fuel l. ap (λ (y : ℕ). walk fuel p t 0 (y ∷ replicate 7 0) (z .memory)) (sym (mine .1)) ∙ walk-ends p sound v lengths d z k i still (Body.Task t) j x mine h (Effect.EndTask a) e fuel l in
+    λ fuel l. ap (λ (y : ℕ). walk fuel p t 0 (y ∷ replicate 7 0) (z .memory)) (sym (chosen .1)) ∙ walk-ends p sound v lengths d z k i still (Body.Task t) j x chosen h (Effect.EndTask a) e fuel l in
     record {
       inside = tt;
-      after =
+      serial =
           record {
             memory = w;
             task = a;
@@ -346,14 +346,14 @@ task-commits p sound v lengths d z k i still t j x mine h a e below count pendin
                   head-in = i .held .head-in;
                   waits =
                       rw (first-head (apply v (to Phase 1)) 1 refl refl)
-                      (waits-head p sound v lengths d z k i still (Body.Task t) j x mine h);
+                      (waits-head p sound v lengths d z k i still (Body.Task t) j x chosen h);
                 };
             on = refl;
             handles = tt;
             count-in = omega arith;
             placed =
                 inr (
-                  none-copied p sound v lengths d z k i still (Body.Task t) j x mine h count,
+                  none-copied p sound v lengths d z k i still (Body.Task t) j x chosen h count,
                   inl
                       (record {
                         phase-is = refl;
@@ -369,29 +369,29 @@ task-commits p sound v lengths d z k i still t j x mine h a e below count pendin
 -- "8 becomes 2"
 event-commits : (p : List ℕ) (sound : Sound p) (v : Store) (lengths : Lengths p v) (d : Device) (z : Serial) (k : ℕ)
     (i : On p v d z k) (still : StillAt v z) (e j x : ℕ)
-    (mine : MineAt v x (Body.Event e))
-    (h : Running p (v .memory) (v .log) (z .memory) k (Body.Event e) x j (d .regs) (d .count))
-    → effectAt p (tasks p + e) j (d .regs) ≡ Effect.EndEvent → v .count ≡ d .count → v .pending ≡ after (v .records) (v .head)
+    (chosen : ChosenAt v x (Body.Event e))
+    (h : Running p (v .memory) (v .log) (z .memory) k (Body.Event e) x j (d .registers) (d .count))
+    → effectAt p (tasks p + e) j (d .registers) ≡ Effect.EndEvent → v .count ≡ d .count → v .pending ≡ slotAfter (v .queueRecords) (v .head)
     → Kept p v z k Step (out (to Phase 2) (fresh true) (Answer.Committed (Body.Event e)))
-unfolding tell apply fresh runBody serveOldest afterEvent walkBody number advance slot eventLastStores
-event-commits p sound v lengths d z k i still e j x mine h ends count pending =
-    let q = v .records in
-    let waits = waits-head p sound v lengths d z k i still (Body.Event e) j x mine h in
+unfolding tell apply fresh runBody serveOldest afterEvent walkBody bodyNumber advance slot eventLastStores
+event-commits p sound v lengths d z k i still e j x chosen h ends count pending =
+    let q = v .queueRecords in
+    let waits = waits-head p sound v lengths d z k i still (Body.Event e) j x chosen h in
     let w = overlay (v .memory) (v .log) (d .count) in
-    let some-record = mine .1 .0 in
-    let rest = recordsFrom (v .queue) q (after q (v .head)) (distance q (after q (v .head)) (v .tail)) in
+    let some-record = chosen .1 .0 in
+    let rest = recordsFrom (v .queue) q (slotAfter q (v .head)) (distance q (slotAfter q (v .head)) (v .tail)) in
     let records-are : z .records ≡ slot (v .queue) (v .head) ∷ rest =
     sym (waits .same) ∙ records-head (v .queue) q (v .head) (v .tail) (i .held .head-in) (waits .tail-in) some-record in
     record {
       inside = tt;
-      after = record { memory = w; task = z .task; openNumber = z .openNumber; records = rest; posted = z .posted };
+      serial = record { memory = w; task = z .task; openNumber = z .openNumber; records = rest; posted = z .posted };
       tells =
           λ fuel l.
           ap (serveOldest fuel p z e) records-are
-          ∙ pick-true _ _ (and-true (eq-eqb _ _ (mine .1 .1 .0)) (eq-eqb _ _ (sym (still .open-is) ∙ mine .0)))
+          ∙ pick-true _ _ (and-true (eq-eqb _ _ (chosen .1 .1 .0)) (eq-eqb _ _ (sym (still .open-is) ∙ chosen .0)))
           ∙ ap (afterEvent z rest)
-          (ap (λ (y : ℕ). walk fuel p (tasks p + e) 0 (y ∷ replicate 7 0) (z .memory)) (mine .1 .1 .1)
-          ∙ walk-ends p sound v lengths d z k i still (Body.Event e) j x mine h Effect.EndEvent ends fuel l);
+          (ap (λ (y : ℕ). walk fuel p (tasks p + e) 0 (y ∷ replicate 7 0) (z .memory)) (chosen .1 .1 .1)
+          ∙ walk-ends p sound v lengths d z k i still (Body.Event e) j x chosen h Effect.EndEvent ends fuel l);
       expected = tt;
       inv =
           inr
@@ -403,7 +403,7 @@ event-commits p sound v lengths d z k i still e j x mine h ends count pending =
                   waits =
                       rw (first-pending (apply v (to Phase 2)) refl ∙ pending)
                       (record {
-                        first-in = after-le q (v .head) (i .held .head-in);
+                        first-in = slot-after-le q (v .head) (i .held .head-in);
                         tail-in = waits .tail-in;
                         same = refl;
                         known = subst (Known p) records-are (waits .known) .1;
@@ -414,13 +414,13 @@ event-commits p sound v lengths d z k i still e j x mine h ends count pending =
             count-in = omega arith;
             placed =
                 inr (
-                  none-copied p sound v lengths d z k i still (Body.Event e) j x mine h count,
+                  none-copied p sound v lengths d z k i still (Body.Event e) j x chosen h count,
                   inr
                       (record {
                         phase-is = refl;
                         task-is = still .task-is;
                         open-is = still .open-is;
-                        open-none = mine .0;
+                        open-none = chosen .0;
                         pending-is = inr (pending, some-record);
                         lasting = copies-left (omega arith) (omega arith);
                       }),
@@ -431,77 +431,77 @@ event-commits p sound v lengths d z k i still e j x mine h ends count pending =
 -- GO stands in a task, DONE in an event
 task-last : (p : List ℕ) (sound : Sound p) (v : Store) (lengths : Lengths p v) (d : Device) (z : Serial) (k : ℕ)
     (i : On p v d z k) (still : StillAt v z) (b : Body) (j x : ℕ)
-    (mine : MineAt v x b)
-    (h : Running p (v .memory) (v .log) (z .memory) k b x j (d .regs) (d .count)) (a : ℕ)
-    → effectAt p (number p b) j (d .regs) ≡ Effect.EndTask a → LegalEffect p (number p b) j (Effect.EndTask a) → v .count ≡ d .count → v .pending ≡ a
-    → v .pendingOpen ≡ newOpen (transaction p (number p b)) (transaction p a)
+    (chosen : ChosenAt v x b)
+    (h : Running p (v .memory) (v .log) (z .memory) k b x j (d .registers) (d .count)) (a : ℕ)
+    → effectAt p (bodyNumber p b) j (d .registers) ≡ Effect.EndTask a → LegalEffect p (bodyNumber p b) j (Effect.EndTask a) → v .count ≡ d .count → v .pending ≡ a
+    → v .pendingOpen ≡ newOpen (transaction p (bodyNumber p b)) (transaction p a)
     → Kept p v z k Step (out (to Phase 1) (fresh true) (Answer.Committed b))
-unfolding number
-task-last p sound v lengths d z k i still (Body.Task t) j x mine h a e leads count pending pendingOpen =
-    task-commits p sound v lengths d z k i still t j x mine h a e (leads .0) count pending pendingOpen
-task-last p sound v lengths d z k i still (Body.Event n) j x mine h a e leads count pending pendingOpen =
+unfolding bodyNumber
+task-last p sound v lengths d z k i still (Body.Task t) j x chosen h a e leads count pending pendingOpen =
+    task-commits p sound v lengths d z k i still t j x chosen h a e (leads .0) count pending pendingOpen
+task-last p sound v lengths d z k i still (Body.Event n) j x chosen h a e leads count pending pendingOpen =
     absurd (omega (arith, leads .1))
 
 event-last : (p : List ℕ) (sound : Sound p) (v : Store) (lengths : Lengths p v) (d : Device) (z : Serial) (k : ℕ)
     (i : On p v d z k) (still : StillAt v z) (b : Body) (j x : ℕ)
-    (mine : MineAt v x b)
-    (h : Running p (v .memory) (v .log) (z .memory) k b x j (d .regs) (d .count))
-    → effectAt p (number p b) j (d .regs) ≡ Effect.EndEvent → LegalEffect p (number p b) j Effect.EndEvent → v .count ≡ d .count
-    → v .pending ≡ after (v .records) (v .head)
+    (chosen : ChosenAt v x b)
+    (h : Running p (v .memory) (v .log) (z .memory) k b x j (d .registers) (d .count))
+    → effectAt p (bodyNumber p b) j (d .registers) ≡ Effect.EndEvent → LegalEffect p (bodyNumber p b) j Effect.EndEvent → v .count ≡ d .count
+    → v .pending ≡ slotAfter (v .queueRecords) (v .head)
     → Kept p v z k Step (out (to Phase 2) (fresh true) (Answer.Committed b))
-unfolding number
-event-last p sound v lengths d z k i still (Body.Task t) j x mine h e leads count pending =
-    absurd (omega (arith, leads, mine .0, still .task-is, i .held .tasked .task-in))
-event-last p sound v lengths d z k i still (Body.Event n) j x mine h e leads count pending =
-    event-commits p sound v lengths d z k i still n j x mine h e count pending
+unfolding bodyNumber
+event-last p sound v lengths d z k i still (Body.Task t) j x chosen h e leads count pending =
+    absurd (omega (arith, leads, chosen .0, still .task-is, i .held .tasked .task-in))
+event-last p sound v lengths d z k i still (Body.Event n) j x chosen h e leads count pending =
+    event-commits p sound v lengths d z k i still n j x chosen h e count pending
 
 module _ (p : List ℕ) (sound : Sound p) (v : Store) (lengths : Lengths p v) (d : Device) (z : Serial) (k : ℕ)
     (i : On p v d z k) (still : StillAt v z) (b : Body) (j x : ℕ)
-    (mine : MineAt v x b)
-    (h : Running p (v .memory) (v .log) (z .memory) k b x j (d .regs) (d .count)) where
-  task-end-kept : (a : ℕ) → effectAt p (number p b) j (d .regs) ≡ Effect.EndTask a → LegalEffect p (number p b) j (Effect.EndTask a) → (c : ℕ)
+    (chosen : ChosenAt v x b)
+    (h : Running p (v .memory) (v .log) (z .memory) k b x j (d .registers) (d .count)) where
+  task-end-kept : (a : ℕ) → effectAt p (bodyNumber p b) j (d .registers) ≡ Effect.EndTask a → LegalEffect p (bodyNumber p b) j (Effect.EndTask a) → (c : ℕ)
       → EndingAt p v d b c (Effect.EndTask a)
-      → Kept p v z k Step (storing (taskStores p (number p b) a (d .count)) c (moved d (d .regs) (Run b j (c + 1)) (d .count)) (fresh true) (Answer.Committed b))
+      → Kept p v z k Step (storing (taskStores p (bodyNumber p b) a (d .count)) c (withPlace d (d .registers) (Run b j (c + 1)) (d .count)) (fresh true) (Answer.Committed b))
   unfolding storing pick taskStores eventStores apply
   task-end-kept a e leads zero (l, _) =
-      staged p sound v lengths d z k i still b j x mine h Count (d .count) 1 (d .count) (v .pending) (v .pendingOpen) tt refl (Effect.EndTask a) e
+      staged p sound v lengths d z k i still b j x chosen h Count (d .count) 1 (d .count) (v .pending) (v .pendingOpen) tt refl (Effect.EndTask a) e
       (omega arith, (refl, tt))
   task-end-kept a e leads (suc zero) (l, (count, _)) =
-      staged p sound v lengths d z k i still b j x mine h Pending a 2 (v .count) a (v .pendingOpen) tt refl (Effect.EndTask a) e
+      staged p sound v lengths d z k i still b j x chosen h Pending a 2 (v .count) a (v .pendingOpen) tt refl (Effect.EndTask a) e
       (omega arith, (count, (refl, tt)))
   task-end-kept a e leads (suc (suc zero)) (l, (count, (pending, _))) =
-      staged p sound v lengths d z k i still b j x mine h PendingOpen _ 3 (v .count) (v .pending) _ tt refl (Effect.EndTask a) e
+      staged p sound v lengths d z k i still b j x chosen h PendingOpen _ 3 (v .count) (v .pending) _ tt refl (Effect.EndTask a) e
       (omega arith, (count, (pending, (refl, tt))))
   task-end-kept a e leads (suc (suc (suc zero))) (l, (count, (pending, (open′, _)))) =
-      task-last p sound v lengths d z k i still b j x mine h a e leads count pending open′
+      task-last p sound v lengths d z k i still b j x chosen h a e leads count pending open′
   task-end-kept a e leads (suc (suc (suc (suc c)))) (l, made) = absurd (omega arith)
 
-  event-end-kept : effectAt p (number p b) j (d .regs) ≡ Effect.EndEvent → LegalEffect p (number p b) j Effect.EndEvent → (c : ℕ)
+  event-end-kept : effectAt p (bodyNumber p b) j (d .registers) ≡ Effect.EndEvent → LegalEffect p (bodyNumber p b) j Effect.EndEvent → (c : ℕ)
       → EndingAt p v d b c Effect.EndEvent
-      → Kept p v z k Step (storing (eventStores v (d .count)) c (moved d (d .regs) (Run b j (c + 1)) (d .count)) (fresh true) (Answer.Committed b))
+      → Kept p v z k Step (storing (eventStores v (d .count)) c (withPlace d (d .registers) (Run b j (c + 1)) (d .count)) (fresh true) (Answer.Committed b))
   unfolding storing pick taskStores eventStores apply
   event-end-kept e leads zero (l, _) =
-      staged p sound v lengths d z k i still b j x mine h Count (d .count) 1 (d .count) (v .pending) (v .pendingOpen) tt refl Effect.EndEvent e
+      staged p sound v lengths d z k i still b j x chosen h Count (d .count) 1 (d .count) (v .pending) (v .pendingOpen) tt refl Effect.EndEvent e
       (omega arith, (refl, tt))
   event-end-kept e leads (suc zero) (l, (count, _)) =
-      staged p sound v lengths d z k i still b j x mine h Pending (after (v .records) (v .head)) 2 (v .count) (after (v .records) (v .head)) (v .pendingOpen) tt refl Effect.EndEvent e
+      staged p sound v lengths d z k i still b j x chosen h Pending (slotAfter (v .queueRecords) (v .head)) 2 (v .count) (slotAfter (v .queueRecords) (v .head)) (v .pendingOpen) tt refl Effect.EndEvent e
       (omega arith, (count, (refl, tt)))
-  event-end-kept e leads (suc (suc zero)) (l, (count, (pending, _))) = event-last p sound v lengths d z k i still b j x mine h e leads count pending
+  event-end-kept e leads (suc (suc zero)) (l, (count, (pending, _))) = event-last p sound v lengths d z k i still b j x chosen h e leads count pending
   event-end-kept e leads (suc (suc (suc c))) (l, made) = absurd (omega arith)
 
-  pub act-kept : (c : ℕ) (f : Effect) → effectAt p (number p b) j (d .regs) ≡ f → LegalEffect p (number p b) j f → EndingAt p v d b c f → Kept p v z k Step (act p v d b j c f)
+  pub act-kept : (c : ℕ) (f : Effect) → effectAt p (bodyNumber p b) j (d .registers) ≡ f → LegalEffect p (bodyNumber p b) j f → EndingAt p v d b c f → Kept p v z k Step (act p v d b j c f)
   unfolding act advance refusal isIn mayMeet _or_
-  act-kept c (Effect.Compute a y) e leads t = works p sound v lengths d z k i still b j x mine h (Effect.Compute a y) e (j + 1) (set (d .regs) a y) (leads .1) (λ g. refl)
-  act-kept c (Effect.Jump a) e leads t = works p sound v lengths d z k i still b j x mine h (Effect.Jump a) e a (d .regs) leads (λ g. refl)
-  act-kept c (Effect.Read a y) e leads t =
-      pick-case (λ (o : Out). Kept p v z k Step o)
+  act-kept c (Effect.Compute a y) e leads t = works p sound v lengths d z k i still b j x chosen h (Effect.Compute a y) e (j + 1) (set (d .registers) a y) (leads .1) (λ g. refl)
+  act-kept c (Effect.Jump a) e leads t = works p sound v lengths d z k i still b j x chosen h (Effect.Jump a) e a (d .registers) leads (λ g. refl)
+  act-kept c (Effect.Load a y) e leads t =
+      pick-case (λ (o : Outcome). Kept p v z k Step o)
       (λ s.
       let below : y < length (v .memory) = omega (arith, ltb-true y (memoryWords p) s, lengths .memory-length) in
-      works p sound v lengths d z k i still b j x mine h (Effect.Read a y) e (j + 1) _ (leads .1)
-      (λ g. pick-true _ _ s ∙ ap (λ (m : ℕ). walk g p (number p b) (j + 1) (set (d .regs) a m) (overlay (v .memory) (v .log) (d .count))) (sym (shown-is v (d .count) y (h .distinct) below))))
+      works p sound v lengths d z k i still b j x chosen h (Effect.Load a y) e (j + 1) _ (leads .1)
+      (λ g. pick-true _ _ s ∙ ap (λ (m : ℕ). walk g p (bodyNumber p b) (j + 1) (set (d .registers) a m) (overlay (v .memory) (v .log) (d .count))) (sym (shown-is v (d .count) y (h .distinct) below))))
       (λ s. refused-kept p v d z k Step Refusal.Address refl (inr i))
-  act-kept c (Effect.Write y w) e leads t =
-      pick-case (λ (o : Out). Kept p v z k Step o) (λ s. save-kept p sound v lengths d z k i still b j x mine h y w e leads (ltb-true _ _ s) (find (v .log) (d .count) y) refl)
+  act-kept c (Effect.Save y w) e leads t =
+      pick-case (λ (o : Outcome). Kept p v z k Step o) (λ s. save-kept p sound v lengths d z k i still b j x chosen h y w e leads (ltb-true _ _ s) (find (v .log) (d .count) y) refl)
       (λ s. refused-kept p v d z k Step Refusal.Address refl (inr i))
   act-kept c (Effect.EndTask a) e leads t = task-end-kept a e leads c t
   act-kept c Effect.EndEvent e leads t = event-end-kept e leads c t

@@ -15,7 +15,7 @@ use Rattle.model.proofs.TestLaws.{pick-true, pick-false}
 use Rattle.model.specs.Accepted.{Sound}
 use Rattle.model.specs.Calls.{Boot, Step, Cut, Post}
 use Rattle.model.specs.Device.{out, judged, fresh, off, turnedOn, withHandler, recordStores, taskLastStores, eventLastStores, placeStep, nextStep}
-use Rattle.model.specs.Program.{number, effectAt, events}
+use Rattle.model.specs.Program.{bodyNumber, effectAt, events}
 use Rattle.model.specs.Serial.{Serial, tell, afterDone}
 use Rattle.model.specs.Store.{Store, none, carried, room}
 use Rattle.model.specs.Types.{Answer, Device, Free, Half, Handler, Place, Resting, Run, Storing}
@@ -33,15 +33,15 @@ module _ (p : List ℕ) (sound : Sound p) (v : Store) (lengths : Lengths p v) (d
   place-kept rest (Free c) (inr (m, inr t)) =
       rw (pick-false {b = eqb (v .phase) 0} _ _ (ap (λ (n : ℕ). eqb n 0) (t .phase-is))) (commit-kept p v d rest z k i c m (inr t))
   place-kept rest (Run b j c) ((s, (x, m, r)), e) =
-      let f = effectAt p (number p b) j (d .regs) in
+      let f = effectAt p (bodyNumber p b) j (d .registers) in
       rw (body-sound p v d z k i sound (Run b j c) b j (s, (x, m, r)) (run-fits p v d z k i b j c f e))
-      (act-kept p sound v lengths d z k i s b j x m r c f refl (sound .legal (number p b) j (d .regs) (r .body-in) (r .place-in)) e)
+      (act-kept p sound v lengths d z k i s b j x m r c f refl (sound .legal (bodyNumber p b) j (d .registers) (r .body-in) (r .place-in)) e)
   place-kept rest (Half b j) ((s, (x, m, r)), e) =
-      let f = effectAt p (number p b) j (d .regs) in
+      let f = effectAt p (bodyNumber p b) j (d .registers) in
       rw (body-sound p v d z k i sound (Half b j) b j (s, (x, m, r)) (half-fits p v d z k i b j (d .count) f e))
-      (rest-kept p sound v lengths d z k i s b j x m r f refl (sound .legal (number p b) j (d .regs) (r .body-in) (r .place-in)) e)
+      (rest-kept p sound v lengths d z k i s b j x m r f refl (sound .legal (bodyNumber p b) j (d .registers) (r .body-in) (r .place-in)) e)
 
-  pub next-kept : (h : Handler) → d .handler ≡ h → Handles p (v .queue) (v .records) (v .head) (v .tail) (z .posted) h → Kept p v z k Step (nextStep p v d h)
+  pub next-kept : (h : Handler) → d .handler ≡ h → Handles p (v .queue) (v .queueRecords) (v .head) (v .tail) (z .posted) h → Kept p v z k Step (nextStep p v d h)
   unfolding nextStep
   next-kept Resting e w = place-kept e (d .place) (i .placed)
   next-kept (Storing c e x) q w = handler-kept p v lengths d z k i c e x w
@@ -109,11 +109,11 @@ module _ (p : List ℕ) (v : Store) (d : Device) (z : Serial) (k : ℕ) where
 
   pub turned-off-kept : Inv p v d z k → Kept p v z k Cut (out none off Answer.Done)
   unfolding tell apply afterDone
-  turned-off-kept i = record { inside = tt; after = z; tells = λ fuel l. refl; expected = tt; inv = off-inv i }
+  turned-off-kept i = record { inside = tt; serial = z; tells = λ fuel l. refl; expected = tt; inv = off-inv i }
 
   pub turned-on-kept : Inv p v d z k → Kept p v z k Boot (out none turnedOn Answer.Done)
   unfolding tell apply afterDone
-  turned-on-kept i = record { inside = tt; after = z; tells = λ fuel l. refl; expected = tt; inv = inr (on-inv (held-of i) (resumes-of i)) }
+  turned-on-kept i = record { inside = tt; serial = z; tells = λ fuel l. refl; expected = tt; inv = inr (on-inv (held-of i) (resumes-of i)) }
 
   -- ---- a post that is answered done
 
@@ -123,7 +123,7 @@ module _ (p : List ℕ) (v : Store) (d : Device) (z : Serial) (k : ℕ) where
   posted-kept i e x below fits =
       record {
         inside = tt;
-        after = afterDone z (Post e x);
+        serial = afterDone z (Post e x);
         tells = λ fuel l. refl;
         expected = tt;
         inv =

@@ -19,7 +19,7 @@ use Rattle.model.specs.Answer.{refusal}
 use Rattle.model.specs.Calls.{Call, Boot, Step, Cut, Post, call}
 use Rattle.model.specs.Demand3.{isIn, mayMeet, Expected}
 use Rattle.model.specs.Control.{obeyAll, rules, earlyRules}
-use Rattle.model.specs.Device.{Out, out, refuse, judged, fresh, withHandler, atRest, zeros, isFresh, deviceSound, look, bootCheck, boot, cut, postCheck, post, nextStep, step}
+use Rattle.model.specs.Device.{Outcome, out, refuse, judged, fresh, withHandler, atRest, zeros, isFresh, deviceSound, look, bootCheck, boot, cut, postCheck, post, nextStep, step}
 use Rattle.model.specs.Program.{events, memoryWords}
 use Rattle.model.specs.Serial.{Serial, given, tell, afterDone}
 use Rattle.model.specs.Store.{Store, view, Write, none, to, settled, room, storeRule}
@@ -32,14 +32,14 @@ pub record InvWords (p : List ℕ) (l q : ℕ) (s : List ℕ) (d : Device) (z : 
   pub contents : storeRule p s ≡ Checked.Accepted
   pub inv : Inv p (viewAt (memoryWords p) l q s) d z k
 
-pub record KeptWords (p : List ℕ) (l q : ℕ) (s : List ℕ) (z : Serial) (k : ℕ) (c : Call) (o : Out) : Type 0 where
-  pub after : Serial
-  pub tells : (fuel : ℕ) → k < fuel → tell fuel (given p l q) z c (o .answer) ≡ some after
+pub record KeptWords (p : List ℕ) (l q : ℕ) (s : List ℕ) (z : Serial) (k : ℕ) (c : Call) (o : Outcome) : Type 0 where
+  pub serial : Serial
+  pub tells : (fuel : ℕ) → k < fuel → tell fuel (given p l q) z c (o .answer) ≡ some serial
   pub expected : Expected c (o .answer)
-  pub inv : InvWords p l q (settled s (o .write)) (o .device) after (suc k)
+  pub inv : InvWords p l q (settled s (o .write)) (o .device) serial (suc k)
   pub parts : viewAt (memoryWords p) l q (settled s (o .write)) ≡ apply (viewAt (memoryWords p) l q s) (o .write)
 
-judged-then : (a b : Checked) (d : Device) (o : Out) → judged (a then b) d o ≡ judged a d (judged b d o)
+judged-then : (a b : Checked) (d : Device) (o : Outcome) → judged (a then b) d o ≡ judged a d (judged b d o)
 unfolding judged _then_
 judged-then Checked.Accepted b d o = refl
 judged-then (Checked.Refused r) b d o = refl
@@ -64,13 +64,13 @@ module _ (p : List ℕ) (sound : Sound p) (l q : ℕ) (s : List ℕ) (d : Device
   parts-are none inside = refl
   parts-are (to w x) inside = view-settled (memoryWords p) l q s (i .sized) w x inside
 
-  to-words : (c : Call) (o : Out) → Kept p v z k c o → KeptWords p l q s z k c o
+  to-words : (c : Call) (o : Outcome) → Kept p v z k c o → KeptWords p l q s z k c o
   to-words c o h =
       record {
-        after = h .after;
+        serial = h .serial;
         tells = h .tells;
         expected = h .expected;
-        inv = by-write (o .device) (h .after) (o .write) (h .inside) (h .inv);
+        inv = by-write (o .device) (h .serial) (o .write) (h .inside) (h .inv);
         parts = parts-are (o .write) (h .inside);
       }
 
@@ -118,7 +118,7 @@ module _ (p : List ℕ) (sound : Sound p) (l q : ℕ) (s : List ℕ) (d : Device
   refused-words : (c : Call) (r : Refusal) → Expected c (Answer.Refused r) → KeptWords p l q s z k c (refuse d r)
   refused-words c r e = to-words c (refuse d r) (refused-kept p v d z k c r e (i .inv))
 
-  judged-words : (c : Call) (b : Bool) (r : Refusal) (o : Out) (x : Checked) → x ≡ must b r → Expected c (Answer.Refused r)
+  judged-words : (c : Call) (b : Bool) (r : Refusal) (o : Outcome) (x : Checked) → x ≡ must b r → Expected c (Answer.Refused r)
       → (b ≡ true → KeptWords p l q s z k c o) → KeptWords p l q s z k c (judged x d o)
   unfolding judged must
   judged-words c true r o x e f h = rw e (h refl)

@@ -8,7 +8,7 @@ use mathlib.Core.Bool.{true}
 use mathlib.Core.List.{List}
 use native.Mathlib.Omega.{arith}
 use lib.ListN.{length}
-use Rattle.model.proofs.DeviceLaws.{atPlace, task-lasts, event-lasts, least-last, Commits, Made, record-made, tail-made, handler, commit-copy, commit-task, commit-open, commit-head, commit-phase, chosen-event, chosen-task, computed, jumped, loaded, overwritten, half-saved, saved, go-count, go-pending, go-open, go-phase, done-count, done-pending, done-phase, Outcome, refused, made, outcome}
+use Rattle.model.proofs.DeviceLaws.{atPlace, task-lasts, event-lasts, least-last, Commits, Made, record-made, tail-made, handler, commit-copy, commit-task, commit-open, commit-head, commit-phase, chosen-event, chosen-task, computed, jumped, loaded, overwritten, half-saved, saved, go-count, go-pending, go-open, go-phase, done-count, done-pending, done-phase, StepOutcome, refused, made, step-outcome}
 use Rattle.model.proofs.Early.{control-still, Fit, early-fit, look-passes}
 use Rattle.model.proofs.Passed.{sized}
 use Rattle.model.proofs.Kept.{InsideOf}
@@ -16,10 +16,10 @@ use Rattle.model.proofs.LogLaws.{find-pair}
 use Rattle.model.proofs.RingLaws.{forward, forward-le, tail-apart, event-store, datum-store, slot-in, carried-one}
 use Rattle.model.proofs.StoreLaws.{parts, apply, view-after, rule-kept}
 use Rattle.model.proofs.TestLaws.{clash, then-first, then-rest}
-use Rattle.model.specs.Device.{Out, fresh, moved, withHandler, taskLastStores, eventLastStores, lastStores, endStores, look, begun, step}
+use Rattle.model.specs.Device.{Outcome, fresh, withPlace, withHandler, taskLastStores, eventLastStores, lastStores, endStores, look, begun, step}
 use Rattle.model.specs.Accepted.{ControlledBy, MayRunBy, MayRun, StandsBy, Stands, Attends, Looked}
 use Rattle.model.specs.Program.{tasks, memoryWords, word}
-use Rattle.model.specs.Store.{Store, view, carried, after, distance, Write, none, to, settled}
+use Rattle.model.specs.Store.{Store, view, carried, slotAfter, distance, Write, none, to, settled}
 use Rattle.model.specs.Types.{Body, Checked, Device, Free, Half, Handler, Place, Resting, Run}
 use Rattle.model.specs.Claims.{soundAfter, LookStays}
 
@@ -33,24 +33,24 @@ some-end (Body.Event e) = omega arith
 module _ (p : List ℕ) (v : Store) (d : Device) (fit : Fit p v d) where
   -- no store, and stores to memory, log and queue: no control word changes
   abbrev beside : List ℕ → List ℕ → List ℕ → Store
-  beside m l q = parts (v .pairs) (v .records) (v .phase) (v .task) (v .openNumber) (v .count) (v .pending) (v .pendingOpen) (v .head) (v .tail) m l q
+  beside m l q = parts (v .logPairs) (v .queueRecords) (v .phase) (v .task) (v .openNumber) (v .count) (v .pending) (v .pendingOpen) (v .head) (v .tail) m l q
 
-  moved-fits : (m l q r : List ℕ) (x : Place) (n : ℕ) → n ≤ v .pairs → Stands p v n x → Fit p (beside m l q) (moved d r x n)
-  unfolding moved lastStores taskLastStores eventLastStores
-  moved-fits m l q r x n k h = record { control = fit .control; on = fit .on; count-in = k; place = h; handler = fit .handler }
+  withPlace-fits : (m l q r : List ℕ) (x : Place) (n : ℕ) → n ≤ v .logPairs → Stands p v n x → Fit p (beside m l q) (withPlace d r x n)
+  unfolding withPlace lastStores taskLastStores eventLastStores
+  withPlace-fits m l q r x n k h = record { control = fit .control; on = fit .on; count-in = k; place = h; handler = fit .handler }
 
   -- at an instruction
-  runs-fits : (m l q r : List ℕ) (b : Body) (j n : ℕ) → n ≤ v .pairs → v .phase ≡ 0 → MayRun p v b → Fit p (beside m l q) (moved d r (Run b j 0) n)
-  runs-fits m l q r b j n k z may = moved-fits m l q r (Run b j 0) n k (z, may, some-end b)
+  runs-fits : (m l q r : List ℕ) (b : Body) (j n : ℕ) → n ≤ v .logPairs → v .phase ≡ 0 → MayRun p v b → Fit p (beside m l q) (withPlace d r (Run b j 0) n)
+  runs-fits m l q r b j n k z may = withPlace-fits m l q r (Run b j 0) n k (z, may, some-end b)
 
   handled-fits : (q : List ℕ) (h : Handler) → Attends p v h → Fit p (beside (v .memory) (v .log) q) (withHandler d h)
   unfolding withHandler lastStores taskLastStores eventLastStores
   handled-fits q h a = record { control = fit .control; on = fit .on; count-in = fit .count-in; place = fit .place; handler = a }
 
   -- other words 9, 10, 14 and 15
-  control-other : (t o h x : ℕ) → t < tasks p → h ≤ v .records → x ≤ v .records
-      → (v .phase ≡ 2 → (v .pending ≡ h) ⊎ ((v .pending ≡ after (v .records) h) × (h ≢ x))) → (v .phase ≡ 2 → o ≡ 0)
-      → ControlledBy p (v .pairs) (v .records) (v .phase) t o (v .count) (v .pending) h x
+  control-other : (t o h x : ℕ) → t < tasks p → h ≤ v .queueRecords → x ≤ v .queueRecords
+      → (v .phase ≡ 2 → (v .pending ≡ h) ⊎ ((v .pending ≡ slotAfter (v .queueRecords) h) × (h ≢ x))) → (v .phase ≡ 2 → o ≡ 0)
+      → ControlledBy p (v .logPairs) (v .queueRecords) (v .phase) t o (v .count) (v .pending) h x
   control-other t o h x task head tail pending open′ =
       let c = fit .control in
       record {
@@ -66,30 +66,30 @@ module _ (p : List ℕ) (v : Store) (d : Device) (fit : Fit p v d) where
       }
 
   -- a new tail, behind some records
-  module _ (k : ℕ) (some-record : 0 < k) (room : distance (v .records) (v .head) (v .tail) + k ≤ v .records) where
+  module _ (k : ℕ) (some-record : 0 < k) (room : distance (v .queueRecords) (v .head) (v .tail) + k ≤ v .queueRecords) where
     abbrev x : ℕ
-    x = forward (v .records) (v .tail) k
+    x = forward (v .queueRecords) (v .tail) k
 
     apart : v .head ≢ x
-    apart = tail-apart (v .records) (v .head) (v .tail) k (fit .control .head-in) (fit .control .tail-in) room (omega arith)
+    apart = tail-apart (v .queueRecords) (v .head) (v .tail) k (fit .control .head-in) (fit .control .tail-in) room (omega arith)
 
     may-tail : (b : Body) → MayRun p v b → MayRunBy p (v .task) (v .openNumber) (v .head) x b
     may-tail (Body.Task t) h = h
     may-tail (Body.Event e) h = (h .0, h .1, apart)
 
-    stands-tail : (n c : ℕ) (y : Place) → StandsBy p (v .pairs) (v .phase) (v .task) (v .openNumber) (v .count) (v .head) (v .tail) c n y
-        → StandsBy p (v .pairs) (v .phase) (v .task) (v .openNumber) (v .count) (v .head) x c n y
+    stands-tail : (n c : ℕ) (y : Place) → StandsBy p (v .logPairs) (v .phase) (v .task) (v .openNumber) (v .count) (v .head) (v .tail) c n y
+        → StandsBy p (v .logPairs) (v .phase) (v .task) (v .openNumber) (v .count) (v .head) x c n y
     stands-tail n c (Free i) h = h
     stands-tail n c (Run b j i) h = (h .0, may-tail b (h .1), h .2)
     stands-tail n c (Half b j) h = (h .0, may-tail b (h .1), h .2)
 
-    tail-fits : Fit p (parts (v .pairs) (v .records) (v .phase) (v .task) (v .openNumber) (v .count) (v .pending) (v .pendingOpen) (v .head) x (v .memory) (v .log) (v .queue)) (withHandler d Resting)
+    tail-fits : Fit p (parts (v .logPairs) (v .queueRecords) (v .phase) (v .task) (v .openNumber) (v .count) (v .pending) (v .pendingOpen) (v .head) x (v .memory) (v .log) (v .queue)) (withHandler d Resting)
     unfolding withHandler lastStores taskLastStores eventLastStores
     tail-fits =
         let c = fit .control in
         record {
           control =
-              control-other (v .task) (v .openNumber) (v .head) x (c .task-in) (c .head-in) (forward-le (v .records) (v .tail) k (c .tail-in) (omega (arith, room)))
+              control-other (v .task) (v .openNumber) (v .head) x (c .task-in) (c .head-in) (forward-le (v .queueRecords) (v .tail) k (c .tail-in) (omega (arith, room)))
               (λ q. ⊎-elim inl (λ a. inr (a .0, apart)) (c .pending-is q)) (c .open-none);
           on = fit .on;
           count-in = fit .count-in;
@@ -98,10 +98,10 @@ module _ (p : List ℕ) (v : Store) (d : Device) (fit : Fit p v d) where
         }
 
   -- a commit's stores to words 9, 10 and 14, and the last one
-  last-fits : {c : ℕ} → Commits v d c → (t o h : ℕ) → t < tasks p → h ≤ v .records
-      → (v .phase ≡ 2 → (v .pending ≡ h) ⊎ ((v .pending ≡ after (v .records) h) × (h ≢ v .tail))) → (v .phase ≡ 2 → o ≡ 0) → c + 1 < v .count + length (lastStores v)
-      → Fit p (parts (v .pairs) (v .records) (v .phase) t o (v .count) (v .pending) (v .pendingOpen) h (v .tail) (v .memory) (v .log) (v .queue)) (atPlace d (Free (c + 1)))
-  unfolding moved lastStores taskLastStores eventLastStores
+  last-fits : {c : ℕ} → Commits v d c → (t o h : ℕ) → t < tasks p → h ≤ v .queueRecords
+      → (v .phase ≡ 2 → (v .pending ≡ h) ⊎ ((v .pending ≡ slotAfter (v .queueRecords) h) × (h ≢ v .tail))) → (v .phase ≡ 2 → o ≡ 0) → c + 1 < v .count + length (lastStores v)
+      → Fit p (parts (v .logPairs) (v .queueRecords) (v .phase) t o (v .count) (v .pending) (v .pendingOpen) h (v .tail) (v .memory) (v .log) (v .queue)) (atPlace d (Free (c + 1)))
+  unfolding withPlace lastStores taskLastStores eventLastStores
   last-fits w t o h task head pending open′ left =
       record {
         control = control-other t o h (v .tail) task head (fit .control .tail-in) pending open′;
@@ -111,7 +111,7 @@ module _ (p : List ℕ) (v : Store) (d : Device) (fit : Fit p v d) where
         handler = rw (w .rests) tt;
       }
 
-  over-fits : Fit p (parts (v .pairs) (v .records) 0 (v .task) (v .openNumber) (v .count) (v .pending) (v .pendingOpen) (v .head) (v .tail) (v .memory) (v .log) (v .queue)) (fresh true)
+  over-fits : Fit p (parts (v .logPairs) (v .queueRecords) 0 (v .task) (v .openNumber) (v .count) (v .pending) (v .pendingOpen) (v .head) (v .tail) (v .memory) (v .log) (v .queue)) (fresh true)
   unfolding fresh
   over-fits =
       let c = fit .control in
@@ -125,8 +125,8 @@ module _ (p : List ℕ) (v : Store) (d : Device) (fit : Fit p v d) where
 
   -- GO's and DONE's stores before the commit store, to words 11 to 13
   noted-fits : (n w o : ℕ) (b : Body) (j c : ℕ) → v .phase ≡ 0 → MayRun p v b → c < endStores b
-      → Fit p (parts (v .pairs) (v .records) (v .phase) (v .task) (v .openNumber) n w o (v .head) (v .tail) (v .memory) (v .log) (v .queue)) (atPlace d (Run b j c))
-  unfolding moved
+      → Fit p (parts (v .logPairs) (v .queueRecords) (v .phase) (v .task) (v .openNumber) n w o (v .head) (v .tail) (v .memory) (v .log) (v .queue)) (atPlace d (Run b j c))
+  unfolding withPlace
   noted-fits n w o b j c z may l =
       let h = fit .control in
       record {
@@ -139,17 +139,17 @@ module _ (p : List ℕ) (v : Store) (d : Device) (fit : Fit p v d) where
 
   -- ---- each case
 
-  abbrev Keeps : Out → Type 0
+  abbrev Keeps : Outcome → Type 0
   Keeps o = soundAfter (o .answer) ≡ true → InsideOf p v (o .write) × Fit p (apply v (o .write)) (o .device)
 
-  keeps : (o : Out) → Made p v d o → Keeps o
+  keeps : (o : Outcome) → Made p v d o → Keeps o
   unfolding apply begun endStores soundAfter
   keeps o (handler q (record-made a (event-store n r l m))) _ = (slot-in (v .head) n (fit .control .tail-in) (a .room) l, handled-fits _ _ a)
   keeps o (handler q (record-made a (datum-store n r l m))) _ = (slot-in (v .head) n (fit .control .tail-in) (a .room) l, handled-fits _ _ a)
   keeps o (handler {e = e} {x = x} q (tail-made a)) _ =
       (tt, tail-fits (length (carried e x)) (omega (arith, carried-one e x)) (omega (arith, a .room, carried-one e x)))
   keeps o (commit-copy {c = c} h l m) _ =
-      (m, moved-fits _ _ _ (d .regs) (Free (c + 1)) (d .count) (fit .count-in) (λ z. absurd (h .phase z), λ _. omega (arith, least-last v)))
+      (m, withPlace-fits _ _ _ (d .registers) (Free (c + 1)) (d .count) (fit .count-in) (λ z. absurd (h .phase z), λ _. omega (arith, least-last v)))
   keeps o (commit-task h one e) _ =
       (tt, last-fits h _ _ _ (fit .control .pending-task one) (fit .control .head-in) (fit .control .pending-is) (fit .control .open-none) (omega (arith, task-lasts v one)))
   keeps o (commit-open h one e) _ =
@@ -165,7 +165,7 @@ module _ (p : List ℕ) (v : Store) (d : Device) (fit : Fit p v d) where
   keeps o (overwritten h l e) _ =
       (omega (arith, find-pair _ _ _ _ e .0, fit .count-in), runs-fits _ _ _ _ _ _ _ (fit .count-in) (h .stands .0) (h .stands .1))
   keeps o (half-saved {b = b} {j = j} h l e k) _ =
-      (k, moved-fits _ _ _ (d .regs) (Half b j) (d .count) (fit .count-in) (h .stands .0, h .stands .1, k))
+      (k, withPlace-fits _ _ _ (d .registers) (Half b j) (d .count) (fit .count-in) (h .stands .0, h .stands .1, k))
   keeps o (saved h) _ = (h .stands .2, runs-fits _ _ _ _ _ _ _ (omega (arith, h .stands .2)) (h .stands .0) (h .stands .1))
   keeps o (go-count h) _ = (tt, noted-fits _ _ _ _ _ 1 (h .stands .0) (h .stands .1) (omega arith))
   keeps o (go-pending h) _ = (tt, noted-fits _ _ _ _ _ 2 (h .stands .0) (h .stands .1) (omega arith))
@@ -185,10 +185,10 @@ module _ (p s : List ℕ) (d : Device) where
       look-passes p (settled s (to w x)) e (then-first _ _ (early .passed)) (rule-kept p s w x ∙ then-first _ _ (then-rest _ _ (early .passed)))
       (subst (λ (u : Store). Fit p u e) (sym (view-after (memoryWords p) (word s 2) (word s 3) s (sized (early .shaped)) w x inside)) fit)
 
-  stays : (o : Out) → Outcome p s d o → soundAfter (o .answer) ≡ true → look p (settled s (o .write)) (o .device) ≡ Checked.Accepted
+  stays : (o : Outcome) → StepOutcome p s d o → soundAfter (o .answer) ≡ true → look p (settled s (o .write)) (o .device) ≡ Checked.Accepted
   unfolding soundAfter
   stays o (refused w) e = clash e refl
   stays o (made early m u) e = let k = keeps p (view s) d (early-fit early) o m e in look-after early (o .write) (o .device) (k .0) (k .1)
 
 pub look-stays : LookStays
-look-stays p s d = stays p s d (step p s d) (outcome p s d)
+look-stays p s d = stays p s d (step p s d) (step-outcome p s d)

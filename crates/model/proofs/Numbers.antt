@@ -8,7 +8,7 @@ use mathlib.Core.List.{List}
 use lib.Dec.{leb}
 use Rattle.model.proofs.TestLaws.{pick-case, Refuses, refuses-accepted, refuses-must, refuses-then, refuses-each}
 use Rattle.model.specs.Answer.{refusal}
-use Rattle.model.specs.Check.{contentsRule, rowsInside, limits, rowRule, rows, rowUsed, instructionRule, bodyRule, check}
+use Rattle.model.specs.Check.{contentsRule, rowsInside, limits, rowRule, rows, rowUsable, instructionRule, bodyRule, check}
 use Rattle.model.specs.Device.{namedRow}
 use Rattle.model.specs.Store.{storeRule}
 use Rattle.model.specs.Test.{pick, must, _then_}
@@ -56,8 +56,8 @@ low-limits : (p : List ℕ) (i : ℕ) → Low (limits p i)
 unfolding limits
 low-limits p i = refuses-then _ _ (low-row _ i) (refuses-then _ _ (low-row _ i) (low-row _ i))
 
-pub low-used : (p : List ℕ) (i : ℕ) → Low (rowUsed p i)
-unfolding rowUsed
+pub low-used : (p : List ℕ) (i : ℕ) → Low (rowUsable p i)
+unfolding rowUsable
 low-used p i = refuses-then _ _ (low-limits p i) (refuses-then _ _ (low-row _ i) (low-row _ i))
 
 low-rows : (p : List ℕ) → Low (rows p)
@@ -80,8 +80,8 @@ low-named : (p : List ℕ) (f : Effect) → Low (namedRow p f)
 unfolding namedRow
 low-named p (Effect.Compute a x) = refuses-accepted
 low-named p (Effect.Jump k) = refuses-accepted
-low-named p (Effect.Read a x) = refuses-accepted
-low-named p (Effect.Write x y) = refuses-accepted
+low-named p (Effect.Load a x) = refuses-accepted
+low-named p (Effect.Save x y) = refuses-accepted
 low-named p (Effect.EndTask k) = low-used p k
 low-named p Effect.EndEvent = refuses-accepted
 low-named p Effect.Unknown = refuses-accepted

@@ -18,7 +18,7 @@ use Rattle.model.specs.Accepted.{Contents, Registers, Legal, Sizes, Shap
 use Rattle.model.specs.Check.{fieldsFit, instructionRule}
 use Rattle.model.specs.Control.{obeyAll, phaseRule, taskRule, openServing, countRule, pendingTaskRule, headRule, tailRule, pendingHeadRule, earlyRules, Rule, upTo, openRule, pendingOpenRule, addressRule, recordRule, controlRules, rules, earlyOf}
 use Rattle.model.specs.Device.{mayRun, placeSound, recordsSound, handlerSound, deviceSound, look, bodySound}
-use Rattle.model.specs.Program.{word, tasks, memoryWords, instructions, number, opcode, fieldA, fieldB, code, operand, bounds, decode}
+use Rattle.model.specs.Program.{word, tasks, memoryWords, instructions, bodyNumber, opcode, fieldA, fieldB, code, operand, bounds, decode}
 use Rattle.model.specs.Store.{Store, view, carried, room, logAt, queueAt, storeLength, storeRule, sizesRule}
 use Rattle.model.specs.Test.{_and_, _or_, pick}
 use Rattle.model.specs.Types.{Body, Checked, Device, Effect, Free, Half, Handler, Instruction, Place, Resting, Run, Storing}
@@ -124,9 +124,9 @@ early-upTo f late (suc n) = early-left (upTo f n) (f n ∷ []) (pick-false _ _ (
 pub early-are : (p : List ℕ) (v : Store) → earlyRules p v ≡ phaseRule v ∷ taskRule p v ∷ openServing v ∷ countRule v ∷ pendingTaskRule p v ∷ pendingHeadRule v ∷ headRule v ∷ tailRule v ∷ []
 unfolding earlyRules earlyOf rules controlRules phaseRule taskRule openRule openServing countRule pendingTaskRule pendingHeadRule pendingOpenRule headRule tailRule addressRule recordRule pick
 early-are p v =
-    early-left (controlRules p v ++ upTo (addressRule p v) (v .pairs)) (upTo (recordRule p v) (v .records + 1))
-    (early-upTo (recordRule p v) (λ x. refl) (v .records + 1))
-    ∙ early-left (controlRules p v) (upTo (addressRule p v) (v .pairs)) (early-upTo (addressRule p v) (λ j. refl) (v .pairs))
+    early-left (controlRules p v ++ upTo (addressRule p v) (v .logPairs)) (upTo (recordRule p v) (v .queueRecords + 1))
+    (early-upTo (recordRule p v) (λ x. refl) (v .queueRecords + 1))
+    ∙ early-left (controlRules p v) (upTo (addressRule p v) (v .logPairs)) (early-upTo (addressRule p v) (λ j. refl) (v .logPairs))
 
 pub control-passed : (p : List ℕ) (v : Store) → obeyAll (earlyRules p v) ≡ Checked.Accepted → Controlled p v
 unfolding obeyAll phaseRule taskRule openServing countRule pendingTaskRule pendingHeadRule headRule tailRule
@@ -229,7 +229,7 @@ body-passed p v x b j f e0 =
     record {
       head-record = then-first _ _ e0;
       rows-inside = then-first _ _ e1;
-      row = row-passed p (number p b) (then-first _ _ e2);
+      row = row-passed p (bodyNumber p b) (then-first _ _ e2);
       there = ltb-true _ _ there;
       rule = then-first _ _ code;
       named = then-rest _ _ code;

@@ -11,7 +11,7 @@ use lib.ListN.{getD}
 use borrow.Author.Tests.{ltb-true, ltb-false, leb-true, eqb-true, eq-eqb, le-leb, eqb-false}
 use Rattle.model.proofs.TestLaws.{pick-case, pick-true, clash, and-left, and-right, must-true, must-passed, must-then, then-passed, then-first, then-rest, each-passed}
 use Rattle.model.specs.Accepted.{Contents, RowsInside, HasRow, UsableRow, HasBody, Bodies, LegalEffect, Sound}
-use Rattle.model.specs.Check.{contentsRule, rowsInside, limits, due, rowRule, rows, rowUsed, fieldsFit, lastFits, instructionRule, bodyRule, check}
+use Rattle.model.specs.Check.{contentsRule, rowsInside, limits, due, rowRule, rows, rowUsable, fieldsFit, lastFits, instructionRule, bodyRule, check}
 use Rattle.model.specs.Program.{tasks, memoryWords, total, bodies, start, instructions, firstBody, opcode, fieldA, fieldB, code, operand, Bounds, boundsTable, bounds, mayBeLast, instructionTable, decode, effect, effectAt, less, reg}
 use Rattle.model.specs.Test.{pick}
 use Rattle.model.specs.Types.{Checked, Instruction}
@@ -48,8 +48,8 @@ inside-passed p c e =
     let fits : firstBody p ≤ total p = leb-true _ _ (must-passed _ _ e) in
     record { contents = c; inside = omega arith }
 
-pub row-passed : (p : List ℕ) (i : ℕ) → rowUsed p i ≡ Checked.Accepted → UsableRow p i
-unfolding rowUsed limits
+pub row-passed : (p : List ℕ) (i : ℕ) → rowUsable p i ≡ Checked.Accepted → UsableRow p i
+unfolding rowUsable limits
 row-passed p i e =
     let (some, l1) = must-then _ _ _ (then-first _ _ e) in
     let (most, l2) = must-then _ _ _ l1 in
@@ -61,7 +61,7 @@ row-passed p i e =
       inside = leb-true _ _ (must-passed _ _ e1);
     }
 
-pub used-passed : (p : List ℕ) (i : ℕ) → HasRow p i → rowUsed p i ≡ Checked.Accepted → HasBody p i
+pub used-passed : (p : List ℕ) (i : ℕ) → HasRow p i → rowUsable p i ≡ Checked.Accepted → HasBody p i
 used-passed p i h e = record { row = h; usable = row-passed p i e }
 
 -- ---- the rows together: each body starts where it is due, so it ends where the next is due, at most at the total
@@ -96,8 +96,8 @@ module _ (p : List ℕ) (passed : rows p ≡ Checked.Accepted) where
   due-inside zero i e = omega (arith, ends-at-total, ap (due p) (sym (add-zero i) ∙ e))
   due-inside (suc k) i e = omega (arith, due-inside k (suc i) (omega arith), start-due i (omega arith), due-next p i {i = suc i} refl)
 
-  row-used : (i : ℕ) → i < bodies p → rowUsed p i ≡ Checked.Accepted
-  unfolding rowRule rowUsed
+  row-used : (i : ℕ) → i < bodies p → rowUsable p i ≡ Checked.Accepted
+  unfolding rowRule rowUsable
   row-used i h =
       let lo : firstBody p ≤ start p i = omega (arith, due-behind i (omega arith), start-due i h) in
       let hi : start p i + 2 * instructions p i ≤ total p =

@@ -12,7 +12,7 @@ use borrow.Author.Tests.{ne-eqb}
 use lib.Dec.{eqb}
 use lib.ListN.{length}
 use Rattle.model.proofs.Invariant.{StillAt, Placed, Resumes, On, Inv}
-use Rattle.model.proofs.Kept.{lasting-in, task-last-is, event-last-is, Remaining, Turn, turn}
+use Rattle.model.proofs.Kept.{lasting-in, task-last-is, event-last-is, Remaining, LeavesStores, leaves-stores}
 use Rattle.model.proofs.KeptWords.{InvWords, KeptWords, when-on, step-kept, view-at, look-is, boot-is}
 use Rattle.model.proofs.KeptCalls.{held-of, resumes-of, off-inv, on-inv}
 use Rattle.model.proofs.StoreLaws.{viewAt}
@@ -20,7 +20,7 @@ use Rattle.model.proofs.TestLaws.{pick-true, pick-false, must-true}
 use Rattle.model.specs.Accepted.{Sound}
 use Rattle.model.specs.Calls.{Step, unlessRefused, recovered, refused, finish, recovery}
 use Rattle.model.specs.Demand3.{Left, recoverySteps, Recovers}
-use Rattle.model.specs.Device.{Out, out, judged, fresh, off, turnedOn, taskLastStores, eventLastStores, lastStores, boot, cut, copyStep, placeStep, nextStep, step}
+use Rattle.model.specs.Device.{Outcome, out, judged, fresh, off, turnedOn, taskLastStores, eventLastStores, lastStores, boot, cut, copyStep, placeStep, nextStep, step}
 use Rattle.model.specs.Program.{memoryWords}
 use Rattle.model.specs.Serial.{Serial, given, tell}
 use Rattle.model.specs.Store.{Store, view, Write, none, settled, waiting}
@@ -74,8 +74,8 @@ module _ (p : List ℕ) (sound : Sound p) (l q : ℕ) (s : List ℕ) (d : Device
       by-commit (inr (m, inr t)) n = absurd (omega (arith, lasting-in (t .lasting), ap length (event-last-is v (t .phase-is))))
 
   -- something is left: a commit is at work, and makes its next store
-  next-turn : (c r : ℕ) → d .on ≡ true → d .handler ≡ Resting → d .place ≡ Free c → Remaining v c (suc r) → Turn v (step p s d) r
-  next-turn c r on rest at n = by-commit (rw at at (j .placed)) n
+  next-leaves : (c r : ℕ) → d .on ≡ true → d .handler ≡ Resting → d .place ≡ Free c → Remaining v c (suc r) → LeavesStores v (step p s d) r
+  next-leaves c r on rest at n = by-commit (rw at at (j .placed)) n
     where
       j : On p v d z k
       j = when-on p sound l q s d z k i on
@@ -83,22 +83,22 @@ module _ (p : List ℕ) (sound : Sound p) (l q : ℕ) (s : List ℕ) (d : Device
       busy : (m : ℕ) → v .phase ≡ m → eqb m 0 ≡ false → eqb (v .phase) 0 ≡ false
       busy m e f = ap (λ (x : ℕ). eqb x 0) e ∙ f
 
-      by-commit : Placed p v d z k (Free c) → Remaining v c (suc r) → Turn v (step p s d) r
+      by-commit : Placed p v d z k (Free c) → Remaining v c (suc r) → LeavesStores v (step p s d) r
       by-commit (inl (s, e)) (inl n) = absurd (omega arith)
       by-commit (inl (s, e)) (inr n) = absurd (n .0 (s .phase-is))
-      by-commit (inr (m, inl t)) n = rw (commit-is on rest c at (busy 1 (t .phase-is) refl)) (turn p v d rest z k j c m (inl t) r n)
-      by-commit (inr (m, inr t)) n = rw (commit-is on rest c at (busy 2 (t .phase-is) refl)) (turn p v d rest z k j c m (inr t) r n)
+      by-commit (inr (m, inl t)) n = rw (commit-is on rest c at (busy 1 (t .phase-is) refl)) (leaves-stores p v d rest z k j c m (inl t) r n)
+      by-commit (inr (m, inr t)) n = rw (commit-is on rest c at (busy 2 (t .phase-is) refl)) (leaves-stores p v d rest z k j c m (inr t) r n)
 
   some-left : (c r : ℕ) → Remaining v c (suc r) → eqb (v .phase) 0 ≡ false
   some-left c r (inl n) = absurd (omega arith)
   some-left c r (inr n) = ne-eqb _ _ (n .0)
 
   -- a step that stored leaves the serial run where it was
-  stored-same : (h : KeptWords p l q s z k Step (step p s d)) → step p s d .answer ≡ Answer.Stored → h .after ≡ z
+  stored-same : (h : KeptWords p l q s z k Step (step p s d)) → step p s d .answer ≡ Answer.Stored → h .serial ≡ z
   unfolding tell
   stored-same h e =
-      let t : tell (suc k) (given p l q) z Step Answer.Stored ≡ some (h .after) = rw e at (h .tells (suc k) (omega arith)) in
-      let u : some z ≡ some (h .after) = t in
+      let t : tell (suc k) (given p l q) z Step Answer.Stored ≡ some (h .serial) = rw e at (h .tells (suc k) (omega arith)) in
+      let u : some z ≡ some (h .serial) = t in
       cc
 
 -- ---- recovery
@@ -132,7 +132,7 @@ finishes p sound l q zero fuel n s d z k c i on rest at m h =
     }
 finishes p sound l q (suc r) zero n s d z k c i on rest at m h = absurd (not-suc-le-zero h)
 finishes p sound l q (suc r) (suc fuel) n s d z k c i on rest at m h =
-    let t = next-turn p sound l q s d z k i c r on rest at m in
+    let t = next-leaves p sound l q s d z k i c r on rest at m in
     let w = step-kept p sound l q s d z k i in
     let same = stored-same p sound l q s d z k i w (t .answer-is) in
     let rest′ =
@@ -188,7 +188,7 @@ recovers p sound l q s d z k i fuel h =
     record {
       store = f .store;
       ends =
-          ap (λ (o : Out). unlessRefused (o .answer) refused (finish p fuel 0 s (o .device))) booted
+          ap (λ (o : Outcome). unlessRefused (o .answer) refused (finish p fuel 0 s (o .device))) booted
           ∙ f .ends
           ∙ ap (λ (x : ℕ). recovered x (f .store)) (zero-add (recoverySteps v) ∙ ap recoverySteps (sym (view-at p sound l q s d z k i)));
       left = f .left;

@@ -9,16 +9,16 @@ use Rattle.model.proofs.CallLaws.{adds-nothing}
 use Rattle.model.proofs.DeviceLaws.{judged-refused, boot-why, post-why, why}
 use Rattle.model.specs.Calls.{Call, Boot, Step, Cut, Post, call, isCommit, acceptedEvents, isStore, counted}
 use Rattle.model.specs.Claims.{RefusedChangesNothing}
-use Rattle.model.specs.Device.{Out, refuse, boot, cut, post}
+use Rattle.model.specs.Device.{Outcome, refuse, boot, cut, post}
 use Rattle.model.specs.Store.{settled}
 use Rattle.model.specs.Types.{Answer, Device, Refusal}
 
 -- where an outcome's answer is a refusal, it is nothing else
-abbrev pub Bare : Device → Out → Type 0
-Bare d o = (r : Refusal) → o .answer ≡ Answer.Refused r → o ≡ refuse d r
+abbrev pub OnlyRefuses : Device → Outcome → Type 0
+OnlyRefuses d o = (r : Refusal) → o .answer ≡ Answer.Refused r → o ≡ refuse d r
 
 -- a refused call is its refusal and nothing else
-pub refused-is : (p s : List ℕ) (d : Device) (c : Call) → Bare d (call p s d c)
+pub refused-is : (p s : List ℕ) (d : Device) (c : Call) → OnlyRefuses d (call p s d c)
 unfolding call boot cut post
 refused-is p s d Boot r e = judged-refused d _ (boot-why p s d r e)
 refused-is p s d Step r e = why p s d r e .1
@@ -29,4 +29,4 @@ pub refused-changes-nothing : RefusedChangesNothing
 unfolding settled isCommit acceptedEvents isStore
 refused-changes-nothing p s d c t r e =
     let q = refused-is p s d c r e in
-    record { store = ap (λ (o : Out). settled s (o .write)) q; device = ap (λ (o : Out). o .device) q; totals = ap (counted t) q ∙ adds-nothing t (refuse d r) refl refl refl }
+    record { store = ap (λ (o : Outcome). settled s (o .write)) q; device = ap (λ (o : Outcome). o .device) q; totals = ap (counted t) q ∙ adds-nothing t (refuse d r) refl refl refl }

@@ -22,8 +22,8 @@ use Rattle.model.specs.Answer.{refusal}
 use Rattle.model.specs.Calls.{Call, Boot, Step, Cut, Post, call, afterCalls}
 use Rattle.model.specs.Claims.{Stays, address, logFull, uncut, RefusalStays, soundAfter}
 use Rattle.model.specs.Control.{Rule, obey, obeyAll, openRule, taskRule}
-use Rattle.model.specs.Device.{Out, out, refuse, withHandler, look, boot, bootCheck, post, postCheck, recordSound, headSound, headIs, openSound, bodySound, act, nextStep, step}
-use Rattle.model.specs.Program.{word, memoryWords, number}
+use Rattle.model.specs.Device.{Outcome, out, refuse, withHandler, look, boot, bootCheck, post, postCheck, recordSound, headSound, headIs, openSound, bodySound, act, nextStep, step}
+use Rattle.model.specs.Program.{word, memoryWords, bodyNumber}
 use Rattle.model.specs.Store.{Store, view, event, Record, carried, distance, slot, Word, Event, Datum, Tail, Write, to, settled}
 use Rattle.model.specs.Test.{_or_, must}
 use Rattle.model.specs.Types.{Answer, Body, Checked, Device, Effect, Handler, Place, Refusal, Resting, Run, Storing}
@@ -79,8 +79,8 @@ unfolding bodySound late refusal _or_
 other-body p v x b j f =
     refuses-then _ _ (other-head p v b)
     (refuses-then _ _ (other-low _ (low-inside p))
-    (refuses-then _ _ (other-low _ (low-used p (number p b)))
-    (refuses-then _ _ (other-low _ (low-body p (number p b) j _ f)) (refuses-then _ _ (other-open p v b) (other-must _ _ refl)))))
+    (refuses-then _ _ (other-low _ (low-used p (bodyNumber p b)))
+    (refuses-then _ _ (other-low _ (low-body p (bodyNumber p b) j _ f)) (refuses-then _ _ (other-open p v b) (other-must _ _ refl)))))
 
 -- ---- the same refusal where the queue and tail are other ones, but for the record at head
 
@@ -95,7 +95,7 @@ module _ (p : List ℕ) (v : Store) (queue : List ℕ) (t : ℕ) (same : v .head
     acts-again : {b : Body} {j c : ℕ} {f : Effect} {r : Refusal} → RunsAt p v d b j c f → act p (requeued v queue t) d b j c f ≡ refuse d r
         → step p s d .answer ≡ Answer.Refused r
     acts-again {b} {j} {c} {f} h e =
-        ap (λ (o : Out). o .answer)
+        ap (λ (o : Outcome). o .answer)
         (step-acts p s d looks rests b j c f (h .place) (h .does) (rw parts (body-same (Run b j c) b j f (h .stands .1) ∙ h .sound))
         ∙ ap (λ (u : Store). act p u d b j c f) parts
         ∙ e)
@@ -116,7 +116,7 @@ Stuck p s d r = step p s (withHandler d Resting) .answer ≡ Answer.Refused r
 
 rests-is : (d : Device) → d .handler ≡ Resting → withHandler d Resting ≡ d
 unfolding withHandler
-rests-is d e = λ i. record { on = d .on; regs = d .regs; place = d .place; count = d .count; handler = sym e i }
+rests-is d e = λ i. record { on = d .on; registers = d .registers; place = d .place; count = d .count; handler = sym e i }
 
 -- it begins so
 stuck-first : (p s : List ℕ) (d : Device) (r : Refusal) → Stays r → step p s d .answer ≡ Answer.Refused r → Stuck p s d r
@@ -130,8 +130,8 @@ module _ (p s : List ℕ) (d : Device) (r : Refusal) (w : Stays r) (k : Stuck p 
   abbrev v : Store
   v = view s
 
-  abbrev After : Out → Type 0
-  After o = Stuck p (settled s (o .write)) (o .device) r
+  abbrev SlotAfter : Outcome → Type 0
+  SlotAfter o = Stuck p (settled s (o .write)) (o .device) r
 
   meets : Looked p s (withHandler d Resting) × Meets p v (withHandler d Resting) r
   meets = by-why (why p s (withHandler d Resting) r k .0)
@@ -142,29 +142,29 @@ module _ (p s : List ℕ) (d : Device) (r : Refusal) (w : Stays r) (k : Stuck p 
 
   -- a store by the handler
   stored : (x : Word) (y : ℕ) (h : Handler) (a : Answer) (queue : List ℕ) (t : ℕ) → step p s d ≡ out (to x y) (withHandler d h) a → soundAfter a ≡ true
-      → Inside (memoryWords p) (v .pairs) (v .records) x → apply v (to x y) ≡ requeued v queue t
-      → (v .head ≢ v .tail → word queue (2 * v .head) ≡ event v (v .head)) → After (out (to x y) (withHandler d h) a)
+      → Inside (memoryWords p) (v .logPairs) (v .queueRecords) x → apply v (to x y) ≡ requeued v queue t
+      → (v .head ≢ v .tail → word queue (2 * v .head) ≡ event v (v .head)) → SlotAfter (out (to x y) (withHandler d h) a)
   unfolding withHandler
   stored x y h a queue t is sound inside parts same =
       let s′ = settled s (to x y) in
-      let looks = look-stays p s d (ap (λ (o : Out). soundAfter (o .answer)) is ∙ sound) in
+      let looks = look-stays p s d (ap (λ (o : Outcome). soundAfter (o .answer)) is ∙ sound) in
       again p v queue t same s′ (withHandler d Resting) refl
-      (look-rests p s′ (withHandler d h) (subst (λ (o : Out). look p (settled s (o .write)) (o .device) ≡ Checked.Accepted) is looks))
-      (view-after (memoryWords p) (v .pairs) (v .records) s (sized (meets .0 .shaped)) x y inside ∙ parts) r w (meets .1)
+      (look-rests p s′ (withHandler d h) (subst (λ (o : Outcome). look p (settled s (o .write)) (o .device) ≡ Checked.Accepted) is looks))
+      (view-after (memoryWords p) (v .logPairs) (v .queueRecords) s (sized (meets .0 .shaped)) x y inside ∙ parts) r w (meets .1)
 
   -- the record at head, if one waits, isn't where the handler stores
-  head-stays : (rs : List Record) (w : Write) → RecordStore (v .records) (v .tail) rs w → length rs ≤ v .records - distance (v .records) (v .head) (v .tail)
+  head-stays : (rs : List Record) (w : Write) → RecordStore (v .queueRecords) (v .tail) rs w → length rs ≤ v .queueRecords - distance (v .queueRecords) (v .head) (v .tail)
       → v .head ≢ v .tail → word (queueAfter (v .queue) w) (2 * v .head) ≡ event v (v .head)
   unfolding slot forward
   head-stays rs w store room ne =
       let c = meets .0 .control in
       ap (λ (x : Record). x .event)
-      (slot-stays (v .queue) (v .records) (v .tail) rs w store (v .head)
+      (slot-stays (v .queue) (v .queueRecords) (v .tail) rs w store (v .head)
       (λ n l.
-      slot-apart (v .records) (v .head) (v .tail) n (c .head-in) (c .tail-in) (omega (arith, room)) 0
-      (distance-some (v .records) (v .head) (v .tail) (c .head-in) (c .tail-in) ne)))
+      slot-apart (v .queueRecords) (v .head) (v .tail) n (c .head-in) (c .tail-in) (omega (arith, room)) 0
+      (distance-some (v .queueRecords) (v .head) (v .tail) (c .head-in) (c .tail-in) ne)))
 
-  stuck-handler : {c e x : ℕ} (o : Out) → HandlerMade p v d c e x o → step p s d ≡ o → After o
+  stuck-handler : {c e x : ℕ} (o : Outcome) → HandlerMade p v d c e x o → step p s d ≡ o → SlotAfter o
   unfolding apply soundAfter queueAfter
   stuck-handler {c = c} {e = e} {x = x} o (record-made a (event-store n y l m)) is =
       stored (Event _) (y .event) (Storing (c + 1) e x) Answer.Stored _ (v .tail) is refl (slot-in (v .head) n (meets .0 .control .tail-in) (a .room) l) refl
@@ -174,27 +174,27 @@ module _ (p s : List ℕ) (d : Device) (r : Refusal) (w : Stays r) (k : Stuck p 
       (head-stays (carried e x) _ (datum-store n y l m) (a .room))
   stuck-handler o (tail-made a) is = stored Tail _ Resting Answer.Accepted (v .queue) _ is refl tt refl (λ _. refl)
 
-  stuck-step : (h : Handler) → d .handler ≡ h → After (step p s d)
+  stuck-step : (h : Handler) → d .handler ≡ h → SlotAfter (step p s d)
   unfolding settled nextStep
   stuck-step Resting q =
-      subst After (sym (why p s d r (ap (λ (u : Device). step p s u .answer) (sym (rests-is d q)) ∙ k) .1)) k
+      subst SlotAfter (sym (why p s d r (ap (λ (u : Device). step p s u .answer) (sym (rests-is d q)) ∙ k) .1)) k
   stuck-step (Storing c e x) q = by-look (look p s d) refl
     where
-      by-look : (k : Checked) → look p s d ≡ k → After (step p s d)
+      by-look : (k : Checked) → look p s d ≡ k → SlotAfter (step p s d)
       by-look Checked.Accepted ok =
           let is = step-goes p s d ok ∙ ap (nextStep p v d) q in
           let attends = look-passed p s d ok .handler in
-          subst After (sym is) (stuck-handler _ (handler-made p v d c e x (rw q at attends)) is)
-      by-look (Checked.Refused f) not-ok = subst After (sym (step-refused p s d not-ok)) k
+          subst SlotAfter (sym is) (stuck-handler _ (handler-made p v d c e x (rw q at attends)) is)
+      by-look (Checked.Refused f) not-ok = subst SlotAfter (sym (step-refused p s d not-ok)) k
 
-  stuck-call : (c : Call) → uncut (c ∷ []) ≡ true → After (call p s d c)
+  stuck-call : (c : Call) → uncut (c ∷ []) ≡ true → SlotAfter (call p s d c)
   unfolding call boot bootCheck post settled withHandler uncut
   stuck-call Boot e =
-      judged-case After (bootCheck p s d) (λ f _. k)
+      judged-case SlotAfter (bootCheck p s d) (λ f _. k)
       (λ ok. clash (must-passed (not (d .on)) Refusal.PowerOn (then-rest _ _ (then-rest _ _ (then-rest _ _ ok)))) (ap not (meets .0 .on)))
   stuck-call Step e = stuck-step (d .handler) refl
   stuck-call Cut e = clash e refl
-  stuck-call (Post y x) e = judged-case After (postCheck p s d y) (λ f _. k) (λ _. k)
+  stuck-call (Post y x) e = judged-case SlotAfter (postCheck p s d y) (λ f _. k) (λ _. k)
 
 uncut-first : (c : Call) (cs : List Call) → uncut (c ∷ cs) ≡ true → (uncut (c ∷ []) ≡ true) × (uncut cs ≡ true)
 unfolding uncut

@@ -17,30 +17,30 @@ use Rattle.model.specs.Claims.{FullIsNoRoom}
 use Rattle.model.specs.Control.{between}
 use Rattle.model.specs.Device.{recordStores, knownEvents}
 use Rattle.model.specs.Program.{word, events}
-use Rattle.model.specs.Store.{after, distance, room, slot, recordsFrom, Record, carried, Phase, Task, Open, Count, Pending, PendingOpen, Head, Tail, Memory, Address, Value, Event, Datum, Write, none, to}
+use Rattle.model.specs.Store.{slotAfter, distance, room, slot, recordsFrom, Record, carried, Phase, Task, Open, Count, Pending, PendingOpen, Head, Tail, Memory, Address, Value, Event, Datum, Write, none, to}
 use Rattle.model.specs.Test.{pick, _and_, _or_}
 
 -- ---- what the definitions say, in plain arithmetic
 
 -- y is the slot after x
-abbrev pub After : ℕ → ℕ → ℕ → Type 0
-After q x y = ((x ≡ q) × (y ≡ 0)) ⊎ ((x ≢ q) × (y ≡ x + 1))
+abbrev pub SlotAfter : ℕ → ℕ → ℕ → Type 0
+SlotAfter q x y = ((x ≡ q) × (y ≡ 0)) ⊎ ((x ≢ q) × (y ≡ x + 1))
 
-pub after-is : (q x : ℕ) → After q x (after q x)
-unfolding after
-after-is q x = pick-case (λ (y : ℕ). After q x y) (λ e. inl (eqb-true _ _ e, refl)) (λ e. inr (eqb-false _ _ e, refl))
+pub slot-after-is : (q x : ℕ) → SlotAfter q x (slotAfter q x)
+unfolding slotAfter
+slot-after-is q x = pick-case (λ (y : ℕ). SlotAfter q x y) (λ e. inl (eqb-true _ _ e, refl)) (λ e. inr (eqb-false _ _ e, refl))
 
-pub after-le : (q x : ℕ) → x ≤ q → after q x ≤ q
-after-le q x l = go (after q x) (after-is q x)
+pub slot-after-le : (q x : ℕ) → x ≤ q → slotAfter q x ≤ q
+slot-after-le q x l = go (slotAfter q x) (slot-after-is q x)
   where
-    go : (y : ℕ) → After q x y → y ≤ q
+    go : (y : ℕ) → SlotAfter q x y → y ≤ q
     go y (inl a) = omega arith
     go y (inr a) = omega arith
 
 -- the slot n places after x
 unfoldable pub forward : ℕ → ℕ → ℕ → ℕ
 forward q x zero = x
-forward q x (suc n) = forward q (after q x) n
+forward q x (suc n) = forward q (slotAfter q x) n
 
 -- y is that slot
 abbrev pub Forward : ℕ → ℕ → ℕ → ℕ → Type 0
@@ -49,9 +49,9 @@ Forward q x n y = ((x + n ≤ q) × (y ≡ x + n)) ⊎ ((q < x + n) × (y + (q +
 pub forward-is : (q x n : ℕ) → x ≤ q → n ≤ q → Forward q x n (forward q x n)
 unfolding forward
 forward-is q x zero l m = inl (omega arith, omega arith)
-forward-is q x (suc n) l m = go (after q x) (forward q (after q x) n) (after-is q x) (forward-is q (after q x) n (after-le q x l) (omega arith))
+forward-is q x (suc n) l m = go (slotAfter q x) (forward q (slotAfter q x) n) (slot-after-is q x) (forward-is q (slotAfter q x) n (slot-after-le q x l) (omega arith))
   where
-    go : (a y : ℕ) → After q x a → Forward q a n y → Forward q x (suc n) y
+    go : (a y : ℕ) → SlotAfter q x a → Forward q a n y → Forward q x (suc n) y
     go a y (inl s) (inl f) = inr (omega arith, omega arith)
     go a y (inl s) (inr f) = absurd (omega arith)
     go a y (inr s) (inl f) = inl (omega arith, omega arith)
@@ -98,11 +98,11 @@ distance-apart q h t l p = go (distance q h t) (distance-is q h t l) p
     go n (inr d) p = omega arith
 
 -- a new head: one slot fewer
-pub distance-head : (q h t : ℕ) → h ≤ q → t ≤ q → h ≢ t → distance q h t ≡ suc (distance q (after q h) t)
+pub distance-head : (q h t : ℕ) → h ≤ q → t ≤ q → h ≢ t → distance q h t ≡ suc (distance q (slotAfter q h) t)
 distance-head q h t l m ne =
-    go (after q h) (distance q h t) (distance q (after q h) t) (after-is q h) (distance-is q h t l) (distance-is q (after q h) t (after-le q h l))
+    go (slotAfter q h) (distance q h t) (distance q (slotAfter q h) t) (slot-after-is q h) (distance-is q h t l) (distance-is q (slotAfter q h) t (slot-after-le q h l))
   where
-    go : (a n k : ℕ) → After q h a → Distance q h t n → Distance q a t k → n ≡ suc k
+    go : (a n k : ℕ) → SlotAfter q h a → Distance q h t n → Distance q a t k → n ≡ suc k
     go a n k (inl x) (inl y) (inl z) = omega arith
     go a n k (inl x) (inl y) (inr z) = omega arith
     go a n k (inl x) (inr y) (inl z) = omega arith
@@ -126,10 +126,10 @@ forward-distance q h t l m =
 -- "full means the slot after tail is head"
 pub full-is-no-room : FullIsNoRoom
 unfolding room
-full-is-no-room v l m = go (after (v .records) (v .tail)) (distance (v .records) (v .head) (v .tail)) (after-is _ _) (distance-is _ _ _ l)
+full-is-no-room v l m = go (slotAfter (v .queueRecords) (v .tail)) (distance (v .queueRecords) (v .head) (v .tail)) (slot-after-is _ _) (distance-is _ _ _ l)
   where
-    go : (a n : ℕ) → After (v .records) (v .tail) a → Distance (v .records) (v .head) (v .tail) n
-        → (v .records - n ≡ 0 → a ≡ v .head) × (a ≡ v .head → v .records - n ≡ 0)
+    go : (a n : ℕ) → SlotAfter (v .queueRecords) (v .tail) a → Distance (v .queueRecords) (v .head) (v .tail) n
+        → (v .queueRecords - n ≡ 0 → a ≡ v .head) × (a ≡ v .head → v .queueRecords - n ≡ 0)
     go a n (inl s) (inl d) = (λ e. omega arith, λ e. omega arith)
     go a n (inl s) (inr d) = (λ e. omega arith, λ e. omega arith)
     go a n (inr s) (inl d) = (λ e. omega arith, λ e. omega arith)
@@ -182,11 +182,11 @@ unfolding recordsFrom forward
 records-append queue q zero k h = let e : 0 + k ≡ k = omega arith in ap (recordsFrom queue q h) e
 records-append queue q (suc n) k h =
     let e : suc n + k ≡ suc (n + k) = omega arith in
-    ap (recordsFrom queue q h) e ∙ ap (λ (rs : List Record). slot queue h ∷ rs) (records-append queue q n k (after q h))
+    ap (recordsFrom queue q h) e ∙ ap (λ (rs : List Record). slot queue h ∷ rs) (records-append queue q n k (slotAfter q h))
 
 -- a new head takes the first record away
 pub records-head : (queue : List ℕ) (q h t : ℕ) → h ≤ q → t ≤ q → h ≢ t
-    → recordsFrom queue q h (distance q h t) ≡ slot queue h ∷ recordsFrom queue q (after q h) (distance q (after q h) t)
+    → recordsFrom queue q h (distance q h t) ≡ slot queue h ∷ recordsFrom queue q (slotAfter q h) (distance q (slotAfter q h) t)
 unfolding recordsFrom
 records-head queue q h t l m ne = rw (distance-head q h t l m ne)
 
@@ -196,7 +196,7 @@ pub records-same : (queue other : List ℕ) (q n h : ℕ) → ((j : ℕ) → j <
 unfolding recordsFrom forward
 records-same queue other q zero h f = refl
 records-same queue other q (suc n) h f =
-    let rest = records-same queue other q n (after q h) (λ j l. f (suc j) (omega arith)) in
+    let rest = records-same queue other q n (slotAfter q h) (λ j l. f (suc j) (omega arith)) in
     λ i. f 0 (omega arith) i ∷ rest i
 
 -- every event is below E
@@ -219,7 +219,7 @@ known-at : (p queue : List ℕ) (q n h j : ℕ) → Known p (recordsFrom queue q
 unfolding recordsFrom forward slot
 known-at p queue q zero h j k l = absurd (omega arith)
 known-at p queue q (suc n) h zero (a, k) l = a
-known-at p queue q (suc n) h (suc j) (a, k) l = known-at p queue q n (after q h) j k (omega arith)
+known-at p queue q (suc n) h (suc j) (a, k) l = known-at p queue q n (slotAfter q h) j k (omega arith)
 
 -- ---- the slots between head and tail
 
@@ -311,7 +311,7 @@ pub data RecordStore (q t : ℕ) (rs : List Record) : Write → Type 0 where
 pub slot-in : {q t k : ℕ} (h i : ℕ) → t ≤ q → k ≤ q - distance q h t → i < k → forward q t i ≤ q
 slot-in {q = q} {t = t} h i l room below = forward-le q t i l (omega arith)
 
-later-store : (q t : ℕ) (s : Record) (rs : List Record) (w : Write) → RecordStore q (after q t) rs w → RecordStore q t (s ∷ rs) w
+later-store : (q t : ℕ) (s : Record) (rs : List Record) (w : Write) → RecordStore q (slotAfter q t) rs w → RecordStore q t (s ∷ rs) w
 unfolding forward
 later-store q t s rs w (event-store i r l m) = event-store (suc i) r (omega arith) (there m)
 later-store q t s rs w (datum-store i r l m) = datum-store (suc i) r (omega arith) (there m)
@@ -321,7 +321,7 @@ unfolding recordStores forward
 record-store q [] t c l = absurd (omega arith)
 record-store q (r ∷ rs) t zero l = event-store 0 r (omega arith) here
 record-store q (r ∷ rs) t (suc zero) l = datum-store 0 r (omega arith) here
-record-store q (r ∷ rs) t (suc (suc c)) l = later-store q t r rs _ (record-store q rs (after q t) c (omega arith))
+record-store q (r ∷ rs) t (suc (suc c)) l = later-store q t r rs _ (record-store q rs (slotAfter q t) c (omega arith))
 
 -- and the last
 pub tail-store : (q : ℕ) (rs : List Record) (t c : ℕ) → c ≡ 2 * length rs → getD (recordStores q t rs) c none ≡ to Tail (forward q t (length rs))
@@ -330,7 +330,7 @@ tail-store q [] t zero e = refl
 tail-store q [] t (suc c) e = absurd (omega arith)
 tail-store q (r ∷ rs) t zero e = absurd (omega arith)
 tail-store q (r ∷ rs) t (suc zero) e = absurd (omega arith)
-tail-store q (r ∷ rs) t (suc (suc c)) e = tail-store q rs (after q t) c (omega arith)
+tail-store q (r ∷ rs) t (suc (suc c)) e = tail-store q rs (slotAfter q t) c (omega arith)
 
 -- how many records a post carries, and how many stores these are
 pub carried-one : (e x : ℕ) → length (carried e x) ≡ 1
@@ -340,7 +340,7 @@ carried-one e x = refl
 pub record-stores : (q : ℕ) (rs : List Record) (t : ℕ) → length (recordStores q t rs) ≡ 2 * length rs + 1
 unfolding recordStores
 record-stores q [] t = refl
-record-stores q (r ∷ rs) t = let e = record-stores q rs (after q t) in omega arith
+record-stores q (r ∷ rs) t = let e = record-stores q rs (slotAfter q t) in omega arith
 
 -- once all but the last are made, the records stand there
 pub records-made : (queue : List ℕ) (q : ℕ) (rs : List Record) (t c : ℕ) → c ≡ 2 * length rs → RecordsMade queue q t rs c
@@ -350,7 +350,7 @@ records-made queue q [] t c e f = refl
 records-made queue q (r ∷ rs) t zero e f = absurd (omega arith)
 records-made queue q (r ∷ rs) t (suc zero) e f = absurd (omega arith)
 records-made queue q (r ∷ rs) t (suc (suc c)) e (a, (b, f)) =
-    let rest = records-made queue q rs (after q t) c (omega arith) f in
+    let rest = records-made queue q rs (slotAfter q t) c (omega arith) f in
     λ i. record { event = a i; datum = b i } ∷ rest i
 
 -- ---- the queue after one of them
@@ -389,7 +389,7 @@ slot-stays queue q t rs w (datum-store i r l m) x f =
     }
 
 -- a slot isn't met again before q slots
-forward-apart : (q t i : ℕ) → t ≤ q → suc i ≤ q → t ≢ forward q (after q t) i
+forward-apart : (q t i : ℕ) → t ≤ q → suc i ≤ q → t ≢ forward q (slotAfter q t) i
 unfolding forward
 forward-apart q t i l m = go (forward q t (suc i)) (forward-is q t (suc i) l m)
   where
@@ -408,6 +408,6 @@ next-made queue q n (r ∷ rs) t (suc zero) l m b (a, f) = (
   (getD-set-same queue (2 * t + 1) (r .datum) 0 (omega arith), tt),
 )
 next-made queue q n (r ∷ rs) t (suc (suc c)) l m b (a, (d, f)) =
-    let w = getD (recordStores q (after q t) rs) c none in
-    let same = slot-stays queue q (after q t) rs w (record-store q rs (after q t) c (omega arith)) t (λ i k. forward-apart q t i l (omega arith)) in
-    (ap (λ (s : Record). s .event) same ∙ a, (ap (λ (s : Record). s .datum) same ∙ d, next-made queue q n rs (after q t) c (after-le q t l) (omega arith) (omega arith) f))
+    let w = getD (recordStores q (slotAfter q t) rs) c none in
+    let same = slot-stays queue q (slotAfter q t) rs w (record-store q rs (slotAfter q t) c (omega arith)) t (λ i k. forward-apart q t i l (omega arith)) in
+    (ap (λ (s : Record). s .event) same ∙ a, (ap (λ (s : Record). s .datum) same ∙ d, next-made queue q n rs (slotAfter q t) c (slot-after-le q t l) (omega arith) (omega arith) f))

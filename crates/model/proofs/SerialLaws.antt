@@ -14,8 +14,8 @@ use lib.Dec.{ltb, eqb}
 use lib.ListN.{length, length-append, set, replicate}
 use Rattle.model.proofs.TestLaws.{below-or, and-left, and-right, impossible}
 use Rattle.model.specs.Calls.{Call, Boot, Step, Cut, Post, Line, countBy, isAccept, acceptedEvents}
-use Rattle.model.specs.Demand3.{isCompletion, RunsTask, RunsEvent, Runs, SerialDetermined, committedTask, committedTasks, namedAtEnd, namedBy, fromState, namedTasks, TasksFollow}
-use Rattle.model.specs.Program.{word, memoryWords, instructions, number, effectAt}
+use Rattle.model.specs.Demand3.{isCompletion, RunsTask, RunsEvent, RunsBody, SerialDetermined, committedTask, committedTasks, namedAtEnd, namedBy, fromState, namedTasks, TasksFollow}
+use Rattle.model.specs.Program.{word, memoryWords, instructions, bodyNumber, effectAt}
 use Rattle.model.specs.Serial.{Serial, Formatting, Walked, went, served, lost, advance, walk, walkBody, afterTask, afterEvent, serveOldest, runBody, afterDone, withRecords, accept, tell, andThen, serialFrom, serial, serialStart}
 use Rattle.model.specs.Store.{Record}
 use Rattle.model.specs.Test.{pick, _and_}
@@ -52,7 +52,7 @@ unfolding pick
 chosen true x y e = (refl, e)
 chosen false x y e = not-some e
 
-pub runs-body : (fuel : ℕ) (p : List ℕ) (z y : Serial) (b : Body) → runBody fuel p z b ≡ some y → Runs p z fuel b
+pub runs-body : (fuel : ℕ) (p : List ℕ) (z y : Serial) (b : Body) → runBody fuel p z b ≡ some y → RunsBody p z fuel b
 unfolding runBody serveOldest
 runs-body fuel p z y (Body.Task t) e =
     let c = chosen _ _ y e in
@@ -237,9 +237,9 @@ advance-more : (p : List ℕ) (j : ℕ) (r m : List ℕ) (go on : ℕ → List �
 unfolding advance
 advance-more p j r m go on h (Effect.Compute a x) = h (j + 1) (set r a x) m
 advance-more p j r m go on h (Effect.Jump k) = h k r m
-advance-more p j r m go on h (Effect.Read a x) =
+advance-more p j r m go on h (Effect.Load a x) =
     pick-either (ltb x (memoryWords p)) (h (j + 1) (set r a (word m x)) m)
-advance-more p j r m go on h (Effect.Write x y) = pick-either (ltb x (memoryWords p)) (h (j + 1) r (set m x y))
+advance-more p j r m go on h (Effect.Save x y) = pick-either (ltb x (memoryWords p)) (h (j + 1) r (set m x y))
 advance-more p j r m go on h (Effect.EndTask k) = inr refl
 advance-more p j r m go on h Effect.EndEvent = inr refl
 advance-more p j r m go on h Effect.Unknown = inl refl
@@ -254,7 +254,7 @@ walk-more (suc f) (suc f′) l p i j r m =
 
 end-more : (f f′ : ℕ) → f ≤ f′ → (p : List ℕ) (b : Body) (x : ℕ) (m : List ℕ) → More (walkBody f p b x m) (walkBody f′ p b x m)
 unfolding walkBody
-end-more f f′ l p b x m = walk-more f f′ l p (number p b) 0 (x ∷ replicate 7 0) m
+end-more f f′ l p b x m = walk-more f f′ l p (bodyNumber p b) 0 (x ∷ replicate 7 0) m
 
 task-more : (p : List ℕ) (z y : Serial) (u w : Walked) → More u w → afterTask p z u ≡ some y → afterTask p z w ≡ some y
 unfolding afterTask

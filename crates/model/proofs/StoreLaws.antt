@@ -16,8 +16,8 @@ use Rattle.model.specs.Store.{Store, view, memoryAt, logAt, queueAt, sto
 abbrev pub viewAt : ℕ → ℕ → ℕ → List ℕ → Store
 viewAt m l q s =
     record {
-      pairs = l;
-      records = q;
+      logPairs = l;
+      queueRecords = q;
       phase = word s 8;
       task = word s 9;
       openNumber = word s 10;
@@ -34,41 +34,41 @@ viewAt m l q s =
 -- a store from its parts, in the order of the record
 abbrev pub parts : ℕ → ℕ → ℕ → ℕ → ℕ → ℕ → ℕ → ℕ → ℕ → ℕ → List ℕ → List ℕ → List ℕ → Store
 parts l q ph ta op n pe po h t m lo qu =
-    record { pairs = l; records = q; phase = ph; task = ta; openNumber = op; count = n; pending = pe; pendingOpen = po; head = h; tail = t; memory = m; log = lo; queue = qu }
+    record { logPairs = l; queueRecords = q; phase = ph; task = ta; openNumber = op; count = n; pending = pe; pendingOpen = po; head = h; tail = t; memory = m; log = lo; queue = qu }
 
 -- a store with another queue and tail; another log; other words 9 and 10; other words 11 to 13
 abbrev pub requeued : Store → List ℕ → ℕ → Store
 requeued v queue t =
-    parts (v .pairs) (v .records) (v .phase) (v .task) (v .openNumber) (v .count) (v .pending) (v .pendingOpen) (v .head) t (v .memory) (v .log) queue
+    parts (v .logPairs) (v .queueRecords) (v .phase) (v .task) (v .openNumber) (v .count) (v .pending) (v .pendingOpen) (v .head) t (v .memory) (v .log) queue
 
 abbrev pub relogged : Store → List ℕ → Store
 relogged v log =
-    parts (v .pairs) (v .records) (v .phase) (v .task) (v .openNumber) (v .count) (v .pending) (v .pendingOpen) (v .head) (v .tail) (v .memory) log (v .queue)
+    parts (v .logPairs) (v .queueRecords) (v .phase) (v .task) (v .openNumber) (v .count) (v .pending) (v .pendingOpen) (v .head) (v .tail) (v .memory) log (v .queue)
 
 abbrev pub retasked : Store → ℕ → ℕ → Store
 retasked v ta op =
-    parts (v .pairs) (v .records) (v .phase) ta op (v .count) (v .pending) (v .pendingOpen) (v .head) (v .tail) (v .memory) (v .log) (v .queue)
+    parts (v .logPairs) (v .queueRecords) (v .phase) ta op (v .count) (v .pending) (v .pendingOpen) (v .head) (v .tail) (v .memory) (v .log) (v .queue)
 
 abbrev pub recommitted : Store → ℕ → ℕ → ℕ → Store
 recommitted v n pe po =
-    parts (v .pairs) (v .records) (v .phase) (v .task) (v .openNumber) n pe po (v .head) (v .tail) (v .memory) (v .log) (v .queue)
+    parts (v .logPairs) (v .queueRecords) (v .phase) (v .task) (v .openNumber) n pe po (v .head) (v .tail) (v .memory) (v .log) (v .queue)
 
 -- the parts after one store
 unfoldable pub apply : Store → Write → Store
 apply v none = v
-apply v (to Phase x) = parts (v .pairs) (v .records) x (v .task) (v .openNumber) (v .count) (v .pending) (v .pendingOpen) (v .head) (v .tail) (v .memory) (v .log) (v .queue)
-apply v (to Task x) = parts (v .pairs) (v .records) (v .phase) x (v .openNumber) (v .count) (v .pending) (v .pendingOpen) (v .head) (v .tail) (v .memory) (v .log) (v .queue)
-apply v (to Open x) = parts (v .pairs) (v .records) (v .phase) (v .task) x (v .count) (v .pending) (v .pendingOpen) (v .head) (v .tail) (v .memory) (v .log) (v .queue)
-apply v (to Count x) = parts (v .pairs) (v .records) (v .phase) (v .task) (v .openNumber) x (v .pending) (v .pendingOpen) (v .head) (v .tail) (v .memory) (v .log) (v .queue)
-apply v (to Pending x) = parts (v .pairs) (v .records) (v .phase) (v .task) (v .openNumber) (v .count) x (v .pendingOpen) (v .head) (v .tail) (v .memory) (v .log) (v .queue)
-apply v (to PendingOpen x) = parts (v .pairs) (v .records) (v .phase) (v .task) (v .openNumber) (v .count) (v .pending) x (v .head) (v .tail) (v .memory) (v .log) (v .queue)
-apply v (to Head x) = parts (v .pairs) (v .records) (v .phase) (v .task) (v .openNumber) (v .count) (v .pending) (v .pendingOpen) x (v .tail) (v .memory) (v .log) (v .queue)
-apply v (to Tail x) = parts (v .pairs) (v .records) (v .phase) (v .task) (v .openNumber) (v .count) (v .pending) (v .pendingOpen) (v .head) x (v .memory) (v .log) (v .queue)
-apply v (to (Memory a) x) = parts (v .pairs) (v .records) (v .phase) (v .task) (v .openNumber) (v .count) (v .pending) (v .pendingOpen) (v .head) (v .tail) (set (v .memory) a x) (v .log) (v .queue)
-apply v (to (Address j) x) = parts (v .pairs) (v .records) (v .phase) (v .task) (v .openNumber) (v .count) (v .pending) (v .pendingOpen) (v .head) (v .tail) (v .memory) (set (v .log) (2 * j) x) (v .queue)
-apply v (to (Value j) x) = parts (v .pairs) (v .records) (v .phase) (v .task) (v .openNumber) (v .count) (v .pending) (v .pendingOpen) (v .head) (v .tail) (v .memory) (set (v .log) (2 * j + 1) x) (v .queue)
-apply v (to (Event i) x) = parts (v .pairs) (v .records) (v .phase) (v .task) (v .openNumber) (v .count) (v .pending) (v .pendingOpen) (v .head) (v .tail) (v .memory) (v .log) (set (v .queue) (2 * i) x)
-apply v (to (Datum i) x) = parts (v .pairs) (v .records) (v .phase) (v .task) (v .openNumber) (v .count) (v .pending) (v .pendingOpen) (v .head) (v .tail) (v .memory) (v .log) (set (v .queue) (2 * i + 1) x)
+apply v (to Phase x) = parts (v .logPairs) (v .queueRecords) x (v .task) (v .openNumber) (v .count) (v .pending) (v .pendingOpen) (v .head) (v .tail) (v .memory) (v .log) (v .queue)
+apply v (to Task x) = parts (v .logPairs) (v .queueRecords) (v .phase) x (v .openNumber) (v .count) (v .pending) (v .pendingOpen) (v .head) (v .tail) (v .memory) (v .log) (v .queue)
+apply v (to Open x) = parts (v .logPairs) (v .queueRecords) (v .phase) (v .task) x (v .count) (v .pending) (v .pendingOpen) (v .head) (v .tail) (v .memory) (v .log) (v .queue)
+apply v (to Count x) = parts (v .logPairs) (v .queueRecords) (v .phase) (v .task) (v .openNumber) x (v .pending) (v .pendingOpen) (v .head) (v .tail) (v .memory) (v .log) (v .queue)
+apply v (to Pending x) = parts (v .logPairs) (v .queueRecords) (v .phase) (v .task) (v .openNumber) (v .count) x (v .pendingOpen) (v .head) (v .tail) (v .memory) (v .log) (v .queue)
+apply v (to PendingOpen x) = parts (v .logPairs) (v .queueRecords) (v .phase) (v .task) (v .openNumber) (v .count) (v .pending) x (v .head) (v .tail) (v .memory) (v .log) (v .queue)
+apply v (to Head x) = parts (v .logPairs) (v .queueRecords) (v .phase) (v .task) (v .openNumber) (v .count) (v .pending) (v .pendingOpen) x (v .tail) (v .memory) (v .log) (v .queue)
+apply v (to Tail x) = parts (v .logPairs) (v .queueRecords) (v .phase) (v .task) (v .openNumber) (v .count) (v .pending) (v .pendingOpen) (v .head) x (v .memory) (v .log) (v .queue)
+apply v (to (Memory a) x) = parts (v .logPairs) (v .queueRecords) (v .phase) (v .task) (v .openNumber) (v .count) (v .pending) (v .pendingOpen) (v .head) (v .tail) (set (v .memory) a x) (v .log) (v .queue)
+apply v (to (Address j) x) = parts (v .logPairs) (v .queueRecords) (v .phase) (v .task) (v .openNumber) (v .count) (v .pending) (v .pendingOpen) (v .head) (v .tail) (v .memory) (set (v .log) (2 * j) x) (v .queue)
+apply v (to (Value j) x) = parts (v .logPairs) (v .queueRecords) (v .phase) (v .task) (v .openNumber) (v .count) (v .pending) (v .pendingOpen) (v .head) (v .tail) (v .memory) (set (v .log) (2 * j + 1) x) (v .queue)
+apply v (to (Event i) x) = parts (v .logPairs) (v .queueRecords) (v .phase) (v .task) (v .openNumber) (v .count) (v .pending) (v .pendingOpen) (v .head) (v .tail) (v .memory) (v .log) (set (v .queue) (2 * i) x)
+apply v (to (Datum i) x) = parts (v .logPairs) (v .queueRecords) (v .phase) (v .task) (v .openNumber) (v .count) (v .pending) (v .pendingOpen) (v .head) (v .tail) (v .memory) (v .log) (set (v .queue) (2 * i + 1) x)
 
 -- ---- a part after a store before it, behind it and in it
 

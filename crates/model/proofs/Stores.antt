@@ -5,7 +5,7 @@ use mathlib.Core.List.{List}
 use mathlib.Core.Path.{_≡_, refl, subst}
 use native.Mathlib.Omega.{arith}
 use lib.ListN.{length}
-use Rattle.model.proofs.DeviceLaws.{Made, record-made, tail-made, handler, commit-copy, commit-task, commit-open, commit-head, commit-phase, chosen-event, chosen-task, computed, jumped, loaded, overwritten, half-saved, saved, go-count, go-pending, go-open, go-phase, done-count, done-pending, done-phase, Outcome, refused, made, outcome}
+use Rattle.model.proofs.DeviceLaws.{Made, record-made, tail-made, handler, commit-copy, commit-task, commit-open, commit-head, commit-phase, chosen-event, chosen-task, computed, jumped, loaded, overwritten, half-saved, saved, go-count, go-pending, go-open, go-phase, done-count, done-pending, done-phase, StepOutcome, refused, made, step-outcome}
 use Rattle.model.proofs.Passed.{sized}
 use Rattle.model.proofs.LogLaws.{find-pair}
 use Rattle.model.proofs.RingLaws.{event-store, datum-store, slot-in}
@@ -13,7 +13,7 @@ use Rattle.model.proofs.StoreLaws.{Sized, Inside}
 use Rattle.model.specs.Accepted.{Looked}
 use Rattle.model.specs.Calls.{isStore}
 use Rattle.model.specs.Claims.{tellsStore, StoreIsTold}
-use Rattle.model.specs.Device.{Out, step}
+use Rattle.model.specs.Device.{Outcome, step}
 use Rattle.model.specs.Program.{word, memoryWords}
 use Rattle.model.specs.Store.{view, Word, Phase, Task, Open, Count, Pending, PendingOpen, Head, Tail, Memory, Address, Value, Event, Datum, index, Write, none, to}
 use Rattle.model.specs.Types.{Device}
@@ -40,7 +40,7 @@ abbrev Falls : List ℕ → List ℕ → Write → Type 0
 Falls p s none = Unit {0}
 Falls p s (to w x) = (index s w < length s) × (length s ≤ 1234)
 
-abbrev Fine : List ℕ → List ℕ → Out → Type 0
+abbrev Fine : List ℕ → List ℕ → Outcome → Type 0
 Fine p s o = (isStore (o .write) ≡ tellsStore (o .answer)) × Falls p s (o .write)
 
 module _ (p s : List ℕ) (d : Device) (early : Looked p s d) where
@@ -50,7 +50,7 @@ module _ (p s : List ℕ) (d : Device) (early : Looked p s d) where
     omega (arith, early .shaped .shaped .length-is, early .shaped .shaped .most-memory, early .shaped .shaped .sizes .most-pairs, early .shaped .shaped .sizes .most-records),
   )
 
-  made-fine : (o : Out) → Made p (view s) d o → Fine p s o
+  made-fine : (o : Outcome) → Made p (view s) d o → Fine p s o
   unfolding isStore tellsStore
   made-fine o (handler q (record-made a (event-store n r l m))) = (refl, falls (Event _) (slot-in (view s .head) n (early .control .tail-in) (a .room) l))
   made-fine o (handler q (record-made a (datum-store n r l m))) = (refl, falls (Datum _) (slot-in (view s .head) n (early .control .tail-in) (a .room) l))
@@ -78,12 +78,12 @@ module _ (p s : List ℕ) (d : Device) (early : Looked p s d) where
   made-fine o (done-pending h) = (refl, falls Pending tt)
   made-fine o (done-phase h) = (refl, falls Phase tt)
 
-fine : (p s : List ℕ) (d : Device) (o : Out) → Outcome p s d o → Fine p s o
+fine : (p s : List ℕ) (d : Device) (o : Outcome) → StepOutcome p s d o → Fine p s o
 unfolding isStore tellsStore
 fine p s d o (refused w) = (refl, tt)
 fine p s d o (made early m u) = made-fine p s d early o m
 
 pub store-is-told : StoreIsTold
 store-is-told p s d =
-    let f = fine p s d (step p s d) (outcome p s d) in
+    let f = fine p s d (step p s d) (step-outcome p s d) in
     record { made = f .0; inside = λ w x e. subst (Falls p s) e (f .1) .0; most = λ w x e. subst (Falls p s) e (f .1) .1 }

@@ -7,10 +7,10 @@ use mathlib.Core.List.{List, [], _∷_}
 use mathlib.Core.Logic.{_⊎_, _≢_}
 use mathlib.Core.Path.{_≡_}
 use lib.ListN.{length}
-use Rattle.model.specs.Check.{contentsRule, rowsInside, rowUsed, instructionRule, check}
+use Rattle.model.specs.Check.{contentsRule, rowsInside, rowUsable, instructionRule, check}
 use Rattle.model.specs.Device.{recordStores, lastStores, endStores, look, headSound, namedRow, openSound, headIs, placeFits}
-use Rattle.model.specs.Program.{word, tasks, events, memoryWords, entry, total, bodies, start, instructions, firstBody, opcode, fieldA, fieldB, code, operand, decode, effectAt, number}
-use Rattle.model.specs.Store.{Store, view, logAt, queueAt, storeLength, Record, carried, after, distance}
+use Rattle.model.specs.Program.{word, tasks, events, memoryWords, entry, total, bodies, start, instructions, firstBody, opcode, fieldA, fieldB, code, operand, decode, effectAt, bodyNumber}
+use Rattle.model.specs.Store.{Store, view, logAt, queueAt, storeLength, Record, carried, slotAfter, distance}
 use Rattle.model.specs.Types.{Body, Checked, Device, Effect, Free, Half, Handler, Instruction, Place, Resting, Run, Storing}
 
 -- ---- the program's contents: `contentsRule`
@@ -25,7 +25,7 @@ pub record Contents (p : List ℕ) : Type 0 where
   pub most-memory : memoryWords p ≤ 1024
   pub entry-is : entry p < tasks p
 
--- ---- the rows: `rowsInside`, `rowUsed` and `rows`
+-- ---- the rows: `rowsInside`, `rowUsable` and `rows`
 
 -- the words of the rows are there
 pub record RowsInside (p : List ℕ) : Type 0 where
@@ -87,8 +87,8 @@ Registers Instruction.Unknown = Unit {0}
 abbrev pub LegalEffect : List ℕ → ℕ → ℕ → Effect → Type 0
 LegalEffect p i j (Effect.Compute a x) = (a < 8) × (j + 1 < instructions p i)
 LegalEffect p i j (Effect.Jump k) = k < instructions p i
-LegalEffect p i j (Effect.Read a x) = (a < 8) × (j + 1 < instructions p i)
-LegalEffect p i j (Effect.Write x y) = j + 1 < instructions p i
+LegalEffect p i j (Effect.Load a x) = (a < 8) × (j + 1 < instructions p i)
+LegalEffect p i j (Effect.Save x y) = j + 1 < instructions p i
 LegalEffect p i j (Effect.EndTask k) = (k < tasks p) × (i < tasks p)
 LegalEffect p i j Effect.EndEvent = tasks p ≤ i
 LegalEffect p i j Effect.Unknown = ⊥
@@ -104,7 +104,7 @@ pub record Sound (p : List ℕ) : Type 0 where
   pub head : contentsRule p ≡ Checked.Accepted
   pub inside : rowsInside p ≡ Checked.Accepted
   pub rows : RowsInside p
-  pub row : (i : ℕ) → i < bodies p → rowUsed p i ≡ Checked.Accepted
+  pub row : (i : ℕ) → i < bodies p → rowUsable p i ≡ Checked.Accepted
   pub some-instruction : (i : ℕ) → i < bodies p → 0 < instructions p i
   pub rule : (i j : ℕ) → i < bodies p → j < instructions p i → instructionRule p i j ≡ Checked.Accepted
   pub legal : (i j : ℕ) (r : List ℕ) → i < bodies p → j < instructions p i → LegalEffect p i j (effectAt p i j r)
@@ -141,12 +141,12 @@ pub record ControlledBy (p : List ℕ) (l q phase task open′ n pending h t : �
   pub count-in : phase ≢ 0 → n ≤ l
   pub pending-task : phase ≡ 1 → pending < tasks p
   pub pending-head : phase ≡ 2 → pending ≤ q
-  pub pending-is : phase ≡ 2 → (pending ≡ h) ⊎ ((pending ≡ after q h) × (h ≢ t))
+  pub pending-is : phase ≡ 2 → (pending ≡ h) ⊎ ((pending ≡ slotAfter q h) × (h ≢ t))
   pub open-none : phase ≡ 2 → open′ ≡ 0
 
 abbrev pub Controlled : List ℕ → Store → Type 0
 Controlled p v =
-    ControlledBy p (v .pairs) (v .records) (v .phase) (v .task) (v .openNumber) (v .count) (v .pending) (v .head) (v .tail)
+    ControlledBy p (v .logPairs) (v .queueRecords) (v .phase) (v .task) (v .openNumber) (v .count) (v .pending) (v .head) (v .tail)
 
 -- ---- 25, early: `mayRun`, `placeSound` and `handlerSound`
 
@@ -165,7 +165,7 @@ StandsBy p l phase task open′ n h t last count (Half b j) = (phase ≡ 0) × M
 
 abbrev pub Stands : List ℕ → Store → ℕ → Place → Type 0
 Stands p v count x =
-    StandsBy p (v .pairs) (v .phase) (v .task) (v .openNumber) (v .count) (v .head) (v .tail) (length (lastStores v)) count x
+    StandsBy p (v .logPairs) (v .phase) (v .task) (v .openNumber) (v .count) (v .head) (v .tail) (length (lastStores v)) count x
 
 -- every event is below E
 abbrev pub Known : List ℕ → List Record → Type 0
@@ -183,7 +183,7 @@ AttendsBy p q h t Resting = Unit {0}
 AttendsBy p q h t (Storing c e x) = AttendsTo p q h t c (carried e x)
 
 abbrev pub Attends : List ℕ → Store → Handler → Type 0
-Attends p v x = AttendsBy p (v .records) (v .head) (v .tail) x
+Attends p v x = AttendsBy p (v .queueRecords) (v .head) (v .tail) x
 
 -- ---- what step and post look at: `look`
 
@@ -193,7 +193,7 @@ pub record Looked (p s : List ℕ) (d : Device) : Type 0 where
   pub shaped : ShapedFor p s
   pub control : Controlled p (view s)
   pub on : d .on ≡ true
-  pub count-in : d .count ≤ view s .pairs
+  pub count-in : d .count ≤ view s .logPairs
   pub place : Stands p (view s) (d .count) (d .place)
   pub handler : Attends p (view s) (d .handler)
 
@@ -202,9 +202,9 @@ pub record Looked (p s : List ℕ) (d : Device) : Type 0 where
 pub record BodyIs (p : List ℕ) (v : Store) (x : Place) (b : Body) (j : ℕ) (f : Effect) : Type 0 where
   pub head-record : headSound p v b ≡ Checked.Accepted
   pub rows-inside : rowsInside p ≡ Checked.Accepted
-  pub row : UsableRow p (number p b)
-  pub there : j < instructions p (number p b)
-  pub rule : instructionRule p (number p b) j ≡ Checked.Accepted
+  pub row : UsableRow p (bodyNumber p b)
+  pub there : j < instructions p (bodyNumber p b)
+  pub rule : instructionRule p (bodyNumber p b) j ≡ Checked.Accepted
   pub named : namedRow p f ≡ Checked.Accepted
   pub open-sound : openSound p v b ≡ Checked.Accepted
   pub head-is : headIs v b ≡ true

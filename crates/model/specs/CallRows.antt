@@ -4,12 +4,12 @@ use mathlib.Core.Bool.{Bool, true, false}
 use mathlib.Core.List.{List, [], _∷_, _++_, map}
 use mathlib.Core.Option.{Option}
 use lib.ListN.{replicate, set}
-use Rattle.model.specs.Answer.{Told, refusal}
-use Rattle.model.specs.Calls.{Call, Boot, Step, Cut, Post, Line, Now, history, afterCalls, isAccept, counted, Ran, run, Recovery, recovered, unfinished, recovery, countBy, steps}
+use Rattle.model.specs.Answer.{RefusalNumber, refusal}
+use Rattle.model.specs.Calls.{Call, Boot, Step, Cut, Post, Line, Now, history, afterCalls, isAccept, counted, RunOutcome, run, Recovery, recovered, unfinished, recovery, countBy, steps}
 use Rattle.model.specs.Claims.{uncut}
 use Rattle.model.specs.Control.{rules, blames}
 use Rattle.model.specs.Demand3.{isIn, mayMeet, recoverySteps, isCompletion}
-use Rattle.model.specs.Device.{Out, out, refuse, boot, cut, post, step}
+use Rattle.model.specs.Device.{Outcome, out, refuse, boot, cut, post, step}
 use Rattle.model.specs.Program.{newOpen}
 use Rattle.model.specs.Serial.{Serial, given, serial}
 use Rattle.model.specs.Starred.{counting}
@@ -26,14 +26,14 @@ abbrev handling : ℕ → Device
 handling c = device true registers (task1 2) 1 (Storing c 1 66)
 
 -- a body begun, register 0 with the data of an event
-abbrev begins : Body → ℕ → Out
+abbrev begins : Body → ℕ → Outcome
 begins b x = out none (device true (set cleared 0 x) (Run b 0 0) 0 Resting) (Answer.Chosen b)
 
 -- a commit's last store, and a commit store
-abbrev endsWith : Word → ℕ → Answer → Out
+abbrev endsWith : Word → ℕ → Answer → Outcome
 endsWith w x a = out (to w x) onValue a
 
-unfoldable pub outcomes : List (Row Out)
+unfoldable pub outcomes : List (Row Outcome)
 outcomes =
     -- "event, data, then tail. The tail store accepts the event": the slot after 3 is 0; a handler precedes a commit
     step sample (controls 0 1 8 0 0 0 1 3) (handling 0) ⇒ out (to (Event 3) 1) (handling 1) Answer.Stored
@@ -228,10 +228,10 @@ totals c a s = record { committed = c; accepted = a; stores = s }
 abbrev greatest : ℕ
 greatest = 0xFFFFFFFF
 
-abbrev commitStore : Out
+abbrev commitStore : Outcome
 commitStore = out (to Phase 1) onValue (Answer.Committed (Body.Task 1))
 
-abbrev tailStore : Out
+abbrev tailStore : Outcome
 tailStore = out (to Tail 1) onValue Answer.Accepted
 
 unfoldable pub countings : List (Row Totals)
@@ -253,7 +253,7 @@ countings =
 
 -- ---- Run
 
-abbrev ran : ℕ → Ended → List ℕ → Device → Totals → Ran
+abbrev ran : ℕ → Ended → List ℕ → Device → Totals → RunOutcome
 ran n e s d t = record { steps = n; ended = e; store = s; device = d; totals = t }
 
 -- a freshly formatted store with other control words, memory, log and ring
@@ -261,7 +261,7 @@ abbrev words : List ℕ → List ℕ → List ℕ → List ℕ → List ℕ
 words control memory log ring = 0xC0A1 ∷ 6 ∷ 2 ∷ 3 ∷ 8 ∷ 16 ∷ 22 ∷ 26 ∷ control ++ memory ++ log ++ ring
 
 -- event 0 is posted with data 50: a run accepts it in 3 steps, serves it in 9 with 8 stores, and ends task 1 in 13 with 10 stores
-abbrev runs : ℕ → Ran
+abbrev runs : ℕ → RunOutcome
 runs budget = run sample budget (formatted sample 2 3) (device true cleared (Free 0) 0 (Storing 0 0 50)) (totals 0 0 0)
 
 abbrev eventAccepted : List ℕ
@@ -274,15 +274,15 @@ abbrev taskEnded : List ℕ
 taskEnded = words (0 ∷ 2 ∷ 8 ∷ 1 ∷ 2 ∷ 8 ∷ 1 ∷ 1 ∷ []) (50 ∷ 0 ∷ 0 ∷ 0 ∷ 9 ∷ 0 ∷ []) (4 ∷ 9 ∷ 0 ∷ 0 ∷ []) (0 ∷ 50 ∷ replicate 6 0)
 
 -- task 1 with LOADX 3 1 0 in the place of ADD: register 1 holds 9, which is no address
-abbrev runsWrong : ℕ → Ran
+abbrev runsWrong : ℕ → RunOutcome
 runsWrong budget = run (withInstruction 0x0A31 0) budget (formatted sample 2 3) onValue (totals 10 20 30)
 
-abbrev atLoad : Ended → Ran
+abbrev atLoad : Ended → RunOutcome
 atLoad e =
     ran 4 e (words (0 ∷ 1 ∷ 0 ∷ 0 ∷ 0 ∷ 0 ∷ 0 ∷ 0 ∷ []) (replicate 6 0) (4 ∷ 9 ∷ 0 ∷ 0 ∷ []) (replicate 8 0))
     (device true (set cleared 1 9) (task1 2) 1 Resting) (totals 10 20 32)
 
-unfoldable pub runRows : List (Row Ran)
+unfoldable pub runRows : List (Row RunOutcome)
 runRows =
     runs 3 ⇒ ran 3 Ended.Spent eventAccepted onValue (totals 0 1 3)
     ∷ runs 12 ⇒ ran 12 Ended.Spent eventServed onValue (totals 1 1 11)
@@ -333,27 +333,27 @@ recoveries =
 
 -- ---- "Numbers returned"
 
-abbrev told : ℕ → ℕ → ℕ → Told
-told n x y = record { number = n; first = x; second = y }
+abbrev numbered : ℕ → ℕ → ℕ → RefusalNumber
+numbered n x y = record { number = n; first = x; second = y }
 
-unfoldable pub numbers : List (Row Told)
+unfoldable pub numbers : List (Row RefusalNumber)
 numbers =
-    refusal Refusal.ProgramLength ⇒ told 1 0 0
-    ∷ refusal Refusal.ProgramMark ⇒ told 2 0 0
-    ∷ refusal (Refusal.ProgramSize 41) ⇒ told 3 41 0
-    ∷ refusal (Refusal.Row 42) ⇒ told 4 42 0
-    ∷ refusal (Refusal.Code 43 44) ⇒ told 5 43 44
-    ∷ refusal Refusal.StoreContents ⇒ told 6 0 0
-    ∷ refusal (Refusal.Control 45) ⇒ told 7 45 0
-    ∷ refusal Refusal.NoEvent ⇒ told 8 0 0
-    ∷ refusal Refusal.Sizes ⇒ told 9 0 0
-    ∷ refusal Refusal.HandlerBusy ⇒ told 20 0 0
-    ∷ refusal Refusal.QueueFull ⇒ told 21 0 0
-    ∷ refusal Refusal.PowerOff ⇒ told 22 0 0
-    ∷ refusal Refusal.Address ⇒ told 23 0 0
-    ∷ refusal Refusal.LogFull ⇒ told 24 0 0
-    ∷ refusal Refusal.State ⇒ told 25 0 0
-    ∷ refusal Refusal.PowerOn ⇒ told 26 0 0
+    refusal Refusal.ProgramLength ⇒ numbered 1 0 0
+    ∷ refusal Refusal.ProgramMark ⇒ numbered 2 0 0
+    ∷ refusal (Refusal.ProgramSize 41) ⇒ numbered 3 41 0
+    ∷ refusal (Refusal.Row 42) ⇒ numbered 4 42 0
+    ∷ refusal (Refusal.Code 43 44) ⇒ numbered 5 43 44
+    ∷ refusal Refusal.StoreContents ⇒ numbered 6 0 0
+    ∷ refusal (Refusal.Control 45) ⇒ numbered 7 45 0
+    ∷ refusal Refusal.NoEvent ⇒ numbered 8 0 0
+    ∷ refusal Refusal.Sizes ⇒ numbered 9 0 0
+    ∷ refusal Refusal.HandlerBusy ⇒ numbered 20 0 0
+    ∷ refusal Refusal.QueueFull ⇒ numbered 21 0 0
+    ∷ refusal Refusal.PowerOff ⇒ numbered 22 0 0
+    ∷ refusal Refusal.Address ⇒ numbered 23 0 0
+    ∷ refusal Refusal.LogFull ⇒ numbered 24 0 0
+    ∷ refusal Refusal.State ⇒ numbered 25 0 0
+    ∷ refusal Refusal.PowerOn ⇒ numbered 26 0 0
     ∷ []
 
 -- ---- The serial run

@@ -3,7 +3,7 @@ use Prim.Native.Nat.{ℕ, zero, suc, _+_, _-_, _^_, min}
 use mathlib.Core.Bool.{Bool, true, false}
 use mathlib.Core.List.{List, [], _∷_}
 use lib.Dec.{eqb}
-use Rattle.model.specs.Device.{Out, boot, cut, post, step}
+use Rattle.model.specs.Device.{Outcome, boot, cut, post, step}
 use Rattle.model.specs.Store.{view, Write, none, to, settled}
 use Rattle.model.specs.Test.{pick}
 use Rattle.model.specs.Types.{Answer, Device, Ended, Refusal, Totals}
@@ -14,7 +14,7 @@ pub data Call : Type 0 where
   Boot Step Cut : Call
   Post : ℕ → ℕ → Call
 
-unfoldable pub call : List ℕ → List ℕ → Device → Call → Out
+unfoldable pub call : List ℕ → List ℕ → Device → Call → Outcome
 call p s d Boot = boot p s d
 call p s d Step = step p s d
 call p s d Cut = cut
@@ -110,7 +110,7 @@ abbrev pub noTotals : Totals
 noTotals = record { committed = 0; accepted = 0; stores = 0 }
 
 -- the totals after a step
-unfoldable pub counted : Totals → Out → Totals
+unfoldable pub counted : Totals → Outcome → Totals
 counted t o =
     record {
       committed = moreBy (t .committed) (oneIf (isCommit (o .answer)));
@@ -135,21 +135,21 @@ storesMade p s d (c ∷ cs) =
 -- ---- "Run repeats steps up to a budget (32 bits) and returns the count of steps made, with spent or the refusal; a budget of 0
 -- looks at nothing and returns spent."
 
-pub record Ran : Type 0 where
+pub record RunOutcome : Type 0 where
   pub steps : ℕ
   pub ended : Ended
   pub store : List ℕ
   pub device : Device
   pub totals : Totals
 
-unfoldable pub runFrom : List ℕ → ℕ → ℕ → List ℕ → Device → Totals → Ran
+unfoldable pub runFrom : List ℕ → ℕ → ℕ → List ℕ → Device → Totals → RunOutcome
 runFrom p zero n s d t = record { steps = n; ended = Ended.Spent; store = s; device = d; totals = t }
 runFrom p (suc k) n s d t =
     let o = step p s d in
     let rest = runFrom p k (n + 1) (settled s (o .write)) (o .device) (counted t o) in
     unlessRefused (o .answer) (λ f. record { steps = n; ended = Ended.Refused f; store = s; device = d; totals = t }) rest
 
-unfoldable pub run : List ℕ → ℕ → List ℕ → Device → Totals → Ran
+unfoldable pub run : List ℕ → ℕ → List ℕ → Device → Totals → RunOutcome
 run p budget s d t = runFrom p budget 0 s d t
 
 -- ---- Uncut recovery "is a cut, a boot, then steps while the phase isn't 0, without posts". It ends with the count of steps and

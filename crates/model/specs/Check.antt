@@ -49,8 +49,8 @@ rows p =
     then must (eqb (due p (bodies p)) (total p)) (Refusal.Row (bodies p))
 
 -- what a step asks of a row: "its limits, and its body behind the rows and inside the total"
-unfoldable pub rowUsed : List ℕ → ℕ → Checked
-rowUsed p i =
+unfoldable pub rowUsable : List ℕ → ℕ → Checked
+rowUsable p i =
     limits p i
     then must (leb (firstBody p) (start p i)) (Refusal.Row i)
     then must (leb (start p i + 2 * instructions p i) (total p)) (Refusal.Row i)

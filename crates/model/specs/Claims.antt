@@ -6,11 +6,11 @@ use mathlib.Core.Logic.{_≢_}
 use mathlib.Core.Bool.{Bool, true, false}
 use mathlib.Core.List.{List, [], _∷_}
 use lib.ListN.{length}
-use Rattle.model.specs.Calls.{Call, Boot, Step, Cut, Post, call, history, afterCalls, steps, countBy, isRefusal, isCommit, isAccept, isStore, noTotals, counted, totalsAfter, storesMade, Ran, run, recovered, recovery}
+use Rattle.model.specs.Calls.{Call, Boot, Step, Cut, Post, call, history, afterCalls, steps, countBy, isRefusal, isCommit, isAccept, isStore, noTotals, counted, totalsAfter, storesMade, RunOutcome, run, recovered, recovery}
 use Rattle.model.specs.Control.{rules, blames}
 use Rattle.model.specs.Device.{off, look, step}
 use Rattle.model.specs.Program.{word}
-use Rattle.model.specs.Store.{Store, view, Word, index, to, settled, after, room, format}
+use Rattle.model.specs.Store.{Store, view, Word, index, to, settled, slotAfter, room, format}
 use Rattle.model.specs.Types.{Answer, Body, Checked, Device, Ended, Free, Half, Handler, Place, Refusal, Resting, Run, Storing, Totals}
 
 -- "A refusal .. changes no word, state or total."
@@ -24,55 +24,55 @@ RefusedChangesNothing =
     (p s : List ℕ) (d : Device) (c : Call) (t : Totals) (r : Refusal) → call p s d c .answer ≡ Answer.Refused r → Unchanged p s d c t
 
 -- "a word is 16 bits, unsigned"
-abbrev pub Words : List ℕ → Type 0
-Words s = (i : ℕ) → word s i < 2 ^ 16
+abbrev pub TypedWords : List ℕ → Type 0
+TypedWords s = (i : ℕ) → word s i < 2 ^ 16
 
-abbrev pub BodyWords : Body → Type 0
-BodyWords (Body.Task t) = t < 2 ^ 16
-BodyWords (Body.Event e) = e < 2 ^ 16
+abbrev pub TypedBody : Body → Type 0
+TypedBody (Body.Task t) = t < 2 ^ 16
+TypedBody (Body.Event e) = e < 2 ^ 16
 
-abbrev pub PlaceWords : Place → Type 0
-PlaceWords (Free c) = c < 2 ^ 16
-PlaceWords (Run b j c) = BodyWords b × ((j < 2 ^ 16) × (c < 2 ^ 16))
-PlaceWords (Half b j) = BodyWords b × (j < 2 ^ 16)
+abbrev pub TypedPlace : Place → Type 0
+TypedPlace (Free c) = c < 2 ^ 16
+TypedPlace (Run b j c) = TypedBody b × ((j < 2 ^ 16) × (c < 2 ^ 16))
+TypedPlace (Half b j) = TypedBody b × (j < 2 ^ 16)
 
 -- a handler at work has one of its three stores to make
-abbrev pub HandlerWords : Handler → Type 0
-HandlerWords Resting = Unit {0}
-HandlerWords (Storing c e x) = (c < 3) × (e < 2 ^ 16) × (x < 2 ^ 16)
+abbrev pub TypedHandler : Handler → Type 0
+TypedHandler Resting = Unit {0}
+TypedHandler (Storing c e x) = (c < 3) × (e < 2 ^ 16) × (x < 2 ^ 16)
 
 -- a device state that the types allow
-pub record DeviceWords (d : Device) : Type 0 where
-  pub regs-length : length (d .regs) ≡ 8
-  pub regs : Words (d .regs)
-  pub place : PlaceWords (d .place)
+pub record TypedDevice (d : Device) : Type 0 where
+  pub registers-length : length (d .registers) ≡ 8
+  pub registers : TypedWords (d .registers)
+  pub place : TypedPlace (d .place)
   pub count : d .count < 2 ^ 16
-  pub handler : HandlerWords (d .handler)
+  pub handler : TypedHandler (d .handler)
 
-abbrev pub CallWords : Call → Type 0
-CallWords Boot = Unit {0}
-CallWords Step = Unit {0}
-CallWords Cut = Unit {0}
-CallWords (Post e x) = (e < 2 ^ 16) × (x < 2 ^ 16)
+abbrev pub TypedCall : Call → Type 0
+TypedCall Boot = Unit {0}
+TypedCall Step = Unit {0}
+TypedCall Cut = Unit {0}
+TypedCall (Post e x) = (e < 2 ^ 16) × (x < 2 ^ 16)
 
 -- a call's result is one that the types allow
-pub record StaysWords (p s : List ℕ) (d : Device) (c : Call) : Type 0 where
+pub record StaysTyped (p s : List ℕ) (d : Device) (c : Call) : Type 0 where
   pub length-is : length (settled s (call p s d c .write)) ≡ length s
-  pub store : Words (settled s (call p s d c .write))
-  pub device : DeviceWords (call p s d c .device)
+  pub store : TypedWords (settled s (call p s d c .write))
+  pub device : TypedDevice (call p s d c .device)
 
 abbrev pub WordsStayWords : Type 0
 WordsStayWords =
-    (p s : List ℕ) (d : Device) (c : Call) → Words p → Words s → DeviceWords d → CallWords c → StaysWords p s d c
+    (p s : List ℕ) (d : Device) (c : Call) → TypedWords p → TypedWords s → TypedDevice d → TypedCall c → StaysTyped p s d c
 
 abbrev pub FormatStaysWords : Type 0
-FormatStaysWords = (p : List ℕ) (l q : ℕ) (s : List ℕ) → Words p → Words s → Words (format p l q s)
+FormatStaysWords = (p : List ℕ) (l q : ℕ) (s : List ℕ) → TypedWords p → TypedWords s → TypedWords (format p l q s)
 
 -- "full means the slot after tail is head": there is room for no record exactly then
 abbrev pub FullIsNoRoom : Type 0
 FullIsNoRoom =
-    (v : Store) → v .head ≤ v .records → v .tail ≤ v .records
-    → (room v ≡ 0 → after (v .records) (v .tail) ≡ v .head) × (after (v .records) (v .tail) ≡ v .head → room v ≡ 0)
+    (v : Store) → v .head ≤ v .queueRecords → v .tail ≤ v .queueRecords
+    → (room v ≡ 0 → slotAfter (v .queueRecords) (v .tail) ≡ v .head) × (slotAfter (v .queueRecords) (v .tail) ≡ v .head → room v ≡ 0)
 
 -- "After 23 or 24 every step repeats that refusal until a cut, save for handler steps."
 pub data Stays : Refusal → Type 0 where
@@ -119,12 +119,12 @@ StoreIsTold = (p s : List ℕ) (d : Device) → StoreTold p s d
 -- ---- Run, totals and recovery are what the calls one by one are
 
 -- how a run of so many steps ended: all of its budget, or less and a step that is refused
-abbrev pub EndedSo : List ℕ → ℕ → Ran → Ended → Type 0
+abbrev pub EndedSo : List ℕ → ℕ → RunOutcome → Ended → Type 0
 EndedSo p budget r Ended.Spent = r .steps ≡ budget
 EndedSo p budget r (Ended.Refused f) = (r .steps < budget) × (step p (r .store) (r .device) .answer ≡ Answer.Refused f)
 
 -- a run r from s, d and t is its steps, none of them refused
-pub record IsSteps (p : List ℕ) (budget : ℕ) (s : List ℕ) (d : Device) (t : Totals) (r : Ran) : Type 0 where
+pub record IsSteps (p : List ℕ) (budget : ℕ) (s : List ℕ) (d : Device) (t : Totals) (r : RunOutcome) : Type 0 where
   pub store : r .store ≡ afterCalls p s d (steps (r .steps)) .store
   pub device : r .device ≡ afterCalls p s d (steps (r .steps)) .device
   pub totals : r .totals ≡ totalsAfter p s d (steps (r .steps)) t

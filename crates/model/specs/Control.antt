@@ -5,7 +5,7 @@ use mathlib.Core.Bool.{Bool, true, false, not}
 use mathlib.Core.List.{List, [], _∷_, _++_}
 use lib.Dec.{ltb, leb, eqb}
 use Rattle.model.specs.Program.{tasks, events, memoryWords, transaction}
-use Rattle.model.specs.Store.{Store, address, event, after, empty, firstWaiting, logAt, queueAt}
+use Rattle.model.specs.Store.{Store, address, event, slotAfter, empty, firstWaiting, logAt, queueAt}
 use Rattle.model.specs.Test.{pick, _and_, _or_, must, _then_}
 use Rattle.model.specs.Types.{Checked, Refusal}
 
@@ -66,7 +66,7 @@ openServing v = earlyRule 10 (inPhase v 2) (eqb (v .openNumber) 0)
 
 -- "In phases 1 and 2, 11 at most L"
 unfoldable pub countRule : Store → Rule
-countRule v = earlyRule 11 (committing v) (leb (v .count) (v .pairs))
+countRule v = earlyRule 11 (committing v) (leb (v .count) (v .logPairs))
 
 -- "In phase 1, 12 below T"
 unfoldable pub pendingTaskRule : List ℕ → Store → Rule
@@ -74,17 +74,17 @@ pendingTaskRule p v = earlyRule 12 (inPhase v 1) (ltb (v .pending) (tasks p))
 
 -- "14 and 15 at most Q"
 unfoldable pub headRule : Store → Rule
-headRule v = earlyRule 14 true (leb (v .head) (v .records))
+headRule v = earlyRule 14 true (leb (v .head) (v .queueRecords))
 
 unfoldable pub tailRule : Store → Rule
-tailRule v = earlyRule 15 true (leb (v .tail) (v .records))
+tailRule v = earlyRule 15 true (leb (v .tail) (v .queueRecords))
 
 -- "In phase 2, 12 at most Q and equals 14, or is the slot after it with the queue not empty."
 unfoldable pub pendingHeadRule : Store → Rule
 pendingHeadRule v =
     earlyRule 12 (inPhase v 2 and headRule v .kept and tailRule v .kept)
-    (leb (v .pending) (v .records)
-    and (eqb (v .pending) (v .head) or (eqb (v .pending) (after (v .records) (v .head)) and not (empty v))))
+    (leb (v .pending) (v .queueRecords)
+    and (eqb (v .pending) (v .head) or (eqb (v .pending) (slotAfter (v .queueRecords) (v .head)) and not (empty v))))
 
 -- "and 13 is 0 or task 12's number"
 unfoldable pub pendingOpenRule : List ℕ → Store → Rule
@@ -103,7 +103,7 @@ between h t x = pick (leb h t) (leb h x and ltb x t) (leb h x or ltb x t)
 -- "each waiting record's event below E", slot x's
 unfoldable pub recordRule : List ℕ → Store → ℕ → Rule
 recordRule p v x =
-    lateRule (queueAt (memoryWords p) (v .pairs) + 2 * x)
+    lateRule (queueAt (memoryWords p) (v .logPairs) + 2 * x)
     (phaseRule v .kept
     and headRule v .kept
     and tailRule v .kept
@@ -127,7 +127,7 @@ controlRules p v =
     ∷ []
 
 unfoldable pub rules : List ℕ → Store → List Rule
-rules p v = controlRules p v ++ upTo (addressRule p v) (v .pairs) ++ upTo (recordRule p v) (v .records + 1)
+rules p v = controlRules p v ++ upTo (addressRule p v) (v .logPairs) ++ upTo (recordRule p v) (v .queueRecords + 1)
 
 unfoldable pub earlyOf : List Rule → List Rule
 earlyOf [] = []

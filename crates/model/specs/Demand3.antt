@@ -75,9 +75,9 @@ pub record RunsEvent (p : List ℕ) (z : Serial) (fuel e : ℕ) : Type 0 where
   pub memory : List ℕ
   pub ends : walkBody fuel p (Body.Event e) (oldest .datum) (z .memory) ≡ served memory
 
-abbrev pub Runs : List ℕ → Serial → ℕ → Body → Type 0
-Runs p z fuel (Body.Task t) = RunsTask p z fuel t
-Runs p z fuel (Body.Event e) = RunsEvent p z fuel e
+abbrev pub RunsBody : List ℕ → Serial → ℕ → Body → Type 0
+RunsBody p z fuel (Body.Task t) = RunsTask p z fuel t
+RunsBody p z fuel (Body.Event e) = RunsEvent p z fuel e
 
 -- "Accepted is the number of records added so far, completed that of events committed."
 unfoldable pub isCompletion : Answer → Bool
@@ -113,7 +113,7 @@ pub record AsSerialRun (p : List ℕ) (l q : ℕ) (s : List ℕ) (cs : List Call
   -- whichever call is next: the refusals that it may meet, and the body that it commits
   pub refusals : (c : Call) → Expected c (nextAnswer p s cs c)
   pub bodies : (b : Body) → nextAnswer p s cs Step ≡ Answer.Committed b
-      → Runs p state (suc (length cs)) b
+      → RunsBody p state (suc (length cs)) b
 
 abbrev pub Demand3 : Type 0
 Demand3 =

@@ -5,17 +5,17 @@ use mathlib.Core.Bool.{Bool, true, false, not}
 use mathlib.Core.List.{List, [], _∷_}
 use lib.Dec.{ltb, leb, eqb}
 use lib.ListN.{length, getD, set, replicate}
-use Rattle.model.specs.Check.{contentsRule, rowsInside, rowUsed, instructionRule, check}
+use Rattle.model.specs.Check.{contentsRule, rowsInside, rowUsable, instructionRule, check}
 use Rattle.model.specs.Control.{obey, obeyAll, openRule, rules, earlyRules}
-use Rattle.model.specs.Program.{events, memoryWords, instructions, transaction, number, effectAt, newOpen, word, reg}
-use Rattle.model.specs.Store.{Store, view, address, value, event, datum, Phase, Task, Open, Count, Pending, PendingOpen, Head, Tail, Memory, Address, Value, Event, Datum, Write, none, to, Record, carried, find, after, empty, room, logAt, queueAt, storeRule}
+use Rattle.model.specs.Program.{events, memoryWords, instructions, transaction, bodyNumber, effectAt, newOpen, word, reg}
+use Rattle.model.specs.Store.{Store, view, address, value, event, datum, Phase, Task, Open, Count, Pending, PendingOpen, Head, Tail, Memory, Address, Value, Event, Datum, Write, none, to, Record, carried, find, slotAfter, empty, room, logAt, queueAt, storeRule}
 use Rattle.model.specs.Test.{pick, _and_, must, _then_}
 use Rattle.model.specs.Types.{Answer, Body, Checked, Device, Effect, Found, Free, Half, Handler, Place, Refusal, Resting, Run, Storing}
 
 -- ---- "Off is one fixed value of the device, all else 0. Boot makes no store and turns that value on."
 
 unfoldable pub fresh : Bool → Device
-fresh on = record { on = on; regs = replicate 8 0; place = Free 0; count = 0; handler = Resting }
+fresh on = record { on = on; registers = replicate 8 0; place = Free 0; count = 0; handler = Resting }
 
 abbrev pub off : Device
 off = fresh false
@@ -24,31 +24,31 @@ abbrev pub turnedOn : Device
 turnedOn = fresh true
 
 -- another place, other registers and another log count; another handler
-unfoldable pub moved : Device → List ℕ → Place → ℕ → Device
-moved d r x l = record { on = d .on; regs = r; place = x; count = l; handler = d .handler }
+unfoldable pub withPlace : Device → List ℕ → Place → ℕ → Device
+withPlace d r x l = record { on = d .on; registers = r; place = x; count = l; handler = d .handler }
 
 unfoldable pub withHandler : Device → Handler → Device
-withHandler d h = record { on = d .on; regs = d .regs; place = d .place; count = d .count; handler = h }
+withHandler d h = record { on = d .on; registers = d .registers; place = d .place; count = d .count; handler = h }
 
 -- ---- The outcome of a call. "A refusal .. changes no word, state or total."
 
-pub record Out : Type 0 where
+pub record Outcome : Type 0 where
   pub write : Write
   pub device : Device
   pub answer : Answer
 
-abbrev pub out : Write → Device → Answer → Out
+abbrev pub out : Write → Device → Answer → Outcome
 out w d a = record { write = w; device = d; answer = a }
 
-abbrev pub refuse : Device → Refusal → Out
+abbrev pub refuse : Device → Refusal → Outcome
 refuse d r = out none d (Answer.Refused r)
 
-unfoldable pub judged : Checked → Device → Out → Out
+unfoldable pub judged : Checked → Device → Outcome → Outcome
 judged Checked.Accepted d o = o
 judged (Checked.Refused r) d o = refuse d r
 
 -- Store number c of a row of stores, after which the device is d. The last of them has its own device and answer.
-unfoldable pub storing : List Write → ℕ → Device → Device → Answer → Out
+unfoldable pub storing : List Write → ℕ → Device → Device → Answer → Outcome
 storing ws c d ended a =
     let last = eqb (c + 1) (length ws) in
     out (getD ws c none) (pick last ended d) (pick last a Answer.Stored)
@@ -60,7 +60,7 @@ taskStores p t k l = to Count l ∷ to Pending k ∷ to PendingOpen (newOpen (tr
 
 -- "DONE: 11, 12 with the slot after head, 8 becomes 2"
 unfoldable pub eventStores : Store → ℕ → List Write
-eventStores v l = to Count l ∷ to Pending (after (v .records) (v .head)) ∷ to Phase 2 ∷ []
+eventStores v l = to Count l ∷ to Pending (slotAfter (v .queueRecords) (v .head)) ∷ to Phase 2 ∷ []
 
 -- "then n copies, 9 from 12, 10 from 13, 8 becomes 0": the stores after the copies
 unfoldable pub taskLastStores : Store → List Write
@@ -77,10 +77,10 @@ lastStores v = pick (eqb (v .phase) 1) (taskLastStores v) (eventLastStores v)
 
 unfoldable pub recordStores : ℕ → ℕ → List Record → List Write
 recordStores q x [] = to Tail x ∷ []
-recordStores q x (r ∷ rs) = to (Event x) (r .event) ∷ to (Datum x) (r .datum) ∷ recordStores q (after q x) rs
+recordStores q x (r ∷ rs) = to (Event x) (r .event) ∷ to (Datum x) (r .datum) ∷ recordStores q (slotAfter q x) rs
 
 abbrev pub handlerStores : Store → List Record → List Write
-handlerStores v rs = recordStores (v .records) (v .tail) rs
+handlerStores v rs = recordStores (v .queueRecords) (v .tail) rs
 
 -- ---- 25, what needs no row, instruction, log pair or record
 
@@ -100,7 +100,7 @@ endStores (Body.Event e) = 3
 unfoldable pub placeSound : List ℕ → Store → ℕ → Place → Bool
 placeSound p v l (Free c) = pick (eqb (v .phase) 0) (eqb c 0) (ltb c (v .count + length (lastStores v)))
 placeSound p v l (Run b j c) = eqb (v .phase) 0 and mayRun p v b and ltb c (endStores b)
-placeSound p v l (Half b j) = eqb (v .phase) 0 and mayRun p v b and ltb l (v .pairs)
+placeSound p v l (Half b j) = eqb (v .phase) 0 and mayRun p v b and ltb l (v .logPairs)
 
 -- every event is below E
 unfoldable pub knownEvents : List ℕ → List Record → Bool
@@ -129,8 +129,8 @@ zeros r (suc n) = zeros r n and eqb (reg r n) 0
 -- "off unlike its fixed value"
 unfoldable pub deviceSound : List ℕ → Store → Device → Bool
 deviceSound p v d =
-    pick (d .on) (leb (d .count) (v .pairs) and placeSound p v (d .count) (d .place) and handlerSound p v (d .handler))
-    (zeros (d .regs) 8 and eqb (d .count) 0 and isFresh (d .place) (d .handler))
+    pick (d .on) (leb (d .count) (v .logPairs) and placeSound p v (d .count) (d .place) and handlerSound p v (d .handler))
+    (zeros (d .registers) 8 and eqb (d .count) 0 and isFresh (d .place) (d .handler))
 
 -- "Step and post look at program words 0 to 5, store contents and words 8 to 15: 1, 2, 3, 6, 7, 25, 22, without the parts of 7
 -- and 25 that need a row, an instruction, a log pair or a record"
@@ -148,11 +148,11 @@ look p s d =
 unfoldable pub bootCheck : List ℕ → List ℕ → Device → Checked
 bootCheck p s d = check p then storeRule p s then obeyAll (rules p (view s)) then must (not (d .on)) Refusal.PowerOn
 
-unfoldable pub boot : List ℕ → List ℕ → Device → Out
+unfoldable pub boot : List ℕ → List ℕ → Device → Outcome
 boot p s d = judged (bootCheck p s d) d (out none turnedOn Answer.Done)
 
 -- "A cut refuses nothing."
-unfoldable pub cut : Out
+unfoldable pub cut : Outcome
 cut = out none off Answer.Done
 
 unfoldable pub atRest : Handler → Bool
@@ -168,12 +168,12 @@ postCheck p s d e =
     then must (leb 1 (room (view s))) Refusal.QueueFull
 
 -- "A post makes no store, sets the handler to work"
-unfoldable pub post : List ℕ → List ℕ → Device → ℕ → ℕ → Out
+unfoldable pub post : List ℕ → List ℕ → Device → ℕ → ℕ → Outcome
 post p s d e x = judged (postCheck p s d e) d (out none (withHandler d (Storing 0 e x)) Answer.Done)
 
 -- ---- Step 1. "A handler at work makes its next store .. The tail store accepts the event": c of its stores are made
 
-unfoldable pub handlerStep : Store → Device → ℕ → ℕ → ℕ → Out
+unfoldable pub handlerStep : Store → Device → ℕ → ℕ → ℕ → Outcome
 handlerStep v d c e x =
     storing (handlerStores v (carried e x)) c (withHandler d (Storing (c + 1) e x)) (withHandler d Resting) Answer.Accepted
 
@@ -183,25 +183,25 @@ handlerStep v d c e x =
 unfoldable pub pairSound : List ℕ → Store → ℕ → Checked
 pairSound p v j = must (ltb (address v j) (memoryWords p)) (Refusal.Control (logAt (memoryWords p) + 2 * j))
 
-unfoldable pub copyStep : List ℕ → Store → Device → ℕ → Out
+unfoldable pub copyStep : List ℕ → Store → Device → ℕ → Outcome
 copyStep p v d c =
-    let after = moved d (d .regs) (Free (c + 1)) (d .count) in
-    pick (ltb c (v .count)) (judged (pairSound p v c) d (out (to (Memory (address v c)) (value v c)) after Answer.Stored))
-    (storing (lastStores v) (c - v .count) after turnedOn Answer.Stored)
+    let later = withPlace d (d .registers) (Free (c + 1)) (d .count) in
+    pick (ltb c (v .count)) (judged (pairSound p v c) d (out (to (Memory (address v c)) (value v c)) later Answer.Stored))
+    (storing (lastStores v) (c - v .count) later turnedOn Answer.Stored)
 
 -- ---- Step 3. "With no body running, one is chosen"
 
 -- "Registers become 0, except that register 0 gets an event's data. The log count becomes 0."
 unfoldable pub begun : Device → Body → ℕ → Device
-begun d b x = moved d (x ∷ replicate 7 0) (Run b 0 0) 0
+begun d b x = withPlace d (x ∷ replicate 7 0) (Run b 0 0) 0
 
 -- "a chosen record (7)", the record at head
 unfoldable pub recordSound : List ℕ → Store → Checked
 recordSound p v =
-    must (ltb (event v (v .head)) (events p)) (Refusal.Control (queueAt (memoryWords p) (v .pairs) + 2 * v .head))
+    must (ltb (event v (v .head)) (events p)) (Refusal.Control (queueAt (memoryWords p) (v .logPairs) + 2 * v .head))
 
 -- "if word 10 is 0 and the queue isn't empty, the event at head; otherwise the current task"
-unfoldable pub chooseStep : List ℕ → Store → Device → Out
+unfoldable pub chooseStep : List ℕ → Store → Device → Outcome
 chooseStep p v d =
     let e = Body.Event (event v (v .head)) in
     let t = Body.Task (v .task) in
@@ -220,9 +220,9 @@ headSound p v (Body.Event e) = recordSound p v
 unfoldable pub namedRow : List ℕ → Effect → Checked
 namedRow p (Effect.Compute a x) = Checked.Accepted
 namedRow p (Effect.Jump k) = Checked.Accepted
-namedRow p (Effect.Read a x) = Checked.Accepted
-namedRow p (Effect.Write x y) = Checked.Accepted
-namedRow p (Effect.EndTask k) = rowUsed p k
+namedRow p (Effect.Load a x) = Checked.Accepted
+namedRow p (Effect.Save x y) = Checked.Accepted
+namedRow p (Effect.EndTask k) = rowUsable p k
 namedRow p Effect.EndEvent = Checked.Accepted
 namedRow p Effect.Unknown = Checked.Accepted
 
@@ -238,8 +238,8 @@ headIs v (Body.Event e) = eqb (event v (v .head)) e
 unfoldable pub ends : Effect → Bool
 ends (Effect.Compute a x) = false
 ends (Effect.Jump k) = false
-ends (Effect.Read a x) = false
-ends (Effect.Write x y) = false
+ends (Effect.Load a x) = false
+ends (Effect.Save x y) = false
 ends (Effect.EndTask k) = true
 ends Effect.EndEvent = true
 ends Effect.Unknown = false
@@ -247,8 +247,8 @@ ends Effect.Unknown = false
 unfoldable pub saves : Effect → Bool
 saves (Effect.Compute a x) = false
 saves (Effect.Jump k) = false
-saves (Effect.Read a x) = false
-saves (Effect.Write x y) = true
+saves (Effect.Load a x) = false
+saves (Effect.Save x y) = true
 saves (Effect.EndTask k) = false
 saves Effect.EndEvent = false
 saves Effect.Unknown = false
@@ -261,11 +261,11 @@ placeFits (Half b j) f = saves f
 
 unfoldable pub bodySound : List ℕ → Store → Place → Body → ℕ → Effect → Checked
 bodySound p v x b j f =
-    let i = number p b in
+    let i = bodyNumber p b in
     let there = ltb j (instructions p i) in
     headSound p v b
     then rowsInside p
-    then rowUsed p i
+    then rowUsable p i
     then pick there (instructionRule p i j then namedRow p f) Checked.Accepted
     then openSound p v b
     then must (there and headIs v b and placeFits x f) Refusal.State
@@ -277,52 +277,52 @@ shown v Found.Nothing a = word (v .memory) a
 
 -- "SAVE to an address in the log overwrites its value in one step; otherwise one step stores the address and the next .. the
 -- value." "24: SAVE to an address not in the log, with L pairs there."
-unfoldable pub saveStep : Store → Device → Body → ℕ → ℕ → ℕ → Found → Out
-saveStep v d b j a x (Found.Pair i) = out (to (Value i) x) (moved d (d .regs) (Run b (j + 1) 0) (d .count)) Answer.Stored
+unfoldable pub saveStep : Store → Device → Body → ℕ → ℕ → ℕ → Found → Outcome
+saveStep v d b j a x (Found.Pair i) = out (to (Value i) x) (withPlace d (d .registers) (Run b (j + 1) 0) (d .count)) Answer.Stored
 saveStep v d b j a x Found.Nothing =
-    pick (ltb (d .count) (v .pairs)) (out (to (Address (d .count)) a) (moved d (d .regs) (Half b j) (d .count)) Answer.Stored)
+    pick (ltb (d .count) (v .logPairs)) (out (to (Address (d .count)) a) (withPlace d (d .registers) (Half b j) (d .count)) Answer.Stored)
     (refuse d Refusal.LogFull)
 
 -- body b at instruction j, c stores of its end made. "23: address k + b not below M."
-unfoldable pub act : List ℕ → Store → Device → Body → ℕ → ℕ → Effect → Out
-act p v d b j c (Effect.Compute a x) = out none (moved d (set (d .regs) a x) (Run b (j + 1) 0) (d .count)) Answer.Worked
-act p v d b j c (Effect.Jump k) = out none (moved d (d .regs) (Run b k 0) (d .count)) Answer.Worked
-act p v d b j c (Effect.Read a x) =
+unfoldable pub act : List ℕ → Store → Device → Body → ℕ → ℕ → Effect → Outcome
+act p v d b j c (Effect.Compute a x) = out none (withPlace d (set (d .registers) a x) (Run b (j + 1) 0) (d .count)) Answer.Worked
+act p v d b j c (Effect.Jump k) = out none (withPlace d (d .registers) (Run b k 0) (d .count)) Answer.Worked
+act p v d b j c (Effect.Load a x) =
     pick (ltb x (memoryWords p))
-    (out none (moved d (set (d .regs) a (shown v (find (v .log) (d .count) x) x)) (Run b (j + 1) 0) (d .count)) Answer.Worked)
+    (out none (withPlace d (set (d .registers) a (shown v (find (v .log) (d .count) x) x)) (Run b (j + 1) 0) (d .count)) Answer.Worked)
     (refuse d Refusal.Address)
-act p v d b j c (Effect.Write x y) =
+act p v d b j c (Effect.Save x y) =
     pick (ltb x (memoryWords p)) (saveStep v d b j x y (find (v .log) (d .count) x)) (refuse d Refusal.Address)
 act p v d b j c (Effect.EndTask k) =
-    storing (taskStores p (number p b) k (d .count)) c (moved d (d .regs) (Run b j (c + 1)) (d .count)) turnedOn (Answer.Committed b)
+    storing (taskStores p (bodyNumber p b) k (d .count)) c (withPlace d (d .registers) (Run b j (c + 1)) (d .count)) turnedOn (Answer.Committed b)
 act p v d b j c Effect.EndEvent =
-    storing (eventStores v (d .count)) c (moved d (d .regs) (Run b j (c + 1)) (d .count)) turnedOn (Answer.Committed b)
+    storing (eventStores v (d .count)) c (withPlace d (d .registers) (Run b j (c + 1)) (d .count)) turnedOn (Answer.Committed b)
 act p v d b j c Effect.Unknown = refuse d Refusal.State
 
 -- the value of half a SAVE, "without looking again at address or log"
-unfoldable pub saveRest : Device → Body → ℕ → Effect → Out
+unfoldable pub saveRest : Device → Body → ℕ → Effect → Outcome
 saveRest d b j (Effect.Compute a x) = refuse d Refusal.State
 saveRest d b j (Effect.Jump k) = refuse d Refusal.State
-saveRest d b j (Effect.Read a x) = refuse d Refusal.State
-saveRest d b j (Effect.Write x y) = out (to (Value (d .count)) y) (moved d (d .regs) (Run b (j + 1) 0) (d .count + 1)) Answer.Stored
+saveRest d b j (Effect.Load a x) = refuse d Refusal.State
+saveRest d b j (Effect.Save x y) = out (to (Value (d .count)) y) (withPlace d (d .registers) (Run b (j + 1) 0) (d .count + 1)) Answer.Stored
 saveRest d b j (Effect.EndTask k) = refuse d Refusal.State
 saveRest d b j Effect.EndEvent = refuse d Refusal.State
 saveRest d b j Effect.Unknown = refuse d Refusal.State
 
 -- ---- "First that applies"
 
-unfoldable pub placeStep : List ℕ → Store → Device → Place → Out
+unfoldable pub placeStep : List ℕ → Store → Device → Place → Outcome
 placeStep p v d (Free c) = pick (eqb (v .phase) 0) (chooseStep p v d) (copyStep p v d c)
 placeStep p v d (Run b j c) =
-    let f = effectAt p (number p b) j (d .regs) in
+    let f = effectAt p (bodyNumber p b) j (d .registers) in
     judged (bodySound p v (Run b j c) b j f) d (act p v d b j c f)
 placeStep p v d (Half b j) =
-    let f = effectAt p (number p b) j (d .regs) in
+    let f = effectAt p (bodyNumber p b) j (d .registers) in
     judged (bodySound p v (Half b j) b j f) d (saveRest d b j f)
 
-unfoldable pub nextStep : List ℕ → Store → Device → Handler → Out
+unfoldable pub nextStep : List ℕ → Store → Device → Handler → Outcome
 nextStep p v d Resting = placeStep p v d (d .place)
 nextStep p v d (Storing c e x) = handlerStep v d c e x
 
-unfoldable pub step : List ℕ → List ℕ → Device → Out
+unfoldable pub step : List ℕ → List ℕ → Device → Outcome
 step p s d = judged (look p s d) d (nextStep p (view s) d (d .handler))

@@ -57,9 +57,9 @@ abbrev pub firstBody : List ℕ → ℕ
 firstBody p = rowAt (bodies p)
 
 -- a body's number among all: tasks first
-unfoldable pub number : List ℕ → Body → ℕ
-number p (Body.Task t) = t
-number p (Body.Event e) = tasks p + e
+unfoldable pub bodyNumber : List ℕ → Body → ℕ
+bodyNumber p (Body.Task t) = t
+bodyNumber p (Body.Event e) = tasks p + e
 
 -- ---- "An instruction is two words: opcode × 256 + a × 16 + b, then k."
 
@@ -174,10 +174,10 @@ effect (Instruction.And a b) r j = Effect.Compute a (bitAnd (reg r a) (reg r b))
 effect (Instruction.Or a b) r j = Effect.Compute a (bitOr (reg r a) (reg r b))
 effect (Instruction.Xor a b) r j = Effect.Compute a (bitXor (reg r a) (reg r b))
 effect (Instruction.Shift a k) r j = Effect.Compute a (shifted (reg r a) k)
-effect (Instruction.Load a k) r j = Effect.Read a k
-effect (Instruction.Save a k) r j = Effect.Write k (reg r a)
-effect (Instruction.LoadX a b k) r j = Effect.Read a (k + reg r b)
-effect (Instruction.SaveX a b k) r j = Effect.Write (k + reg r b) (reg r a)
+effect (Instruction.Load a k) r j = Effect.Load a k
+effect (Instruction.Save a k) r j = Effect.Save k (reg r a)
+effect (Instruction.LoadX a b k) r j = Effect.Load a (k + reg r b)
+effect (Instruction.SaveX a b k) r j = Effect.Save (k + reg r b) (reg r a)
 effect (Instruction.Jump k) r j = Effect.Jump k
 effect (Instruction.JumpZero a k) r j = Effect.Jump (pick (eqb (reg r a) 0) k (j + 1))
 effect (Instruction.JumpLess a b k) r j = Effect.Jump (pick (less (reg r a) (reg r b)) k (j + 1))

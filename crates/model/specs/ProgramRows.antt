@@ -4,28 +4,28 @@ use mathlib.Core.Bool.{true}
 use mathlib.Core.List.{List, [], _∷_}
 use lib.ListN.{replicate, set, take}
 use Rattle.model.specs.Check.{instructionRule, check}
-use Rattle.model.specs.Device.{Out, out, refuse, step}
+use Rattle.model.specs.Device.{Outcome, out, refuse, step}
 use Rattle.model.specs.Store.{Word, Count, Address, Value, none, to, format, formatCheck}
 use Rattle.model.specs.Types.{Answer, Body, Checked, Half, Place, Refusal, Resting, Run}
 use Rattle.model.specs.Sample.{Row, _⇒_, at, closed, device, event1, opened, registers, sample, task1, withInstruction}
 
 -- ---- Each opcode, as instruction 2 of task 1
 
-abbrev executed : ℕ → ℕ → Out
+abbrev executed : ℕ → ℕ → Outcome
 executed w k = step (withInstruction w k) opened (at (task1 2))
 
 -- a register becomes a value; the body goes on at an instruction; the step stores a word and goes on at a place
-abbrev becomes : ℕ → ℕ → Out
+abbrev becomes : ℕ → ℕ → Outcome
 becomes a x = out none (device true (set registers a x) (task1 3) 1 Resting) Answer.Worked
 
-abbrev goesTo : ℕ → Out
+abbrev goesTo : ℕ → Outcome
 goesTo k = out none (at (task1 k)) Answer.Worked
 
-abbrev pub stores : Word → ℕ → Place → Out
+abbrev pub stores : Word → ℕ → Place → Outcome
 stores w x place = out (to w x) (at place) Answer.Stored
 
 -- registers: 0, 2, 5, 12, 10, -5, hex 7FFF, hex 8000; the log has 777 for address 2
-unfoldable pub meanings : List (Row Out)
+unfoldable pub meanings : List (Row Outcome)
 meanings =
     executed 0x0020 0xABCD ⇒ becomes 2 0xABCD  -- SET 2
     ∷ executed 0x0134 0 ⇒ becomes 3 10  -- MOV 3 4

@@ -75,7 +75,7 @@ eventCommit = controls 2 1 0 1 0 0 3 1
 -- ---- Devices
 
 abbrev pub device : Bool → List ℕ → Place → ℕ → Handler → Device
-device on r x l h = record { on = on; regs = r; place = x; count = l; handler = h }
+device on r x l h = record { on = on; registers = r; place = x; count = l; handler = h }
 
 abbrev pub cleared : List ℕ
 cleared = 0 ∷ 0 ∷ 0 ∷ 0 ∷ 0 ∷ 0 ∷ 0 ∷ 0 ∷ []

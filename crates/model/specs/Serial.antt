@@ -10,7 +10,7 @@ use mathlib.Core.Option.{Option, none, some}
 use lib.Dec.{ltb, eqb}
 use lib.ListN.{length, set, replicate}
 use Rattle.model.specs.Calls.{Call, Boot, Step, Cut, Post, Line, acceptedEvents}
-use Rattle.model.specs.Program.{entry, memoryWords, transaction, instructions, number, effectAt, newOpen, word}
+use Rattle.model.specs.Program.{entry, memoryWords, transaction, instructions, bodyNumber, effectAt, newOpen, word}
 use Rattle.model.specs.Store.{Record, carried}
 use Rattle.model.specs.Test.{pick, _and_}
 use Rattle.model.specs.Types.{Answer, Body, Effect}
@@ -26,11 +26,11 @@ pub record Serial : Type 0 where
 -- What formatting was given: the serial run has this, and no more of the store.
 pub record Formatting : Type 0 where
   pub program : List ℕ
-  pub pairs : ℕ
-  pub records : ℕ
+  pub logPairs : ℕ
+  pub queueRecords : ℕ
 
 abbrev pub given : List ℕ → ℕ → ℕ → Formatting
-given p l q = record { program = p; pairs = l; records = q }
+given p l q = record { program = p; logPairs = l; queueRecords = q }
 
 -- "It starts with memory 0, the entry task as current task, open number 0 and no records."
 unfoldable pub serialStart : Formatting → Serial
@@ -55,8 +55,8 @@ pub data Walked : Type 0 where
 unfoldable pub advance : List ℕ → ℕ → List ℕ → List ℕ → (ℕ → List ℕ → List ℕ → Walked) → Effect → Walked
 advance p j r m go (Effect.Compute a x) = go (j + 1) (set r a x) m
 advance p j r m go (Effect.Jump k) = go k r m
-advance p j r m go (Effect.Read a x) = pick (ltb x (memoryWords p)) (go (j + 1) (set r a (word m x)) m) lost
-advance p j r m go (Effect.Write x y) = pick (ltb x (memoryWords p)) (go (j + 1) r (set m x y)) lost
+advance p j r m go (Effect.Load a x) = pick (ltb x (memoryWords p)) (go (j + 1) (set r a (word m x)) m) lost
+advance p j r m go (Effect.Save x y) = pick (ltb x (memoryWords p)) (go (j + 1) r (set m x y)) lost
 advance p j r m go (Effect.EndTask k) = went k m
 advance p j r m go Effect.EndEvent = served m
 advance p j r m go Effect.Unknown = lost
@@ -69,7 +69,7 @@ walk (suc fuel) p i j r m =
 
 -- "Registers are as at choosing"
 unfoldable pub walkBody : ℕ → List ℕ → Body → ℕ → List ℕ → Walked
-walkBody fuel p b x m = walk fuel p (number p b) 0 (x ∷ replicate 7 0) m
+walkBody fuel p b x m = walk fuel p (bodyNumber p b) 0 (x ∷ replicate 7 0) m
 
 -- ---- The run
 

@@ -106,8 +106,8 @@ pub record Starred : Type 0 where
   pub not-last : view (storeAfter counting (accepted ++ steps 8)) .phase ≡ 2
   pub one-slot : view (storeOf (recover counting (accepted ++ steps 8 ++ Cut ∷ []))) .head ≡ 1
   -- "SHR of hex 8000 by 15 gives FFFF; of 7FFF by 15, 0; k 16: 5." Steps 2 and 3 are SET and SHR.
-  pub shr-lowest : deviceAfter (withTask (0x0000 ∷ 0x8000 ∷ 0x0700 ∷ 15 ∷ 0x0F00 ∷ 0 ∷ [])) (Boot ∷ steps 3) .regs ≡ 0xFFFF ∷ replicate 7 0
-  pub shr-highest : deviceAfter (withTask (0x0000 ∷ 0x7FFF ∷ 0x0700 ∷ 15 ∷ 0x0F00 ∷ 0 ∷ [])) (Boot ∷ steps 3) .regs ≡ 0 ∷ replicate 7 0
+  pub shr-lowest : deviceAfter (withTask (0x0000 ∷ 0x8000 ∷ 0x0700 ∷ 15 ∷ 0x0F00 ∷ 0 ∷ [])) (Boot ∷ steps 3) .registers ≡ 0xFFFF ∷ replicate 7 0
+  pub shr-highest : deviceAfter (withTask (0x0000 ∷ 0x7FFF ∷ 0x0700 ∷ 15 ∷ 0x0F00 ∷ 0 ∷ [])) (Boot ∷ steps 3) .registers ≡ 0 ∷ replicate 7 0
   pub shr-16 : Refuses (withTask (0x0000 ∷ 0x8000 ∷ 0x0700 ∷ 16 ∷ 0x0F00 ∷ 0 ∷ [])) (Refusal.Code 0 1)
   -- "JLT: 8000 is below 0; 7FFF isn't below 8000." Step 4 is JLT, which jumps to instruction 4 or goes on to 3.
   pub jlt-lowest : deviceAfter (withTask (0x0000 ∷ 0x8000 ∷ 0x0010 ∷ 0x0000 ∷ 0x0E01 ∷ 4 ∷ 0x0F00 ∷ 0 ∷ 0x0F00 ∷ 0 ∷ [])) (Boot ∷ steps 4) .place ≡ Run (Body.Task 0) 4 0

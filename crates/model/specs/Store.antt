@@ -38,8 +38,8 @@ storeContents m l q = storeMark ∷ m ∷ l ∷ q ∷ controlAt ∷ memoryAt ∷
 -- "Control: 8 phase (0 running, 1 task commit, 2 event commit); 9 current task; 10 open transaction (0 none); 11 count n; 12
 -- pending next task, or in phase 2 pending head; 13 pending open; 14 head; 15 tail."
 pub record Store : Type 0 where
-  pub pairs : ℕ
-  pub records : ℕ
+  pub logPairs : ℕ
+  pub queueRecords : ℕ
   pub phase : ℕ
   pub task : ℕ
   pub openNumber : ℕ
@@ -55,8 +55,8 @@ pub record Store : Type 0 where
 abbrev pub view : List ℕ → Store
 view s =
     record {
-      pairs = word s 2;
-      records = word s 3;
+      logPairs = word s 2;
+      queueRecords = word s 3;
       phase = word s 8;
       task = word s 9;
       openNumber = word s 10;
@@ -128,8 +128,8 @@ find log n a = findFrom log a 0 n
 -- ---- The ring: "Empty means head equals tail; full means the slot after tail is head." Then there is room for no record.
 
 -- the slot after x, of the slots 0 to q
-unfoldable pub after : ℕ → ℕ → ℕ
-after q x = pick (eqb x q) 0 (x + 1)
+unfoldable pub slotAfter : ℕ → ℕ → ℕ
+slotAfter q x = pick (eqb x q) 0 (x + 1)
 
 abbrev pub empty : Store → Bool
 empty v = eqb (v .head) (v .tail)
@@ -144,7 +144,7 @@ distance q h t = pick (leb h t) (t - h) (t + (q + 1) - h)
 
 -- how many records more the ring takes
 unfoldable pub room : Store → ℕ
-room v = v .records - distance (v .records) (v .head) (v .tail)
+room v = v .queueRecords - distance (v .queueRecords) (v .head) (v .tail)
 
 pub record Record : Type 0 where
   pub event : ℕ
@@ -160,12 +160,12 @@ slot queue x = record { event = word queue (2 * x); datum = word queue (2 * x + 
 -- k records from slot x on
 unfoldable pub recordsFrom : List ℕ → ℕ → ℕ → ℕ → List Record
 recordsFrom queue q x zero = []
-recordsFrom queue q x (suc k) = slot queue x ∷ recordsFrom queue q (after q x) k
+recordsFrom queue q x (suc k) = slot queue x ∷ recordsFrom queue q (slotAfter q x) k
 
 unfoldable pub waiting : Store → List Record
 waiting v =
     let h = firstWaiting v in
-    recordsFrom (v .queue) (v .records) h (distance (v .records) h (v .tail))
+    recordsFrom (v .queue) (v .queueRecords) h (distance (v .queueRecords) h (v .tail))
 
 -- ---- "Formatting sets the contents, word 9 to the entry task and all else to 0."
 

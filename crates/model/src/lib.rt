@@ -26,7 +26,7 @@ pub enum Place {
 // The device state, which a cut loses.
 pub struct Device {
     pub on: bool,
-    pub regs: [u16; 8],
+    pub registers: [u16; 8],
     pub place: Place,
     pub count: u16,
     pub handler: Handler,
@@ -36,7 +36,7 @@ impl Device {
     // The state after a cut.
     pub const OFF: Device = Device {
         on: false,
-        regs: [0; 8],
+        registers: [0; 8],
         place: Place::Free(0),
         count: 0,
         handler: Handler::Resting,
@@ -109,9 +109,9 @@ pub enum Effect {
     // The body goes on at an instruction.
     Jump(u16),
     // A register gets what an address shows.
-    Read(u16, u32),
+    Load(u16, u32),
     // An address gets a value.
-    Write(u32, u16),
+    Save(u32, u16),
     // The task ends, and names the next.
     EndTask(u16),
     // The event ends.

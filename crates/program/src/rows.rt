@@ -2,7 +2,7 @@
 ghost use Prim.Native.Nat.{_≤_};
 ghost use mathlib.Core.Path.{_≡_};
 ghost use lib.Dec.{ltb};
-ghost use Rattle.model.specs.Check.{rowsInside, limits, due, rowRule, rows, rowUsed};
+ghost use Rattle.model.specs.Check.{rowsInside, limits, due, rowRule, rows, rowUsable};
 ghost use Rattle.model.specs.Program.{bodies, firstBody, start, instructions, transaction};
 ghost use Rattle.model.specs.Test.{pick, each};
 ghost use Rattle.model.specs.Accepted.{Contents, RowsInside, HasRow, HasBody, Bodies};
@@ -143,7 +143,7 @@ pub(crate) fn rows(program: &[u16]) -> Checked
 // What a step asks of a row: its limits, and its body behind the rows and inside the total.
 pub fn usable(program: &[u16], body_number: u16) -> Checked
     requires { ⌜ HasRow (now program) «body_number» ⌝ }
-    ensures { λ r. ⌜ r ≡ rowUsed (now (program .entry)) «body_number» ⌝ }
+    ensures { λ r. ⌜ r ≡ rowUsable (now (program .entry)) «body_number» ⌝ }
     ensures given { λ r. ⌜ (r ≡ Checked.Accepted → HasBody (now (program .entry)) «body_number») ⌝ }
 {
     let found = limits(program, body_number);

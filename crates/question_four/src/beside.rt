@@ -169,8 +169,8 @@ fn calls(
     let right = runs.right;
     let mistaken = runs.mistaken;
     Runs {
-        right: node::calls(program, right_store, right, calls, Mistake::Nothing),
-        mistaken: node::calls(program, mistaken_store, mistaken, calls, mistake),
+        right: node::all_calls(program, right_store, right, calls, Mistake::Nothing),
+        mistaken: node::all_calls(program, mistaken_store, mistaken, calls, mistake),
     }
 }
 

@@ -96,7 +96,7 @@ pub fn call(program: &[u16], store: &mut [u16], node: Node, call: u8, mistake: M
 }
 
 // Calls that aren't shown.
-pub fn calls(
+pub fn all_calls(
     program: &[u16],
     store: &mut [u16],
     first: Node,

@@ -80,7 +80,7 @@ pub fn table(program: &[u16], before: &[u8], calls: &[u8]) {
     heading(before);
     let mut store = [0; 24];
     let _ = format::format(program, 1, 1, &mut store);
-    let first = node::calls(program, &mut store, node::off(), before, Mistake::Nothing);
+    let first = node::all_calls(program, &mut store, node::off(), before, Mistake::Nothing);
     rows(program, &mut store, first, calls);
 }
 

@@ -8,9 +8,9 @@ use Rattle.device.specs.Agree.{Agrees}
 use Rattle.model.proofs.Blamed.{place-is-broken}
 use Rattle.model.proofs.CallLaws.{answer-case}
 use Rattle.model.proofs.Refused.{refused-is}
-use Rattle.model.specs.Calls.{Ran, Step, call, unlessRefused, counted, runFrom, run}
+use Rattle.model.specs.Calls.{RunOutcome, Step, call, unlessRefused, counted, runFrom, run}
 use Rattle.model.specs.Control.{rules, blames}
-use Rattle.model.specs.Device.{Out, refuse, step}
+use Rattle.model.specs.Device.{Outcome, refuse, step}
 use Rattle.model.specs.Store.{view, settled, storedWord}
 use Rattle.model.specs.declared.Answer.{Answer}
 use Rattle.model.specs.declared.Checked.{Checked}
@@ -48,7 +48,7 @@ goes (Answer.Refused r) stop rest e = cc
 
 -- ---- a run at its next step, n steps made
 
-abbrev pub ended : ℕ → Ended → List ℕ → Device → Totals → Ran
+abbrev pub ended : ℕ → Ended → List ℕ → Device → Totals → RunOutcome
 ended n e s d t = record { steps = n; ended = e; store = s; device = d; totals = t }
 
 pub run-spent : (p : List ℕ) (n : ℕ) (s : List ℕ) (d : Device) (t : Totals) → runFrom p 0 n s d t ≡ ended n Ended.Spent s d t
@@ -56,7 +56,7 @@ unfolding runFrom
 run-spent p n s d t = refl
 
 module _ (p : List ℕ) (k j n : ℕ) (s : List ℕ) (d : Device) (t : Totals) (left : k ≡ suc j) where
-  abbrev o : Out
+  abbrev o : Outcome
   o = step p s d
 
   pub run-stops : {f : Refusal} → refusalOf (o .answer) ≡ Checked.Refused f → runFrom p k n s d t ≡ ended n (Ended.Refused f) (settled s (o .write)) (o .device) t
@@ -64,7 +64,7 @@ module _ (p : List ℕ) (k j n : ℕ) (s : List ℕ) (d : Device) (t : Totals) (
   run-stops {f = f} e =
       let h = stops (o .answer) (λ f. ended n (Ended.Refused f) s d t) (runFrom p j (n + 1) (settled s (o .write)) (o .device) (counted t o)) e in
       let q : o ≡ refuse d f = refused-is p s d Step f (h .0) in
-      rw left (h .1 ∙ ap (λ (x : Out). ended n (Ended.Refused f) (settled s (x .write)) (x .device) t) (sym q))
+      rw left (h .1 ∙ ap (λ (x : Outcome). ended n (Ended.Refused f) (settled s (x .write)) (x .device) t) (sym q))
 
   pub run-goes : refusalOf (o .answer) ≡ Checked.Accepted → runFrom p k n s d t ≡ runFrom p j (n + 1) (settled s (o .write)) (o .device) (countedFrom t (o .answer) (storedWord s (o .write)))
   unfolding runFrom
@@ -75,7 +75,7 @@ module _ (p : List ℕ) (k j n : ℕ) (s : List ℕ) (d : Device) (t : Totals) (
 
 -- ---- the place in 7
 
-abbrev Blames : List ℕ → Ran → Type 0
+abbrev Blames : List ℕ → RunOutcome → Type 0
 Blames p x = (w : ℕ) → x .ended ≡ Ended.Refused (Refusal.Control w) → blames (rules p (view (x .store))) w ≡ true
 
 same-refusal : {a b : Refusal} → Ended.Refused a ≡ Ended.Refused b → a ≡ b

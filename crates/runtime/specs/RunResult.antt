@@ -7,7 +7,7 @@ use mathlib.Core.Path.{_≡_}
 use Rattle.device.specs.Agree.{Agrees}
 use Rattle.device.specs.Result.{Result, device, ofOutcome}
 use Rattle.device.specs.declared.Core.{Core}
-use Rattle.model.specs.Calls.{Ran as Defined, run}
+use Rattle.model.specs.Calls.{RunOutcome as Defined, run}
 use Rattle.model.specs.Control.{rules}
 use Rattle.model.specs.Device.{step}
 use Rattle.model.specs.Store.{view}

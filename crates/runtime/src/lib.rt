@@ -186,7 +186,7 @@ fn whole(core: Core, registers: [u16; 8]) -> Device
     let handler = core.handler;
     Device {
         on: core.on,
-        regs: registers,
+        registers: registers,
         place,
         count: core.count,
         handler,
@@ -212,7 +212,7 @@ fn packed(steps: CoreRunResult, registers: [u16; 8]) -> CallResult
 pub fn step(program: &[u16], store: &mut [u16], device: Device) -> CallResult
     ensures { λ r. ⌜ StepPerforms (now (program .entry)) (now (store .entry)) device r (now (store .exit)) ⌝ }
 {
-    let mut registers = device.regs;
+    let mut registers = device.registers;
     let zero = Totals {
         committed: 0,
         accepted: 0,
@@ -234,7 +234,7 @@ pub fn run(
     ensures { λ r. ⌜ RunPerforms (now (program .entry))
         (run (now (program .entry)) budget (now (store .entry)) device totals) r (now (store .exit)) ⌝ }
 {
-    let mut registers = device.regs;
+    let mut registers = device.registers;
     let core = core_of(device);
     let steps = run_in(program, store, &mut registers, core, totals, budget);
     let ended = steps.ended;

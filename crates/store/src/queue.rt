@@ -5,7 +5,7 @@ ghost use mathlib.Core.Path.{_≡_};
 ghost use Prim.Native.Nat.{_≤_};
 ghost use Rattle.model.specs.Control.{between};
 ghost use Rattle.model.specs.Program.{word};
-ghost use Rattle.model.specs.Store.{view, event, datum, to, Event, Datum, after, empty, room, firstWaiting};
+ghost use Rattle.model.specs.Store.{view, event, datum, to, Event, Datum, slotAfter, empty, room, firstWaiting};
 ghost use Rattle.model.specs.Accepted.{Shaped};
 ghost use Rattle.store.specs.Written.{Written};
 
@@ -51,7 +51,7 @@ pub fn write_datum(store: &mut [u16], slot: u16, datum: u16) -> Stored
 // The slot after a slot, of the slots 0 to Q.
 pub fn slot_after(queue_records: u16, slot: u16) -> u16
     requires { ⌜ slot ≤ «queue_records» ⌝ }
-    ensures { λ r. ⌜ r ≡ after «queue_records» slot ⌝ }
+    ensures { λ r. ⌜ r ≡ slotAfter «queue_records» slot ⌝ }
 {
     if slot == queue_records { 0 } else { slot + 1 }
 }

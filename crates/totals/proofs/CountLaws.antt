@@ -3,7 +3,7 @@ use Prim.Native.Nat.{ℕ}
 use mathlib.Core.List.{List}
 use mathlib.Core.Path.{_≡_, refl}
 use Rattle.model.specs.Calls.{oneIf, isStore, counted}
-use Rattle.model.specs.Device.{Out}
+use Rattle.model.specs.Device.{Outcome}
 use Rattle.model.specs.Store.{Write, none, to, storedWord}
 use Rattle.model.specs.Test.{pick}
 use Rattle.model.specs.declared.Totals.{Totals}
@@ -14,6 +14,6 @@ unfolding stores storedWord oneIf isStore pick
 stores-is s none = refl
 stores-is s (to w x) = refl
 
-pub counted-is : (s : List ℕ) (t : Totals) (o : Out) → counted t o ≡ countedFrom t (o .answer) (storedWord s (o .write))
+pub counted-is : (s : List ℕ) (t : Totals) (o : Outcome) → counted t o ≡ countedFrom t (o .answer) (storedWord s (o .write))
 unfolding counted countedFrom
 counted-is s t o = rw (stores-is s (o .write))

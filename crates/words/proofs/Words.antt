@@ -21,7 +21,7 @@ use Rattle.words.proofs.Parts.{handler-is, handler-back, handler-left, 
 abbrev written : Device → List ℕ
 written d =
     flag (d .on)
-    ∷ (spelt (d .regs) 0 8 ++ (spelt (placeWords (d .place)) 0 5 ++ (d .count ∷ spelt (handlerWords (d .handler)) 0 3)))
+    ∷ (spelt (d .registers) 0 8 ++ (spelt (placeWords (d .place)) 0 5 ++ (d .count ∷ spelt (handlerWords (d .handler)) 0 3)))
 
 written-all : (d : Device) → deviceWords d ≡ written d
 unfolding deviceWords spelt
@@ -38,7 +38,7 @@ back d h =
       place-back,
       handler-is (d .handler) (h .handler),
       handler-back (d .handler) (h .handler),
-      spelt-all (d .regs) 8 (h .registers),
+      spelt-all (d .registers) 8 (h .registers),
     ))
 
 -- ---- forth

@@ -61,7 +61,7 @@ handlerWords (Storing c e x) = nextWord c ∷ e ∷ x ∷ []
 -- word 0: on; words 1 to 8: the registers; word 14: the log count
 unfoldable pub deviceWords : Device → List ℕ
 deviceWords d =
-    let r = d .regs in
+    let r = d .registers in
     (flag (d .on) ∷ word r 0 ∷ word r 1 ∷ word r 2 ∷ word r 3 ∷ word r 4 ∷ word r 5 ∷ word r 6 ∷ word r 7 ∷ placeWords (d .place))
     ++ (d .count ∷ handlerWords (d .handler))
 
@@ -108,7 +108,7 @@ unfoldable pub stateOf : List ℕ → Device
 stateOf w =
     record {
       on = eqb (word w 0) 1;
-      regs = word w 1 ∷ word w 2 ∷ word w 3 ∷ word w 4 ∷ word w 5 ∷ word w 6 ∷ word w 7 ∷ word w 8 ∷ [];
+      registers = word w 1 ∷ word w 2 ∷ word w 3 ∷ word w 4 ∷ word w 5 ∷ word w 6 ∷ word w 7 ∷ word w 8 ∷ [];
       place = placeOf (word w 9) (word w 10) (word w 11) (word w 12) (word w 13);
       count = word w 14;
       handler = handlerOf (word w 15) (word w 16) (word w 17);
@@ -120,7 +120,7 @@ deviceOf w = pick (isState w) (known (stateOf w)) unknown
 
 -- a device state that has words: eight registers, and a handler at work has one of its three stores to make
 pub record HasWords (d : Device) : Type 0 where
-  pub registers : length (d .regs) ≡ 8
+  pub registers : length (d .registers) ≡ 8
   pub handler : StoreLeft (d .handler)
 
 -- a device state is read back from its words, so no two states share their words

@@ -75,7 +75,7 @@ fn handler_words(handler: Handler) -> [u16; 3]
 pub fn write_device(words: &mut [u16; 18], device: Device)
     ensures { λ _. ⌜ now (words .exit) ≡ deviceWords device ⌝ }
 {
-    let registers = device.regs;
+    let registers = device.registers;
     let place = device.place;
     let handler = device.handler;
     let place_words = place_words(place);
@@ -190,7 +190,7 @@ pub fn is_state(words: &[u16; 18]) -> bool
 pub fn state_of(words: &[u16; 18]) -> Device
     ensures { λ d. ⌜ d ≡ stateOf (now (words .entry)) ⌝ }
 {
-    let regs = [
+    let registers = [
         words[1],
         words[2],
         words[3],
@@ -204,7 +204,7 @@ pub fn state_of(words: &[u16; 18]) -> Device
     let handler = handler_of(words[15], words[16], words[17]);
     Device {
         on: words[0] == 1,
-        regs,
+        registers,
         place,
         count: words[14],
         handler,

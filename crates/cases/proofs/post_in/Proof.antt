@@ -5,7 +5,7 @@ use mathlib.Core.Path.{_≡_, sym, ap, _∙_}
 use denote.Ref.{now}
 use Rattle.cases.proofs.Shown.{post-seen, queue-full-is-not-7}
 use Rattle.cases.specs.Seen.{none}
-use Rattle.model.specs.Calls.{Ran, run}
+use Rattle.model.specs.Calls.{RunOutcome, run}
 use Rattle.model.specs.Device.{fresh}
 use Rattle.model.specs.declared.Device.{Device}
 use Rattle.model.specs.declared.Totals.{Totals}
@@ -41,7 +41,7 @@ returns c =
     let ran : (s : List ℕ) (d : Device) (t : Totals) → t ≡ none → run p (c .before .before .before .before .before .before .before .before .before .before .before .before .before .before .before .before .before .args .steps) s d t ≡ run p (c .before .before .before .before .before .before .before .before .before .before .before .before .before .before .before .before .before .args .steps) s d none = λ s d t e. ap (λ (t : Totals). run p (c .before .before .before .before .before .before .before .before .before .before .before .before .before .before .before .before .before .args .steps) s d t) e in
     λ full.
     let q = ran _ _ _ (c .before .before .before .before .before .none .ensures) in
-    let e = post-seen p _ (c .before .before .before .before .before .before .before .before .before .before .before .before .before .format .ensures .1) (c .before .before .before .before .before .before .before .before .before .boot .ensures .device) (c .before .before .before .before .before .before .before .before .before .before .before .before .before .before .before .before .before .args .steps) (c .before .before .before .before .before .before .before .post .ensures .device) (c .before .before .before .before .run .ensures .store ∙ ap (λ (x : Ran). x .store) q) (c .before .before .before .before .run .ensures .device ∙ ap (λ (x : Ran). x .device) q) ∙ full in
+    let e = post-seen p _ (c .before .before .before .before .before .before .before .before .before .before .before .before .before .format .ensures .1) (c .before .before .before .before .before .before .before .before .before .boot .ensures .device) (c .before .before .before .before .before .before .before .before .before .before .before .before .before .before .before .before .before .args .steps) (c .before .before .before .before .before .before .before .post .ensures .device) (c .before .before .before .before .run .ensures .store ∙ ap (λ (x : RunOutcome). x .store) q) (c .before .before .before .before .run .ensures .device ∙ ap (λ (x : RunOutcome). x .device) q) ∙ full in
     c .post2 .ensures .answer .same (λ w x. queue-full-is-not-7 (sym e ∙ x)) ∙ e
 
 pub post-in-spec : {M : Type 1} → statement M

@@ -4,7 +4,7 @@ use denote.Ref.{now}
 use Rattle.device.specs.Agree.{Agrees}
 use Rattle.device.specs.Result.{device}
 use Rattle.device.specs.declared.Core.{Core}
-use Rattle.model.specs.Calls.{Ran, run}
+use Rattle.model.specs.Calls.{RunOutcome, run}
 use Rattle.model.specs.Control.{rules}
 use Rattle.model.specs.Store.{view}
 use Rattle.model.specs.declared.Ended.{Ended}
@@ -30,15 +30,15 @@ returns c =
     let p = now (c .before .before .before .before .before .before .before .before .before .before .before .before .args .program) in
     let s = now (c .before .before .before .before .before .before .before .before .before .before .before .before .args .store) in
     let o = run p (c .before .before .before .before .before .before .before .before .before .before .before .before .args .budget) s (c .before .before .before .before .before .before .before .before .before .before .before .before .args .device) (c .before .before .before .before .before .before .before .before .before .before .before .before .args .totals) in
-    let q = c .before .before .before .before .before .run-in .ensures .run ∙ ap (λ (x : Core). run p (c .before .before .before .before .before .before .before .before .before .before .before .before .args .budget) s (device x (c .before .before .before .before .before .before .before .before .before .before .before .before .args .device .regs)) (c .before .before .before .before .before .before .before .before .before .before .before .before .args .totals)) (c .before .before .before .before .before .before .before .before .core-of .ensures) in
+    let q = c .before .before .before .before .before .run-in .ensures .run ∙ ap (λ (x : Core). run p (c .before .before .before .before .before .before .before .before .before .before .before .before .args .budget) s (device x (c .before .before .before .before .before .before .before .before .before .before .before .before .args .device .registers)) (c .before .before .before .before .before .before .before .before .before .before .before .before .args .totals)) (c .before .before .before .before .before .before .before .before .core-of .ensures) in
     record {
-      steps = ap (λ (x : Ran). x .steps) q;
+      steps = ap (λ (x : RunOutcome). x .steps) q;
       ended =
-          subst (λ (x : Ran). Agrees (rules p (view (o .store))) Ended.Refused (o .ended) (x .ended)) (sym q)
+          subst (λ (x : RunOutcome). Agrees (rules p (view (o .store))) Ended.Refused (o .ended) (x .ended)) (sym q)
           (run-agrees p (c .before .before .before .before .before .before .before .before .before .before .before .before .args .budget) s (c .before .before .before .before .before .before .before .before .before .before .before .before .args .device) (c .before .before .before .before .before .before .before .before .before .before .before .before .args .totals));
-      device = c .whole .ensures ∙ ap (λ (x : Ran). x .device) q;
-      store = ap (λ (x : Ran). x .store) q;
-      totals = ap (λ (x : Ran). x .totals) q;
+      device = c .whole .ensures ∙ ap (λ (x : RunOutcome). x .device) q;
+      store = ap (λ (x : RunOutcome). x .store) q;
+      totals = ap (λ (x : RunOutcome). x .totals) q;
     }
 
 pub run-spec : {M : Type 1} → statement M

@@ -27,7 +27,7 @@ unfolding call step
 returns c =
     let s = now (c .before .before .before .before .before .before .before .before .before .before .args .store) in
     let p = now (c .before .before .before .before .before .before .before .before .before .before .args .program) in
-    performs p s (c .before .before .before .before .before .before .before .before .before .before .args .device) Step (c .packed .ensures _ ∙ c .before .before .before .run-in .ensures .single refl ∙ ap (λ (x : Core). ofOutcome s (step p s (device x (c .before .before .before .before .before .before .before .before .before .before .args .device .regs)))) (c .before .before .before .before .before .before .core-of .ensures))
+    performs p s (c .before .before .before .before .before .before .before .before .before .before .args .device) Step (c .packed .ensures _ ∙ c .before .before .before .run-in .ensures .single refl ∙ ap (λ (x : Core). ofOutcome s (step p s (device x (c .before .before .before .before .before .before .before .before .before .before .args .device .registers)))) (c .before .before .before .before .before .before .core-of .ensures))
 
 pub step-spec : {M : Type 1} → statement M
 step-spec =

@@ -5,7 +5,7 @@ use Rattle.model.proofs.Passed.{look-passed}
 use Rattle.device.specs.Result.{device, ofCore, ofOutcome}
 use Rattle.device.specs.declared.CoreResult.{CoreResult}
 use Rattle.model.proofs.DeviceLaws.{step-goes, step-refused}
-use Rattle.model.specs.Device.{Out}
+use Rattle.model.specs.Device.{Outcome}
 use Rattle.model.specs.Store.{settled, storedWord}
 use borrow.Author.Needs.{needs}
 use Rattle.runtime.proofs.step_known.Statement.{statement}
@@ -34,7 +34,7 @@ returns c =
     let s = now (c .before .before .before .before .before .before .before .before .before .before .before .before .args .store) in
     let p = now (c .before .before .before .before .before .before .before .before .before .before .before .before .args .program) in
     let d = device (c .before .before .before .before .before .before .before .before .before .before .before .before .args .core) (now (c .before .before .before .before .before .before .before .before .before .before .before .before .args .registers)) in
-    c .before .before .next-step .ensures ∙ ap (λ (o : Out). ofOutcome s o) (sym (step-goes p s d (sym (c .before .before .before .before .before .before .before .look-unless .ensures) ∙ c .before .before .before .before .before .enum-told .given .1)))
+    c .before .before .next-step .ensures ∙ ap (λ (o : Outcome). ofOutcome s o) (sym (step-goes p s d (sym (c .before .before .before .before .before .before .before .look-unless .ensures) ∙ c .before .before .before .before .before .enum-told .given .1)))
 
 same-length-2 : tie.Need-same-length-2
 same-length-2 c = search needs
@@ -45,7 +45,7 @@ returns-2 c =
     let s = now (c .before .before .before .before .before .before .before .before .before .args .store) in
     let p = now (c .before .before .before .before .before .before .before .before .before .args .program) in
     let d = device (c .before .before .before .before .before .before .before .before .before .args .core) (now (c .before .before .before .before .before .before .before .before .before .args .registers)) in
-    ap (λ (x : CoreResult). ofCore x (now (c .before .before .before .before .before .before .before .before .before .args .registers)) s) (c .refused .ensures) ∙ ap (λ (o : Out). ofOutcome s o) (sym (step-refused p s d (sym (c .before .before .before .before .look-unless .ensures) ∙ c .before .before .found .given .1)))
+    ap (λ (x : CoreResult). ofCore x (now (c .before .before .before .before .before .before .before .before .before .args .registers)) s) (c .refused .ensures) ∙ ap (λ (o : Outcome). ofOutcome s o) (sym (step-refused p s d (sym (c .before .before .before .before .look-unless .ensures) ∙ c .before .before .found .given .1)))
 
 pub step-known-spec : {M : Type 1} → statement M
 step-known-spec =

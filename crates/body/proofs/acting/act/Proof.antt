@@ -1,6 +1,6 @@
 -- `acting::act` meets its contract, by what the instruction does. Assumes nothing.
 use native.Mathlib.Omega.{arith}
-use Rattle.model.specs.Device.{act, moved}
+use Rattle.model.specs.Device.{act, withPlace}
 use Rattle.model.specs.Store.{settled, storedWord}
 use borrow.Author.Needs.{needs}
 use Rattle.body.proofs.acting.act.Statement.{statement}
@@ -61,11 +61,11 @@ refused-requires : tie.Need-refused-requires
 refused-requires c κs = search needs
 
 returns : tie.Need-returns
-unfolding act moved settled storedWord
+unfolding act withPlace settled storedWord
 returns c = simp (c .before .before .effect .given .1, c .worked .ensures)
 
 returns-2 : tie.Need-returns-2
-unfolding act moved settled storedWord
+unfolding act withPlace settled storedWord
 returns-2 c = simp (c .before .before .effect2 .given .1, c .worked2 .ensures)
 
 same-length : tie.Need-same-length

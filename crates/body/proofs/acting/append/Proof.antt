@@ -1,6 +1,6 @@
 -- `acting::append` meets its contract, by whether a pair is left. Assumes nothing.
 use borrow.Author.Tests.{lt-ltb, le-ltb}
-use Rattle.model.specs.Device.{saveStep, moved}
+use Rattle.model.specs.Device.{saveStep, withPlace}
 use Rattle.model.specs.Store.{settled, storedWord}
 use Rattle.model.specs.Test.{pick}
 use borrow.Author.Needs.{needs}
@@ -27,7 +27,7 @@ same-length : tie.Need-same-length
 same-length c = search needs
 
 returns-2 : tie.Need-returns-2
-unfolding saveStep pick moved
+unfolding saveStep pick withPlace
 returns-2 c = λ r. simp (c .stored .ensures, c .before .before .before .write-address .ensures .store, c .before .before .before .write-address .ensures .stored, lt-ltb _ _ (c .before .before .before .before .before .if1 .left))
 
 pub append-spec : {M : Type 1} → statement M

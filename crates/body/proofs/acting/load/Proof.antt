@@ -1,7 +1,7 @@
 -- `acting::load` meets its contract, by whether the address is below M. Assumes nothing.
 use native.Mathlib.Omega.{arith}
 use borrow.Author.Tests.{lt-ltb, le-ltb}
-use Rattle.model.specs.Device.{act, moved}
+use Rattle.model.specs.Device.{act, withPlace}
 use Rattle.model.specs.Store.{settled, storedWord}
 use Rattle.model.specs.Test.{pick}
 use borrow.Author.Needs.{needs}
@@ -40,7 +40,7 @@ worked-requires : tie.Need-worked-requires
 worked-requires c κs = search needs
 
 returns-2 : tie.Need-returns-2
-unfolding act pick moved settled storedWord
+unfolding act pick withPlace settled storedWord
 returns-2 c = simp (c .worked .ensures, c .before .shown .ensures, lt-ltb _ _ (c .before .before .if1 .left))
 
 pub load-spec : {M : Type 1} → statement M

@@ -2,7 +2,7 @@
 use mathlib.Core.Path.{sym}
 use native.Mathlib.Omega.{arith}
 use borrow.Author.Tests.{lt-ltb, le-ltb}
-use Rattle.model.specs.Device.{act, saveStep, moved}
+use Rattle.model.specs.Device.{act, saveStep, withPlace}
 use Rattle.model.specs.Store.{settled, storedWord}
 use Rattle.model.specs.Test.{pick}
 use borrow.Author.Needs.{needs}
@@ -57,7 +57,7 @@ same-length-2 : tie.Need-same-length-2
 same-length-2 c = search needs
 
 returns-3 : tie.Need-returns-3
-unfolding act pick saveStep moved
+unfolding act pick saveStep withPlace
 returns-3 c = λ r. simp (lt-ltb _ _ (c .before .before .before .before .before .before .before .before .before .before .if1 .left), sym (c .before .before .before .before .before .before .before .before .find .ensures .0), c .before .before .before .before .before .before .found .given .1, c .stored .ensures, c .before .before .before .write-value .ensures .store, c .before .before .before .write-value .ensures .stored)
 
 pub save-spec : {M : Type 1} → statement M

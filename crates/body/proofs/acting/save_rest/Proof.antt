@@ -1,5 +1,5 @@
 -- `acting::save_rest` meets its contract, by what the instruction does. Assumes nothing.
-use Rattle.model.specs.Device.{saveRest, moved}
+use Rattle.model.specs.Device.{saveRest, withPlace}
 use Rattle.model.specs.Store.{settled, storedWord}
 use borrow.Author.Needs.{needs}
 use Rattle.body.proofs.acting.save_rest.Statement.{statement}
@@ -72,7 +72,7 @@ same-length : tie.Need-same-length
 same-length c = search needs
 
 returns-4 : tie.Need-returns-4
-unfolding saveRest moved
+unfolding saveRest withPlace
 returns-4 c = λ r. simp (c .before .before .before .before .before .before .effect .given .1, c .stored .ensures, c .before .before .before .write-value .ensures .store, c .before .before .before .write-value .ensures .stored)
 
 returns-5 : tie.Need-returns-5

@@ -1,7 +1,7 @@
 -- `ending::end_event` meets its contract, by the number of the stores made. Assumes nothing.
 use mathlib.Core.Path.{_≡_}
 use native.Mathlib.Omega.{arith}
-use Rattle.model.specs.Device.{act, storing, eventStores, moved, fresh}
+use Rattle.model.specs.Device.{act, storing, eventStores, withPlace, fresh}
 use Rattle.model.specs.Store.{settled, storedWord, index}
 use Rattle.model.specs.Test.{pick}
 use borrow.Author.Needs.{needs}
@@ -21,7 +21,7 @@ same-length : tie.Need-same-length
 same-length c = search needs
 
 returns : tie.Need-returns
-unfolding act storing eventStores moved settled storedWord index pick
+unfolding act storing eventStores withPlace settled storedWord index pick
 returns c = λ p. simp (c .before .if1 .taken, c .stored .ensures)
 
 slice-read-head : tie.Need-slice-read-head
@@ -43,7 +43,7 @@ same-length-2 : tie.Need-same-length-2
 same-length-2 c = search needs
 
 returns-2 : tie.Need-returns-2
-unfolding act storing eventStores moved settled storedWord index pick
+unfolding act storing eventStores withPlace settled storedWord index pick
 returns-2 c = λ p. simp (c .before .before .before .before .if2 .taken, c .stored2 .ensures, c .before .slot-after .ensures)
 
 slice-write-store-3 : tie.Need-slice-write-store-3
@@ -56,7 +56,7 @@ same-length-3 : tie.Need-same-length-3
 same-length-3 c = search needs
 
 returns-3 : tie.Need-returns-3
-unfolding act storing eventStores moved settled storedWord index pick fresh
+unfolding act storing eventStores withPlace settled storedWord index pick fresh
 returns-3 c = λ p.
     let e : c .before .before .before .before .before .args .made ≡ 2 = omega arith in
     simp (e, c .turned-on .ensures .0, c .turned-on .ensures .1)

@@ -1,7 +1,7 @@
 -- `ending::end_task` meets its contract, by the number of the stores made. Assumes nothing.
 use mathlib.Core.Path.{_≡_}
 use native.Mathlib.Omega.{arith}
-use Rattle.model.specs.Device.{act, storing, taskStores, moved, fresh}
+use Rattle.model.specs.Device.{act, storing, taskStores, withPlace, fresh}
 use Rattle.model.specs.Store.{settled, storedWord, index}
 use Rattle.model.specs.Test.{pick}
 use borrow.Author.Needs.{needs}
@@ -21,7 +21,7 @@ same-length : tie.Need-same-length
 same-length c = search needs
 
 returns : tie.Need-returns
-unfolding act storing taskStores moved settled storedWord index pick
+unfolding act storing taskStores withPlace settled storedWord index pick
 returns c = simp (c .before .if1 .taken, c .stored .ensures)
 
 slice-write-store-2 : tie.Need-slice-write-store-2
@@ -34,7 +34,7 @@ same-length-2 : tie.Need-same-length-2
 same-length-2 c = search needs
 
 returns-2 : tie.Need-returns-2
-unfolding act storing taskStores moved settled storedWord index pick
+unfolding act storing taskStores withPlace settled storedWord index pick
 returns-2 c = simp (c .before .if2 .taken, c .stored2 .ensures)
 
 body-number-requires : tie.Need-body-number-requires
@@ -59,7 +59,7 @@ same-length-3 : tie.Need-same-length-3
 same-length-3 c = search needs
 
 returns-3 : tie.Need-returns-3
-unfolding act storing taskStores moved settled storedWord index pick
+unfolding act storing taskStores withPlace settled storedWord index pick
 returns-3 c = simp (c .before .before .before .before .before .if3 .taken, c .stored3 .ensures, c .before .new-open .ensures, c .before .before .transaction2 .ensures, c .before .before .before .transaction .ensures, c .before .before .before .before .body-number .ensures)
 
 slice-write-store-4 : tie.Need-slice-write-store-4
@@ -72,7 +72,7 @@ same-length-4 : tie.Need-same-length-4
 same-length-4 c = search needs
 
 returns-4 : tie.Need-returns-4
-unfolding act storing taskStores moved settled storedWord index pick fresh
+unfolding act storing taskStores withPlace settled storedWord index pick fresh
 returns-4 c =
     let e : c .before .before .before .before .before .before .before .args .made ≡ 3 = omega arith in
     simp (e, c .turned-on .ensures .0, c .turned-on .ensures .1)

@@ -1,7 +1,7 @@
 -- `fetching::fetch` meets its contract, check by check. Assumes nothing.
 use mathlib.Core.Path.{sym, _∙_, subst}
 use borrow.Author.Tests.{lt-ltb, le-ltb}
-use Rattle.model.specs.Program.{number}
+use Rattle.model.specs.Program.{bodyNumber}
 use Rattle.model.specs.Store.{view}
 use Rattle.model.specs.Accepted.{LegalEffect}
 use Rattle.body.proofs.Running.{fetched-row, gone-open, gone, fetched-code, fetched-last, does-stop, does-go, does-same, does-refused, does-accepted, never}
@@ -93,7 +93,7 @@ returns-6 c =
       λ f k.
           record {
             instruction = record { body = c .before .before .before .before .before .before .before .before .before .before .before .before .row-sound .ensures .1 (c .before .before .before .before .before .before .before .before .before .before .enum-told .given .1); place = there };
-            legal = subst (LegalEffect (c .before .before .before .before .before .before .before .before .before .before .before .before .before .before .before .args .program .now) (number (c .before .before .before .before .before .before .before .before .before .before .before .before .before .before .before .args .program .now) (c .before .before .before .before .before .before .before .before .before .before .before .before .before .before .before .args .body)) (c .before .before .before .before .before .before .before .before .before .before .before .before .before .before .before .args .instruction)) (does-same k) (rw (c .before .before .before .before .before .before .before .before .before .body-number .ensures) at (c .before .before .before .before .before .before .instruction-effect .ensures .1 _ (c .before .before .before .before .got .given .1)));
+            legal = subst (LegalEffect (c .before .before .before .before .before .before .before .before .before .before .before .before .before .before .before .args .program .now) (bodyNumber (c .before .before .before .before .before .before .before .before .before .before .before .before .before .before .before .args .program .now) (c .before .before .before .before .before .before .before .before .before .before .before .before .before .before .before .args .body)) (c .before .before .before .before .before .before .before .before .before .before .before .before .before .before .before .args .instruction)) (does-same k) (rw (c .before .before .before .before .before .before .before .before .before .body-number .ensures) at (c .before .before .before .before .before .before .instruction-effect .ensures .1 _ (c .before .before .before .before .got .given .1)));
           },
     )
 

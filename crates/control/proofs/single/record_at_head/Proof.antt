@@ -15,7 +15,7 @@ use Rattle.control.proofs.single.record_at_head.Statement.{statement}
 use Rattle.control.proofs.single.record_at_head.Tie as tie
 
 module _ (p : List ℕ) (v : Store) {e : ℕ} (is : e ≡ event v (v .head)) where
-  record-broken : {w : ℕ} → events p ≤ e → w ≡ queueAt (memoryWords p) (v .pairs) + 2 * v .head → Checked.Refused (Refusal.Control w) ≡ recordSound p v
+  record-broken : {w : ℕ} → events p ≤ e → w ≡ queueAt (memoryWords p) (v .logPairs) + 2 * v .head → Checked.Refused (Refusal.Control w) ≡ recordSound p v
   unfolding recordSound must
   record-broken h k = simp (sym is, le-ltb _ _ h, k)
 

@@ -18,7 +18,7 @@ look-requires c κs = search needs
 returns : tie.Need-returns
 returns c =
     answered (look-passed (c .before .before .before .before .before .before .args .program .now) (c .before .before .before .before .before .before .args .store .now) (c .before .before .before .before .before .before .args .device))
-    (c .look .ensures .0 ∙ ap (λ (x : Core). look (c .before .before .before .before .before .before .args .program .now) (c .before .before .before .before .before .before .args .store .now) (device x (c .before .before .before .before .before .before .args .device .regs))) (c .before .core-of .ensures))
+    (c .look .ensures .0 ∙ ap (λ (x : Core). look (c .before .before .before .before .before .before .args .program .now) (c .before .before .before .before .before .before .args .store .now) (device x (c .before .before .before .before .before .before .args .device .registers))) (c .before .core-of .ensures))
 
 pub look-whole-spec : {M : Type 1} → statement M
 look-whole-spec = tie.close (tie.spec core-of-requires look-requires returns)

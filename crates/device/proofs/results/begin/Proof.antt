@@ -1,5 +1,5 @@
 -- `results::begin` meets its contract: by what `at_place` ensures. Assumes nothing.
-use Rattle.model.specs.Device.{begun, moved}
+use Rattle.model.specs.Device.{begun, withPlace}
 use Rattle.model.specs.Store.{settled, storedWord}
 use borrow.Author.Needs.{needs}
 use Rattle.device.proofs.results.begin.Statement.{statement}
@@ -9,7 +9,7 @@ at-place-requires : tie.Need-at-place-requires
 at-place-requires c κs = search needs
 
 returns : tie.Need-returns
-unfolding begun moved settled storedWord
+unfolding begun withPlace settled storedWord
 returns c = λ s. simp (c .at-place .ensures)
 
 pub begin-spec : {M : Type 1} → statement M

@@ -1,4 +1,4 @@
--- `results::stored` meets its contract: by what `moved` ensures. Assumes nothing.
+-- `results::stored` meets its contract: by what `withPlace` ensures. Assumes nothing.
 use borrow.Author.Needs.{needs}
 use Rattle.device.proofs.results.stored.Statement.{statement}
 use Rattle.device.proofs.results.stored.Tie as tie

@@ -1,4 +1,4 @@
--- `results::worked` meets its contract: by what `moved` ensures. Assumes nothing.
+-- `results::worked` meets its contract: by what `withPlace` ensures. Assumes nothing.
 use borrow.Author.Needs.{needs}
 use Rattle.device.proofs.results.worked.Statement.{statement}
 use Rattle.device.proofs.results.worked.Tie as tie

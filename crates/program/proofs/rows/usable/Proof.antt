@@ -1,7 +1,7 @@
 -- `rows::usable` meets its contract: the row's limits, then where its body lies. Assumes nothing.
 use native.Mathlib.Omega.{arith}
 use borrow.Author.Needs.{needs}
-use Rattle.model.specs.Check.{rowUsed}
+use Rattle.model.specs.Check.{rowUsable}
 use Rattle.model.specs.Test.{must, _then_}
 use Rattle.model.proofs.ProgramLaws.{used-passed}
 use Rattle.model.proofs.TestLaws.{tests, answered, then-stop}
@@ -18,7 +18,7 @@ enum-told-2 : tie.Need-enum-told-2
 enum-told-2 c = search needs
 
 returns : tie.Need-returns
-unfolding rowUsed
+unfolding rowUsable
 returns c =
     let pre = c .before .before .before .before .pre in
     let limits = c .before .before .limits in
@@ -31,7 +31,7 @@ first-body-requires : tie.Need-first-body-requires
 first-body-requires c κs = search needs
 
 returns-2 : tie.Need-returns-2
-unfolding rowUsed must _then_
+unfolding rowUsable must _then_
 returns-2 c =
     let pre = c .before .before .before .before .before .before .before .pre in
     let limits = c .before .before .before .before .before .limits in
@@ -63,7 +63,7 @@ cast-if2-3 : tie.Need-cast-if2-3
 cast-if2-3 c = omega (arith, c .shared-slice-known2 .given 5)
 
 returns-3 : tie.Need-returns-3
-unfolding rowUsed must _then_
+unfolding rowUsable must _then_
 returns-3 c =
     let pre = c .before .before .before .before .before .before .before .before .before .before .pre in
     let limits = c .before .before .before .before .before .before .before .before .limits in
@@ -75,7 +75,7 @@ returns-3 c =
     (rw (← limits .ensures, enum-told .given .1, ← first-body .ensures, ← instructions .ensures, ← start .ensures) (search tests))
 
 returns-4 : tie.Need-returns-4
-unfolding rowUsed must _then_
+unfolding rowUsable must _then_
 returns-4 c =
     let pre = c .before .before .before .before .before .before .before .before .before .before .pre in
     let limits = c .before .before .before .before .before .before .before .before .limits in

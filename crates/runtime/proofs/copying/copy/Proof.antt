@@ -6,7 +6,7 @@ use native.Mathlib.Omega.{arith}
 use denote.Ref.{now}
 use borrow.Author.Tests.{lt-ltb, ltb-true}
 use Rattle.model.proofs.TestLaws.{must-passed}
-use Rattle.model.specs.Device.{pairSound, copyStep, judged, moved}
+use Rattle.model.specs.Device.{pairSound, copyStep, judged, withPlace}
 use Rattle.model.specs.Program.{memoryWords}
 use Rattle.model.specs.Store.{settled, storedWord, view, address}
 use Rattle.model.specs.Test.{pick}
@@ -56,7 +56,7 @@ same-length-2 : tie.Need-same-length-2
 same-length-2 c = search needs
 
 returns-2 : tie.Need-returns-2
-unfolding copyStep pick judged moved
+unfolding copyStep pick judged withPlace
 returns-2 c = λ r. simp (c .stored .ensures, c .before .before .before .write .ensures .store, c .before .before .before .write .ensures .stored, c .before .before .before .before .before .value .ensures, c .before .before .before .before .before .before .before .address .ensures, lt-ltb _ _ (c .before .before .before .before .before .before .before .before .before .before .before .before .before .before .before .pre .1 .1 .0), sym (c .before .before .before .before .before .before .before .before .before .before .before .pair-address .ensures) ∙ c .before .before .before .before .before .before .before .before .before .enum-told .given .1)
 
 pub copy-spec : {M : Type 1} → statement M

@@ -4,7 +4,7 @@ use native.Mathlib.Omega.{arith}
 use denote.Ref.{now}
 use Rattle.device.specs.Result.{device, ofOutcome}
 use Rattle.model.proofs.DeviceLaws.{task-last, event-last}
-use Rattle.model.specs.Device.{Out}
+use Rattle.model.specs.Device.{Outcome}
 use Rattle.model.specs.Store.{view}
 use Rattle.runtime.proofs.Cases.{copies-fit, task-left, event-left}
 use borrow.Author.Needs.{needs}
@@ -41,7 +41,7 @@ same-length-2 c = search needs
 returns-2 : tie.Need-returns-2
 returns-2 c =
     let s = now (c .before .before .before .before .before .before .before .before .before .before .before .args .store) in
-    c .before .before .task-last .ensures ∙ ap (λ (o : Out). ofOutcome s o) (sym (task-last (now (c .before .before .before .before .before .before .before .before .before .before .before .args .program)) (view s) (device (c .before .before .before .before .before .before .before .before .before .before .before .args .core) (now (c .before .before .before .before .before .before .before .before .before .before .before .args .registers))) (c .before .before .before .before .before .before .before .before .before .before .before .args .made) (c .before .before .before .before .before .before .before .if1 .left) (c .before .before .before .before .before .if2 .taken)))
+    c .before .before .task-last .ensures ∙ ap (λ (o : Outcome). ofOutcome s o) (sym (task-last (now (c .before .before .before .before .before .before .before .before .before .before .before .args .program)) (view s) (device (c .before .before .before .before .before .before .before .before .before .before .before .args .core) (now (c .before .before .before .before .before .before .before .before .before .before .before .args .registers))) (c .before .before .before .before .before .before .before .before .before .before .before .args .made) (c .before .before .before .before .before .before .before .if1 .left) (c .before .before .before .before .before .if2 .taken)))
 
 event-last-requires : tie.Need-event-last-requires
 event-last-requires c κs =
@@ -56,7 +56,7 @@ same-length-3 c = search needs
 returns-3 : tie.Need-returns-3
 returns-3 c =
     let s = now (c .before .before .before .before .before .before .before .before .before .before .before .args .store) in
-    c .before .before .event-last .ensures ∙ ap (λ (o : Out). ofOutcome s o) (sym (event-last (now (c .before .before .before .before .before .before .before .before .before .before .before .args .program)) (view s) (device (c .before .before .before .before .before .before .before .before .before .before .before .args .core) (now (c .before .before .before .before .before .before .before .before .before .before .before .args .registers))) (c .before .before .before .before .before .before .before .before .before .before .before .args .made) (c .before .before .before .before .before .before .before .if1 .left) (c .before .before .before .before .before .if2 .left)))
+    c .before .before .event-last .ensures ∙ ap (λ (o : Outcome). ofOutcome s o) (sym (event-last (now (c .before .before .before .before .before .before .before .before .before .before .before .args .program)) (view s) (device (c .before .before .before .before .before .before .before .before .before .before .before .args .core) (now (c .before .before .before .before .before .before .before .before .before .before .before .args .registers))) (c .before .before .before .before .before .before .before .before .before .before .before .args .made) (c .before .before .before .before .before .before .before .if1 .left) (c .before .before .before .before .before .if2 .left)))
 
 pub copy-step-spec : {M : Type 1} → statement M
 copy-step-spec =

@@ -1,7 +1,7 @@
 -- `copying::event_last` meets its contract, by the number of the stores made. Assumes nothing.
 use mathlib.Core.Path.{_≡_}
 use native.Mathlib.Omega.{arith}
-use Rattle.model.specs.Device.{fresh, storing, eventLastStores, moved}
+use Rattle.model.specs.Device.{fresh, storing, eventLastStores, withPlace}
 use Rattle.model.specs.Store.{settled, storedWord, index}
 use Rattle.model.specs.Test.{pick}
 use borrow.Author.Needs.{needs}
@@ -24,7 +24,7 @@ same-length : tie.Need-same-length
 same-length c = search needs
 
 returns : tie.Need-returns
-unfolding storing eventLastStores moved pick settled storedWord index fresh
+unfolding storing eventLastStores withPlace pick settled storedWord index fresh
 returns c = simp (c .before .before .if1 .taken, c .stored .ensures)
 
 slice-write-store-2 : tie.Need-slice-write-store-2
@@ -37,7 +37,7 @@ same-length-2 : tie.Need-same-length-2
 same-length-2 c = search needs
 
 returns-2 : tie.Need-returns-2
-unfolding storing eventLastStores moved pick settled storedWord index fresh
+unfolding storing eventLastStores withPlace pick settled storedWord index fresh
 returns-2 c = let e : c .before .before .before .before .args .last ≡ 1 = omega arith in rw (e, c .turned-on .ensures .0, c .turned-on .ensures .1)
 
 pub event-last-spec : {M : Type 1} → statement M

@@ -1,7 +1,7 @@
 -- `copying::task_last` meets its contract, by the number of the stores made. Assumes nothing.
 use mathlib.Core.Path.{_≡_}
 use native.Mathlib.Omega.{arith}
-use Rattle.model.specs.Device.{fresh, storing, taskLastStores, moved}
+use Rattle.model.specs.Device.{fresh, storing, taskLastStores, withPlace}
 use Rattle.model.specs.Store.{settled, storedWord, index}
 use Rattle.model.specs.Test.{pick}
 use borrow.Author.Needs.{needs}
@@ -24,7 +24,7 @@ same-length : tie.Need-same-length
 same-length c = search needs
 
 returns : tie.Need-returns
-unfolding storing taskLastStores moved pick settled storedWord index fresh
+unfolding storing taskLastStores withPlace pick settled storedWord index fresh
 returns c = simp (c .before .before .if1 .taken, c .stored .ensures)
 
 slice-read-store-2 : tie.Need-slice-read-store-2
@@ -43,7 +43,7 @@ same-length-2 : tie.Need-same-length-2
 same-length-2 c = search needs
 
 returns-2 : tie.Need-returns-2
-unfolding storing taskLastStores moved pick settled storedWord index fresh
+unfolding storing taskLastStores withPlace pick settled storedWord index fresh
 returns-2 c = rw (c .before .before .if2 .taken, c .stored2 .ensures)
 
 slice-write-store-3 : tie.Need-slice-write-store-3
@@ -56,7 +56,7 @@ same-length-3 : tie.Need-same-length-3
 same-length-3 c = search needs
 
 returns-3 : tie.Need-returns-3
-unfolding storing taskLastStores moved pick settled storedWord index fresh
+unfolding storing taskLastStores withPlace pick settled storedWord index fresh
 returns-3 c = let e : c .before .before .before .before .before .args .last ≡ 2 = omega arith in rw (e, c .turned-on .ensures .0, c .turned-on .ensures .1)
 
 pub task-last-spec : {M : Type 1} → statement M

@@ -3,7 +3,7 @@ use mathlib.Core.Path.{sym, ap, _∙_}
 use denote.Ref.{now}
 use borrow.Author.Tests.{eq-eqb}
 use Rattle.model.proofs.DeviceLaws.{choose-open, choose-empty}
-use Rattle.model.specs.Device.{Out, chooseStep, judged}
+use Rattle.model.specs.Device.{Outcome, chooseStep, judged}
 use Rattle.model.specs.Store.{settled, storedWord, view}
 use Rattle.model.specs.Test.{pick, _and_}
 use Rattle.device.specs.Result.{device, ofOutcome}
@@ -22,7 +22,7 @@ begin-requires c κs = search needs
 
 returns : tie.Need-returns
 unfolding settled storedWord
-returns c = let s = now (c .before .before .before .before .before .before .before .args .store) in c .begin .ensures s ∙ ap (λ (o : Out). ofOutcome s o) (sym (choose-open (now (c .before .before .before .before .before .before .before .args .program)) (view s) (device (c .before .before .before .before .before .before .before .args .core) (now (c .before .before .before .before .before .before .before .args .registers))) (c .before .before .before .if1 .taken)))
+returns c = let s = now (c .before .before .before .before .before .before .before .args .store) in c .begin .ensures s ∙ ap (λ (o : Outcome). ofOutcome s o) (sym (choose-open (now (c .before .before .before .before .before .before .before .args .program)) (view s) (device (c .before .before .before .before .before .before .before .args .core) (now (c .before .before .before .before .before .before .before .args .registers))) (c .before .before .before .if1 .taken)))
 
 is-empty-requires : tie.Need-is-empty-requires
 is-empty-requires c κs = search needs
@@ -38,7 +38,7 @@ unfolding settled storedWord
 returns-2 c =
     let s = now (c .before .before .before .before .before .before .before .before .before .args .store) in
     c .begin2 .ensures s
-    ∙ ap (λ (o : Out). ofOutcome s o)
+    ∙ ap (λ (o : Outcome). ofOutcome s o)
     (sym (choose-empty (now (c .before .before .before .before .before .before .before .before .before .args .program)) (view s) (device (c .before .before .before .before .before .before .before .before .before .args .core) (now (c .before .before .before .before .before .before .before .before .before .args .registers))) (c .before .before .before .before .before .if1 .left) (sym (c .before .before .before .before .is-empty .ensures) ∙ c .before .before .before .if2 .taken)))
 
 record-at-head-requires : tie.Need-record-at-head-requires

@@ -3,7 +3,7 @@ use mathlib.Core.Path.{sym, ap, _∙_}
 use denote.Ref.{now}
 use Rattle.device.specs.Result.{device, ofOutcome}
 use Rattle.model.proofs.DeviceLaws.{free-chooses, free-copies}
-use Rattle.model.specs.Device.{Out}
+use Rattle.model.specs.Device.{Outcome}
 use Rattle.model.specs.Store.{view}
 use borrow.Author.Needs.{needs}
 use Rattle.runtime.proofs.steps.free_step.Statement.{statement}
@@ -23,7 +23,7 @@ returns c =
     let s = now (c .before .before .before .before .before .before .before .args .store) in
     let p = now (c .before .before .before .before .before .before .before .args .program) in
     let d = device (c .before .before .before .before .before .before .before .args .core) (now (c .before .before .before .before .before .before .before .args .registers)) in
-    c .choose-step .ensures ∙ ap (λ (o : Out). ofOutcome s o) (sym (free-chooses p (view s) d (c .before .before .before .before .before .before .before .args .made) (c .before .before .before .if1 .taken)))
+    c .choose-step .ensures ∙ ap (λ (o : Outcome). ofOutcome s o) (sym (free-chooses p (view s) d (c .before .before .before .before .before .before .before .args .made) (c .before .before .before .if1 .taken)))
 
 copy-step-requires : tie.Need-copy-step-requires
 copy-step-requires c κs = (c .before .before .before .before .before .before .pre .0, (c .before .before .before .before .before .before .pre .1, c .before .before .if1 .left))
@@ -36,7 +36,7 @@ returns-2 c =
     let s = now (c .before .before .before .before .before .before .before .before .before .args .store) in
     let p = now (c .before .before .before .before .before .before .before .before .before .args .program) in
     let d = device (c .before .before .before .before .before .before .before .before .before .args .core) (now (c .before .before .before .before .before .before .before .before .before .args .registers)) in
-    c .before .before .copy-step .ensures ∙ ap (λ (o : Out). ofOutcome s o) (sym (free-copies p (view s) d (c .before .before .before .before .before .before .before .before .before .args .made) (c .before .before .before .before .before .if1 .left)))
+    c .before .before .copy-step .ensures ∙ ap (λ (o : Outcome). ofOutcome s o) (sym (free-copies p (view s) d (c .before .before .before .before .before .before .before .before .before .args .made) (c .before .before .before .before .before .if1 .left)))
 
 pub free-step-spec : {M : Type 1} → statement M
 free-step-spec =

@@ -5,7 +5,7 @@ use native.Mathlib.Omega.{arith}
 use borrow.Author.Needs.{needs}
 use Rattle.device.specs.Result.{device}
 use Rattle.model.specs.Device.{out, storing, recordStores, withHandler, handlerStep}
-use Rattle.model.specs.Store.{Store, view, Tail, Event, Datum, to, after, carried, settled, storedWord, index}
+use Rattle.model.specs.Store.{Store, view, Tail, Event, Datum, to, slotAfter, carried, settled, storedWord, index}
 use Rattle.model.specs.Test.{pick}
 use Rattle.model.specs.declared.Answer.{Answer}
 use Rattle.model.specs.declared.Device.{Device}
@@ -22,7 +22,7 @@ module _ (v : Store) (d : Device) (c e x : ℕ) where
   unfolding handlerStep storing recordStores carried pick
   datum-store h = ap (λ (n : ℕ). handlerStep v d n e x) h
 
-  tail-store : c ≡ 2 → handlerStep v d c e x ≡ out (to Tail (after (v .records) (v .tail))) (withHandler d Resting) Answer.Accepted
+  tail-store : c ≡ 2 → handlerStep v d c e x ≡ out (to Tail (slotAfter (v .queueRecords) (v .tail))) (withHandler d Resting) Answer.Accepted
   unfolding handlerStep storing recordStores carried pick
   tail-store h = ap (λ (n : ℕ). handlerStep v d n e x) h
 

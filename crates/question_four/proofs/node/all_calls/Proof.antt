@@ -3,8 +3,8 @@ use Prim.Native.Nat.{_-_, _≤_}
 use lib.ListN.{length}
 use mathlib.Core.Path.{_≡_}
 use borrow.Author.Needs.{needs}
-use Rattle.question_four.proofs.node.calls.Statement.{statement}
-use Rattle.question_four.proofs.node.calls.Tie as tie
+use Rattle.question_four.proofs.node.all_calls.Statement.{statement}
+use Rattle.question_four.proofs.node.all_calls.Tie as tie
 
 abbrev Inv-loop : tie.InvT-loop
 Inv-loop program store₀ calls mistake node₀ i₀ store node i = (i ≤ length calls) × (length store ≡ length store₀)
@@ -36,8 +36,8 @@ same-length c = search needs
 returns : tie.Need-returns Inv-loop μ-loop
 returns c = tt
 
-pub calls-spec : {M : Type 1} → statement M
-calls-spec =
+pub all-calls-spec : {M : Type 1} → statement M
+all-calls-spec =
     tie.close
     (tie.spec
     Inv-loop
