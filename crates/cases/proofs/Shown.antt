@@ -3,14 +3,12 @@ use Prim.Native.Nat.{ℕ}
 use mathlib.Core.List.{List, [], _∷_}
 use mathlib.Core.Path.{_≡_, refl}
 use lib.ListN.{replicate}
+use Rattle.model.proofs.Definitions.{definitions}
 use Rattle.model.proofs.TestLaws.{impossible}
-use Rattle.model.specs.Test.{pick, _and_, _or_, must, _then_, each}
-use Rattle.model.specs.Program.{programMark, decode, bounds, mayBeLast, signed, unsigned, shifted, less, effect, effectAt, newOpen, bodyNumber}
-use Rattle.model.specs.Check.{contentsRule, rowsInside, limits, due, rowRule, rows, rowUsable, fieldsFit, lastFits, instructionRule, bodyRule, check}
-use Rattle.model.specs.Store.{firstWaiting, storeMark, storeContents, index, settled, findFrom, find, slotAfter, formatted, sizesRule, storeRule, format, formatCheck, formatStore}
-use Rattle.model.specs.Control.{obey, obeyAll, upTo, phaseRule, taskRule, openRule, openServing, countRule, pendingTaskRule, headRule, tailRule, pendingHeadRule, pendingOpenRule, addressRule, between, recordRule, controlRules, rules, earlyRules}
-use Rattle.model.specs.Device.{off, fresh, withPlace, handled, judged, storing, taskStores, eventStores, taskLastStores, eventLastStores, lastStores, mayRun, endStores, placeSound, handlerSound, isFresh, zeros, deviceSound, look, bootCheck, boot, cut, atRest, postCheck, post, handlerStep, pairSound, copyStep, begun, recordSound, chooseStep, headSound, namedRow, openSound, headIs, ends, saves, placeFits, bodySound, shown, saveStep, act, saveRest, placeStep, nextStep, step}
-use Rattle.model.specs.Calls.{unlessRefused, counted, moreBy, oneIf, isCommit, acceptedEvents, isStore, runFrom, run}
+use Rattle.model.specs.Test.{_or_}
+use Rattle.model.specs.Store.{formatted, format}
+use Rattle.model.specs.Device.{off, boot, cut, post}
+use Rattle.model.specs.Calls.{run}
 use Rattle.model.specs.Starred.{counting}
 use Rattle.model.specs.declared.Answer.{Answer}
 use Rattle.model.specs.declared.Device.{Device}
@@ -45,7 +43,7 @@ pub record Cases : Type 0 where
   pub further : furtherPost counting (replicate 24 0) 3 ≡ Answer.Refused Refusal.QueueFull
 
 pub cases : Cases
-unfolding storeAfter cutAfter furtherPost firstWaiting pick _and_ _or_ must _then_ each programMark decode bounds mayBeLast signed unsigned shifted less effect effectAt newOpen bodyNumber contentsRule rowsInside limits due rowRule rows rowUsable fieldsFit lastFits instructionRule bodyRule check storeMark storeContents index settled findFrom find slotAfter formatted sizesRule storeRule format formatCheck formatStore obey obeyAll upTo phaseRule taskRule openRule openServing countRule pendingTaskRule headRule tailRule pendingHeadRule pendingOpenRule addressRule between recordRule controlRules rules earlyRules fresh withPlace handled judged storing taskStores eventStores taskLastStores eventLastStores lastStores mayRun endStores placeSound handlerSound isFresh zeros deviceSound look bootCheck boot cut atRest postCheck post handlerStep pairSound copyStep begun recordSound chooseStep headSound namedRow openSound headIs ends saves placeFits bodySound shown saveStep act saveRest placeStep nextStep step unlessRefused counted moreBy oneIf isCommit acceptedEvents isStore runFrom run counting
+unfolding storeAfter cutAfter furtherPost counting definitions
 cases = record { nine = refl; ten = refl; ten-but-one = refl; further = refl }
 
 pub queue-full-is-not-7 : {w : ℕ} → Answer.Refused Refusal.QueueFull ≡ Answer.Refused (Refusal.Control w) → ⊥

@@ -186,7 +186,7 @@ fn whole(core: Core, registers: [u16; 8]) -> Device
     let handler = core.handler;
     Device {
         on: core.on,
-        registers: registers,
+        registers,
         place,
         count: core.count,
         handler,
