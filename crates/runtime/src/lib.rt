@@ -78,24 +78,7 @@ fn sound_after(answer: Answer) -> bool
     }
 }
 
-// The early checks of a step, unless they are known to pass.
-fn look_unless(
-    program: &[u16],
-    store: &[u16],
-    registers: &[u16; 8],
-    core: Core,
-    known: bool,
-) -> Checked
-    requires { ⌜ (known ≡ true → look (now program) (now store) (device core (now registers)) ≡ Checked.Accepted) ⌝ }
-    ensures { λ found. ⌜ found ≡ look (now (program .entry)) (now (store .entry)) (device core (now (registers .entry))) ⌝ }
-{
-    if known {
-        return Checked::Accepted;
-    }
-    look::look(program, store, registers, core)
-}
-
-// A step on lent registers.
+// A step on lent registers. Its early checks aren't made where they are known to pass.
 fn step_known(
     program: &[u16],
     store: &mut [u16],
@@ -108,11 +91,13 @@ fn step_known(
         ≡ ofOutcome (now (store .entry))
         (step (now (program .entry)) (now (store .entry)) (device core (now (registers .entry)))) ⌝ }
 {
-    let found = look_unless(program, store, registers, core, known);
-    match found {
-        Checked::Accepted => steps::next_step(program, store, registers, core),
-        Checked::Refused(why) => results::refused(core, why),
+    if !known {
+        let found = look::look(program, store, registers, core);
+        if let Checked::Refused(why) = found {
+            return results::refused(core, why);
+        }
     }
+    steps::next_step(program, store, registers, core)
 }
 
 // What steps leave that a refusal ends.

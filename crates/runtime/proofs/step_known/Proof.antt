@@ -1,24 +1,25 @@
--- `step_known` meets its contract: the early checks, then the step. Assumes nothing.
-use mathlib.Core.Path.{sym, ap, _∙_}
+-- `step_known` meets its contract: the early checks, made or known to pass, then the step. Assumes nothing.
+use mathlib.Core.Bool.{Bool, true, false, not}
+use mathlib.Core.Logic.{⊎-elim}
+use mathlib.Core.Path.{_≡_, refl, sym, ap, _∙_}
 use denote.Ref.{now}
-use Rattle.model.proofs.Passed.{look-passed}
 use Rattle.device.specs.Result.{device, ofCore, ofOutcome}
 use Rattle.device.specs.declared.CoreResult.{CoreResult}
 use Rattle.model.proofs.DeviceLaws.{step-goes, step-refused}
+use Rattle.model.proofs.Passed.{look-passed}
+use Rattle.model.proofs.TestLaws.{clash}
 use Rattle.model.specs.Device.{Outcome}
 use Rattle.model.specs.Store.{settled, storedWord}
 use borrow.Author.Needs.{needs}
 use Rattle.runtime.proofs.step_known.Statement.{statement}
 use Rattle.runtime.proofs.step_known.Tie as tie
 
-look-unless-requires : tie.Need-look-unless-requires
-look-unless-requires c κs = c .before .before .before .before .pre
+known-is : (b : Bool) → not b ≡ false → b ≡ true
+known-is true e = refl
+known-is false e = clash refl e
 
-enum-told : tie.Need-enum-told
-enum-told c = search needs
-
-next-step-requires : tie.Need-next-step-requires
-next-step-requires c κs = look-passed _ _ _ (sym (c .before .before .before .before .look-unless .ensures) ∙ c .before .before .enum-told .given .1)
+look-requires : tie.Need-look-requires
+look-requires c κs = search needs
 
 enum-known-found : tie.Need-enum-known-found
 enum-known-found c = search needs
@@ -30,33 +31,39 @@ same-length : tie.Need-same-length
 same-length c = search needs
 
 returns : tie.Need-returns
+unfolding settled storedWord
 returns c =
-    let s = now (c .before .before .before .before .before .before .before .before .before .before .before .before .args .store) in
-    let p = now (c .before .before .before .before .before .before .before .before .before .before .before .before .args .program) in
-    let d = device (c .before .before .before .before .before .before .before .before .before .before .before .before .args .core) (now (c .before .before .before .before .before .before .before .before .before .before .before .before .args .registers)) in
-    c .before .before .next-step .ensures ∙ ap (λ (o : Outcome). ofOutcome s o) (sym (step-goes p s d (sym (c .before .before .before .before .before .before .before .look-unless .ensures) ∙ c .before .before .before .before .before .enum-told .given .1)))
+    let s = now (c .before .before .before .before .before .before .before .before .before .before .args .store) in
+    let p = now (c .before .before .before .before .before .before .before .before .before .before .args .program) in
+    let d = device (c .before .before .before .before .before .before .before .before .before .before .args .core) (now (c .before .before .before .before .before .before .before .before .before .before .args .registers)) in
+    ap (λ (x : CoreResult). ofCore x (now (c .before .before .before .before .before .before .before .before .before .before .args .registers)) s) (c .refused .ensures) ∙ ap (λ (o : Outcome). ofOutcome s o) (sym (step-refused p s d (sym (c .before .before .before .before .look .ensures .0) ∙ c .before .before .found .given .1)))
+
+enum-told : tie.Need-enum-told
+enum-told c = search needs
+
+next-step-requires : tie.Need-next-step-requires
+next-step-requires c κs = look-passed _ _ _ (⊎-elim (λ h. sym (h .3 .ensures .0) ∙ h .5 .given .1) (λ h. c .before .before .before .before .before .pre (known-is _ (h .left))) (c .before .before .if1 .came))
 
 same-length-2 : tie.Need-same-length-2
 same-length-2 c = search needs
 
 returns-2 : tie.Need-returns-2
-unfolding settled storedWord
 returns-2 c =
-    let s = now (c .before .before .before .before .before .before .before .before .before .args .store) in
-    let p = now (c .before .before .before .before .before .before .before .before .before .args .program) in
-    let d = device (c .before .before .before .before .before .before .before .before .before .args .core) (now (c .before .before .before .before .before .before .before .before .before .args .registers)) in
-    ap (λ (x : CoreResult). ofCore x (now (c .before .before .before .before .before .before .before .before .before .args .registers)) s) (c .refused .ensures) ∙ ap (λ (o : Outcome). ofOutcome s o) (sym (step-refused p s d (sym (c .before .before .before .before .look-unless .ensures) ∙ c .before .before .found .given .1)))
+    let s = now (c .before .before .before .before .before .before .before .before .args .store) in
+    let p = now (c .before .before .before .before .before .before .before .before .args .program) in
+    let d = device (c .before .before .before .before .before .before .before .before .args .core) (now (c .before .before .before .before .before .before .before .before .args .registers)) in
+    c .before .before .next-step .ensures ∙ ap (λ (o : Outcome). ofOutcome s o) (sym (step-goes p s d (⊎-elim (λ h. sym (h .3 .ensures .0) ∙ h .5 .given .1) (λ h. c .before .before .before .before .before .before .before .before .pre (known-is _ (h .left))) (c .before .before .before .before .before .if1 .came))))
 
 pub step-known-spec : {M : Type 1} → statement M
 step-known-spec =
     tie.close
     (tie.spec
-    look-unless-requires
-    enum-told
-    next-step-requires
+    look-requires
     enum-known-found
     refused-requires
     same-length
     returns
+    enum-told
+    next-step-requires
     same-length-2
     returns-2)
