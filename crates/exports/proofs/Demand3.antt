@@ -8,7 +8,7 @@ use mathlib.Core.Path.{_≡_, refl, sym, ap, _∙_, subst}
 use native.Mathlib.Omega.{arith}
 use Rattle.model.proofs.TestLaws.{impossible}
 use Rattle.exports.specs.Demand3.{Exchange, single, run-of, Makes, MakesAll, callsOf, allCalls, Answered, AllAnswered, RecoversTo, ExportsObserved, atFirst, Demand3OfExports}
-use Rattle.exports.specs.Exported.{Held, wordsOf, PerformsInWords, RunPerformsInWords, totalsOf, totalsWords}
+use Rattle.exports.specs.Exported.{HostState, wordsOf, PerformsInWords, RunPerformsInWords, totalsOf, totalsWords}
 use Rattle.model.proofs.CallLaws.{after-append, totals-append, boot-counts-nothing, cut-counts-nothing, post-counts-nothing, run-is-steps, totals-are-counts}
 use Rattle.model.proofs.Demand3.{demand3}
 use Rattle.model.proofs.Observed.{observed}
@@ -45,7 +45,7 @@ no-control c w a h e = by-call c (subst (Expected c) e h)
 
 -- ---- what a host holds after the calls cs on the fresh store s is what the definitions have
 
-record At (p s : List ℕ) (cs : List Call) (h : Held) : Type 0 where
+record At (p s : List ℕ) (cs : List Call) (h : HostState) : Type 0 where
   store : h .store ≡ afterCalls p s off cs .store
   device : h .device ≡ deviceWords (afterCalls p s off cs .device)
   totals : h .totals ≡ totalsWords (totalsAfter p s off cs noTotals)
@@ -53,7 +53,7 @@ record At (p s : List ℕ) (cs : List Call) (h : Held) : Type 0 where
   device-words : TypedDevice (afterCalls p s off cs .device)
 
 -- and after one more
-record Did (p s : List ℕ) (cs : List Call) (c : Call) (a : List ℕ) (g : Held) : Type 0 where
+record Did (p s : List ℕ) (cs : List Call) (c : Call) (a : List ℕ) (g : HostState) : Type 0 where
   answered : Answered p s cs (single c a)
   store : g .store ≡ settled (afterCalls p s off cs .store) (call p (afterCalls p s off cs .store) (afterCalls p s off cs .device) c .write)
   device : g .device ≡ deviceWords (call p (afterCalls p s off cs .store) (afterCalls p s off cs .device) c .device)
@@ -79,7 +79,7 @@ module _ (p : List ℕ) (ps : TypedWords p) (l q : ℕ) (before : List ℕ) (e :
   abbrev s : List ℕ
   s = format p l q before
 
-  module _ (cs : List Call) (h : Held) (at : At p s cs h) where
+  module _ (cs : List Call) (h : HostState) (at : At p s cs h) where
     abbrev S : List ℕ
     S = afterCalls p s off cs .store
 
@@ -97,7 +97,7 @@ module _ (p : List ℕ) (ps : TypedWords p) (l q : ℕ) (before : List ℕ) (e :
 
     -- ---- a call of its own
 
-    did : (c : Call) (a : List ℕ) (g : Held) (z : List ℕ) → PerformsInWords c p (h .store) (call p (h .store) D c) a (g .device) z → g .store ≡ z
+    did : (c : Call) (a : List ℕ) (g : HostState) (z : List ℕ) → PerformsInWords c p (h .store) (call p (h .store) D c) a (g .device) z → g .store ≡ z
         → g .totals ≡ totalsWords (counted T (call p S D c)) → Did p s cs c a g
     did c a g z told stays totals =
         let (r, performs, said, device) =
@@ -112,10 +112,10 @@ module _ (p : List ℕ) (ps : TypedWords p) (l q : ℕ) (before : List ℕ) (e :
           totals = totals;
         }
 
-    unread : (g : Held) (o : Outcome) → g .totals ≡ h .totals → counted T o ≡ T → g .totals ≡ totalsWords (counted T o)
+    unread : (g : HostState) (o : Outcome) → g .totals ≡ h .totals → counted T o ≡ T → g .totals ≡ totalsWords (counted T o)
     unread g o stays same = stays ∙ at .totals ∙ ap totalsWords (sym same)
 
-    did-single : (c : Call) (a : List ℕ) (g : Held) → Makes p h (single c a) g → Did p s cs c a g
+    did-single : (c : Call) (a : List ℕ) (g : HostState) → Makes p h (single c a) g → Did p s cs c a g
     unfolding call cut settled
     did-single Boot a g (b, stays, totals) =
         did Boot a g (h .store) (b .state D read) stays (unread g (boot p S D) totals (boot-counts-nothing p S D T))
@@ -130,13 +130,13 @@ module _ (p : List ℕ) (ps : TypedWords p) (l q : ℕ) (before : List ℕ) (e :
     did-single (Post n v) a g (b, stays, totals, _) =
         did (Post n v) a g (h .store) (b .state D read) stays (unread g (post p S D n v) totals (post-counts-nothing p S D n v T))
 
-    single-words : (c : Call) (a : List ℕ) (g : Held) → Makes p h (single c a) g → TypedCall c
+    single-words : (c : Call) (a : List ℕ) (g : HostState) → Makes p h (single c a) g → TypedCall c
     single-words Boot a g m = tt
     single-words Step a g m = tt
     single-words Cut a g m = tt
     single-words (Post n v) a g (b, stays, totals, ws) = ws
 
-    at-single : (c : Call) (a : List ℕ) (g : Held) → TypedCall c → Did p s cs c a g → At p s (cs ++ (c ∷ [])) g
+    at-single : (c : Call) (a : List ℕ) (g : HostState) → TypedCall c → Did p s cs c a g → At p s (cs ++ (c ∷ [])) g
     unfolding afterCalls totalsAfter
     at-single c a g ws m =
         let w = words-stay-words p S D c ps (at .words) (at .device-words) ws in
@@ -171,7 +171,7 @@ module _ (p : List ℕ) (ps : TypedWords p) (l q : ℕ) (before : List ℕ) (e :
           let met = demand3 p l q before e (cs ++ steps (ran .steps)) .refusals Step in
           no-control Step w _ (subst (λ (x : Now). Expected Step (call p (x .store) (x .device) Step .answer)) ran-now met) answered
 
-      did-run : (n : ℕ) (a : List ℕ) (g : Held) → RunPerformsInWords p ran n a g
+      did-run : (n : ℕ) (a : List ℕ) (g : HostState) → RunPerformsInWords p ran n a g
           → Answered p s cs (run-of b n a) × At p s (cs ++ steps n) g
       did-run n a g (r, performs, count, said, device, totals) =
           let count-is : n ≡ ran .steps = count ∙ performs .steps in
@@ -191,14 +191,14 @@ module _ (p : List ℕ) (ps : TypedWords p) (l q : ℕ) (before : List ℕ) (e :
             subst (λ (k : ℕ). At p s (cs ++ steps k) g) (sym count-is) left,
           )
 
-    run-read : (b n : ℕ) (a : List ℕ) (g : Held) → Makes p h (run-of b n a) g → RunPerformsInWords p (ran b) n a g
+    run-read : (b n : ℕ) (a : List ℕ) (g : HostState) → Makes p h (run-of b n a) g → RunPerformsInWords p (ran b) n a g
     run-read b n a g m =
         let read-store = subst (λ (u : List ℕ). RunPerformsInWords p (run p b u D (totalsOf (h .totals))) n a g) (at .store) (m .state D read) in
         subst (λ (t : Totals). RunPerformsInWords p (run p b S D t) n a g) (ap totalsOf (at .totals) ∙ totals-read T) read-store
 
     -- ---- an exported call
 
-    one : (x : Exchange) (g : Held) → Makes p h x g → Answered p s cs x × At p s (cs ++ callsOf x) g
+    one : (x : Exchange) (g : HostState) → Makes p h x g → Answered p s cs x × At p s (cs ++ callsOf x) g
     unfolding callsOf
     one (single c a) g m =
         let o = did-single c a g m in
@@ -207,16 +207,16 @@ module _ (p : List ℕ) (ps : TypedWords p) (l q : ℕ) (before : List ℕ) (e :
 
   -- ---- a list of them
 
-  each-one : (xs : List Exchange) (cs : List Call) (h g : Held) → At p s cs h → MakesAll p h xs g
+  each-one : (xs : List Exchange) (cs : List Call) (h g : HostState) → At p s cs h → MakesAll p h xs g
       → AllAnswered p s cs xs × At p s (cs ++ allCalls xs) g
   unfolding MakesAll AllAnswered allCalls
-  each-one [] cs h g at m = (tt, subst (λ (x : Held). At p s (cs ++ []) x) m (subst (λ (ds : List Call). At p s ds h) (sym (append-nil cs)) at))
+  each-one [] cs h g at m = (tt, subst (λ (x : HostState). At p s (cs ++ []) x) m (subst (λ (ds : List Call). At p s ds h) (sym (append-nil cs)) at))
   each-one (x ∷ xs) cs h g at (k, m, ms) =
       let (answered, next) = one cs h at x k m in
       let (rest, last) = each-one xs (cs ++ callsOf x) k g next ms in
       ((answered, rest), subst (λ (ds : List Call). At p s ds g) (append-assoc cs (callsOf x) (allCalls xs)) last)
 
-  module _ (bs : TypedWords before) (xs : List Exchange) (g : Held) (made : MakesAll p (atFirst s) xs g) where
+  module _ (bs : TypedWords before) (xs : List Exchange) (g : HostState) (made : MakesAll p (atFirst s) xs g) where
     start : At p s [] (atFirst s)
     unfolding afterCalls totalsAfter fresh deviceWords totalsWords flag placeWords handlerWords
     start =
@@ -234,7 +234,7 @@ module _ (p : List ℕ) (ps : TypedWords p) (l q : ℕ) (before : List ℕ) (e :
     abbrev calls : List Call
     calls = allCalls xs
 
-    recovers-to : (ys : List Exchange) (m : ℕ) (r : Held) → allCalls ys ≡ Cut ∷ Boot ∷ steps m → MakesAll p g ys r
+    recovers-to : (ys : List Exchange) (m : ℕ) (r : HostState) → allCalls ys ≡ Cut ∷ Boot ∷ steps m → MakesAll p g ys r
         → RecoversTo g (observed p l q before e calls .state) m r
     recovers-to ys m r are made′ =
         let o = observed p l q before e calls in

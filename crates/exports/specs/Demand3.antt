@@ -7,7 +7,7 @@ use lib.ListN.{replicate}
 use mathlib.Core.List.{List, [], _∷_, _++_}
 use mathlib.Core.Logic.{_≢_}
 use mathlib.Core.Path.{_≡_}
-use Rattle.exports.specs.Exported.{Held, holding, Formats, Boots, Posts, Cuts, Steps, Runs, wordsOf, totalsOf}
+use Rattle.exports.specs.Exported.{HostState, hostState, Formats, Boots, Posts, Cuts, Steps, Runs, wordsOf, totalsOf}
 use Rattle.model.specs.Calls.{Call, Boot, Step, Cut, Post, call, afterCalls, steps, noTotals, totalsAfter, run}
 use Rattle.model.specs.Claims.{TypedWords, TypedCall, AreCounts}
 use Rattle.model.specs.Demand3.{Left, recoverySteps, Observed}
@@ -22,8 +22,8 @@ pub data Exchange : Type 0 where
   single : Call → (answer : List ℕ) → Exchange
   run-of : (budget made : ℕ) (answer : List ℕ) → Exchange
 
--- the promise of a call that a host makes, holding h before and g after it. What a function isn't lent stays.
-abbrev pub Makes : List ℕ → Held → Exchange → Held → Type 0
+-- the promise of a call that a host makes, hostState h before and g after it. What a function isn't lent stays.
+abbrev pub Makes : List ℕ → HostState → Exchange → HostState → Type 0
 Makes p h (single Boot a) g = Boots p (h .store) (h .device) a (g .device) × (g .store ≡ h .store) × (g .totals ≡ h .totals)
 Makes p h (single Step a) g = Steps p h a g
 Makes p h (single Cut a) g = Cuts a (g .device) × (g .store ≡ h .store) × (g .totals ≡ h .totals)
@@ -32,9 +32,9 @@ Makes p h (single (Post e v) a) g =
 Makes p h (run-of b n a) g = Runs p h b n a g
 
 -- a list of them, from h to g
-unfoldable pub MakesAll : List ℕ → Held → List Exchange → Held → Type 0
+unfoldable pub MakesAll : List ℕ → HostState → List Exchange → HostState → Type 0
 MakesAll p h [] g = h ≡ g
-MakesAll p h (x ∷ xs) g = (k : Held) × Makes p h x k × MakesAll p k xs g
+MakesAll p h (x ∷ xs) g = (k : HostState) × Makes p h x k × MakesAll p k xs g
 
 -- The calls that they are: a run is the steps that it made. (What it was refused, if it was, stands in its answer.)
 unfoldable pub callsOf : Exchange → List Call
@@ -60,26 +60,26 @@ AllAnswered p s cs (x ∷ xs) = Answered p s cs x × AllAnswered p s (cs ++ call
 
 -- A host that held g, where the serial run's state is z, made a cut, a boot and m steps and holds r: the phase is 0 after as many steps as
 -- the store of g says and not before, and then what is left is the serial run's.
-pub record RecoversTo (g : Held) (z : Serial) (m : ℕ) (r : Held) : Type 0 where
+pub record RecoversTo (g : HostState) (z : Serial) (m : ℕ) (r : HostState) : Type 0 where
   pub goes-on : m < recoverySteps (view (g .store)) → view (r .store) .phase ≢ 0
   pub ends : m ≡ recoverySteps (view (g .store)) → view (r .store) .phase ≡ 0
   pub left : m ≡ recoverySteps (view (g .store)) → Left (view (r .store)) z
 
 -- A host made the calls xs on the fresh store s and holds g.
-pub record ExportsObserved (p : List ℕ) (l q : ℕ) (s : List ℕ) (xs : List Exchange) (g : Held) : Type 0 where
+pub record ExportsObserved (p : List ℕ) (l q : ℕ) (s : List ℕ) (xs : List Exchange) (g : HostState) : Type 0 where
   pub answers : AllAnswered p s [] xs
   pub store : g .store ≡ afterCalls p s off (allCalls xs) .store
   pub device : g .device ≡ deviceWords (afterCalls p s off (allCalls xs) .device)
   pub totals : AreCounts p s off (allCalls xs) (totalsOf (g .totals))
   pub observed : Observed p l q s (allCalls xs)
-  pub recovers : (ys : List Exchange) (m : ℕ) (r : Held) → allCalls ys ≡ Cut ∷ Boot ∷ steps m → MakesAll p g ys r
+  pub recovers : (ys : List Exchange) (m : ℕ) (r : HostState) → allCalls ys ≡ Cut ∷ Boot ∷ steps m → MakesAll p g ys r
       → RecoversTo g (observed .state) m r
 
 -- the words that a host has before its first call
-abbrev pub atFirst : List ℕ → Held
-atFirst s = holding s (replicate 18 0) (replicate 3 0)
+abbrev pub atFirst : List ℕ → HostState
+atFirst s = hostState s (replicate 18 0) (replicate 3 0)
 
 abbrev pub Demand3OfExports : Type 0
 Demand3OfExports =
     (p : List ℕ) (l q : ℕ) (before answer s : List ℕ) → TypedWords p → TypedWords before → Formats p l q before answer s
-    → answer ≡ checkedWords Checked.Accepted → (xs : List Exchange) (g : Held) → MakesAll p (atFirst s) xs g → ExportsObserved p l q s xs g
+    → answer ≡ checkedWords Checked.Accepted → (xs : List Exchange) (g : HostState) → MakesAll p (atFirst s) xs g → ExportsObserved p l q s xs g

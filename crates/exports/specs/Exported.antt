@@ -22,13 +22,13 @@ use Rattle.runtime.specs.declared.RunResult.{RunResult}
 use Rattle.words.specs.Words.{deviceOf, known, unknown, deviceWords, answerWords, endedWords, checkedWords, unknownWords, stepWords, unknownStepWords}
 
 -- what a host holds: the store's words, the device's 18 words and the totals' three numbers
-pub record Held : Type 0 where
+pub record HostState : Type 0 where
   pub store : List ℕ
   pub device : List ℕ
   pub totals : List ℕ
 
-abbrev pub holding : List ℕ → List ℕ → List ℕ → Held
-holding s x t = record { store = s; device = x; totals = t }
+abbrev pub hostState : List ℕ → List ℕ → List ℕ → HostState
+hostState s x t = record { store = s; device = x; totals = t }
 
 -- K of the device state whose words these are; U where they are none's
 pub record OnDevice (w : List ℕ) (K : Device → Type 0) (U : Type 0) : Type 0 where
@@ -56,7 +56,7 @@ PerformsInWords c p s o a x z =
     (r : CallResult) × Performs p s o (ofCall r z) × (a ≡ wordsOf c (r .answer) (r .stored)) × (x ≡ deviceWords (r .device))
 
 -- A run of program p, for which o is defined, returned n and left the answer a and g, likewise.
-abbrev pub RunPerformsInWords : List ℕ → Defined → ℕ → List ℕ → Held → Type 0
+abbrev pub RunPerformsInWords : List ℕ → Defined → ℕ → List ℕ → HostState → Type 0
 RunPerformsInWords p o n a g =
     (r : RunResult)
     × RunPerforms p o r (g .store)
@@ -89,11 +89,11 @@ abbrev pub Cuts : List ℕ → List ℕ → Type 0
 Cuts a y = (a ≡ answerWords Answer.Done) × (y ≡ deviceWords off)
 
 -- where nothing is changed of what a host holds
-abbrev pub Unchanged : Held → Held → Type 0
+abbrev pub Unchanged : HostState → HostState → Type 0
 Unchanged h g = (g .device ≡ h .device) × (g .store ≡ h .store) × (g .totals ≡ h .totals)
 
 -- runtime_step
-abbrev pub Steps : List ℕ → Held → List ℕ → Held → Type 0
+abbrev pub Steps : List ℕ → HostState → List ℕ → HostState → Type 0
 Steps p h a g =
     OnDevice (h .device)
     (λ d.
@@ -102,7 +102,7 @@ Steps p h a g =
     ((a ≡ unknownStepWords) × Unchanged h g)
 
 -- runtime_run with a budget of b, which returned n
-abbrev pub Runs : List ℕ → Held → ℕ → ℕ → List ℕ → Held → Type 0
+abbrev pub Runs : List ℕ → HostState → ℕ → ℕ → List ℕ → HostState → Type 0
 Runs p h b n a g =
     OnDevice (h .device) (λ d. RunPerformsInWords p (run p b (h .store) d (totalsOf (h .totals))) n a g)
     ((n ≡ 0) × (a ≡ unknownWords) × Unchanged h g)

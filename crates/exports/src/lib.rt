@@ -1,7 +1,7 @@
 // The functions that a bench links, from C or Rust: include/runtime.h declares them and docs/USING.md explains them.
 // No enum crosses: a device state is 18 words, an answer 5, a step's answer 6, the totals are 3 numbers (crates/words, specs/Exported.antt).
 ghost use mathlib.Core.Path.{_≡_};
-ghost use Rattle.exports.specs.Exported.{holding, Checks, Formats, Boots, Posts, Cuts, Steps, Runs, totalsOf, totalsWords};
+ghost use Rattle.exports.specs.Exported.{hostState, Checks, Formats, Boots, Posts, Cuts, Steps, Runs, totalsOf, totalsWords};
 ghost use Rattle.words.specs.Words.{deviceWords, answerWords};
 use device::CallResult;
 use device::calls;
@@ -122,8 +122,8 @@ pub extern "C" fn runtime_step(
     totals: &mut [u32; 3],
     answer: &mut [u16; 6],
 )
-    ensures { λ _. ⌜ Steps (now (program .entry)) (holding (now (store .entry)) (now (device .entry)) (now (totals .entry)))
-        (now (answer .exit)) (holding (now (store .exit)) (now (device .exit)) (now (totals .exit))) ⌝ }
+    ensures { λ _. ⌜ Steps (now (program .entry)) (hostState (now (store .entry)) (now (device .entry)) (now (totals .entry)))
+        (now (answer .exit)) (hostState (now (store .exit)) (now (device .exit)) (now (totals .exit))) ⌝ }
 {
     if !words::is_state(device) {
         words::write_unknown_step(answer);
@@ -151,8 +151,8 @@ pub extern "C" fn runtime_run(
     answer: &mut [u16; 5],
 ) -> u32
     ensures { λ steps.
-        ⌜ Runs (now (program .entry)) (holding (now (store .entry)) (now (device .entry)) (now (totals .entry))) budget steps
-        (now (answer .exit)) (holding (now (store .exit)) (now (device .exit)) (now (totals .exit))) ⌝ }
+        ⌜ Runs (now (program .entry)) (hostState (now (store .entry)) (now (device .entry)) (now (totals .entry))) budget steps
+        (now (answer .exit)) (hostState (now (store .exit)) (now (device .exit)) (now (totals .exit))) ⌝ }
 {
     if !words::is_state(device) {
         words::write_unknown(answer);

@@ -87,8 +87,8 @@ Registers Instruction.Unknown = Unit {0}
 abbrev pub LegalEffect : List ℕ → ℕ → ℕ → Effect → Type 0
 LegalEffect p i j (Effect.Compute a x) = (a < 8) × (j + 1 < instructions p i)
 LegalEffect p i j (Effect.Jump k) = k < instructions p i
-LegalEffect p i j (Effect.Load a x) = (a < 8) × (j + 1 < instructions p i)
-LegalEffect p i j (Effect.Save x y) = j + 1 < instructions p i
+LegalEffect p i j (Effect.Load a y) = (a < 8) × (j + 1 < instructions p i)
+LegalEffect p i j (Effect.Save y x) = j + 1 < instructions p i
 LegalEffect p i j (Effect.EndTask k) = (k < tasks p) × (i < tasks p)
 LegalEffect p i j Effect.EndEvent = tasks p ≤ i
 LegalEffect p i j Effect.Unknown = ⊥
@@ -170,7 +170,7 @@ Stands p v count x =
 -- every event is below E
 abbrev pub Known : List ℕ → List Record → Type 0
 Known p [] = Unit {0}
-Known p (r ∷ rs) = (r .event < events p) × Known p rs
+Known p (first ∷ rs) = (first .event < events p) × Known p rs
 
 -- a handler at work on the records rs, c of whose stores are made
 pub record AttendsTo (p : List ℕ) (q h t c : ℕ) (rs : List Record) : Type 0 where
@@ -183,7 +183,7 @@ AttendsBy p q h t Resting = Unit {0}
 AttendsBy p q h t (Storing c e x) = AttendsTo p q h t c (carried e x)
 
 abbrev pub Attends : List ℕ → Store → Handler → Type 0
-Attends p v x = AttendsBy p (v .queueRecords) (v .head) (v .tail) x
+Attends p v handler = AttendsBy p (v .queueRecords) (v .head) (v .tail) handler
 
 -- ---- what step and post look at: `look`
 
@@ -197,9 +197,9 @@ pub record Looked (p s : List ℕ) (d : Device) : Type 0 where
   pub place : Stands p (view s) (d .count) (d .place)
   pub handler : Attends p (view s) (d .handler)
 
--- ---- body b at place x, whose instruction j does f: `bodySound`
+-- ---- body b at a place, whose instruction j does f: `bodySound`
 
-pub record BodyIs (p : List ℕ) (v : Store) (x : Place) (b : Body) (j : ℕ) (f : Effect) : Type 0 where
+pub record BodyIs (p : List ℕ) (v : Store) (place : Place) (b : Body) (j : ℕ) (f : Effect) : Type 0 where
   pub head-record : headSound p v b ≡ Checked.Accepted
   pub rows-inside : rowsInside p ≡ Checked.Accepted
   pub row : UsableRow p (bodyNumber p b)
@@ -208,4 +208,4 @@ pub record BodyIs (p : List ℕ) (v : Store) (x : Place) (b : Body) (j : ℕ) (f
   pub named : namedRow p f ≡ Checked.Accepted
   pub open-sound : openSound p v b ≡ Checked.Accepted
   pub head-is : headIs v b ≡ true
-  pub fits : placeFits x f ≡ true
+  pub fits : placeFits place f ≡ true

@@ -91,24 +91,24 @@ unfoldable pub pendingOpenRule : List ℕ → Store → Rule
 pendingOpenRule p v =
     lateRule 13 (inPhase v 1 and pendingTaskRule p v .kept) (eqb (v .pendingOpen) 0 or eqb (v .pendingOpen) (transaction p (v .pending)))
 
--- "the first n log addresses below M", pair j's
+-- "the first n log addresses below M", pair i's
 unfoldable pub addressRule : List ℕ → Store → ℕ → Rule
-addressRule p v j =
-    lateRule (logAt (memoryWords p) + 2 * j) (committing v and countRule v .kept and ltb j (v .count)) (ltb (address v j) (memoryWords p))
+addressRule p v i =
+    lateRule (logAt (memoryWords p) + 2 * i) (committing v and countRule v .kept and ltb i (v .count)) (ltb (address v i) (memoryWords p))
 
--- does a record wait in slot x, of records from slot h up to slot t?
+-- does a record wait in slot u, of records from slot h up to slot t?
 unfoldable pub between : ℕ → ℕ → ℕ → Bool
-between h t x = pick (leb h t) (leb h x and ltb x t) (leb h x or ltb x t)
+between h t u = pick (leb h t) (leb h u and ltb u t) (leb h u or ltb u t)
 
--- "each waiting record's event below E", slot x's
+-- "each waiting record's event below E", slot u's
 unfoldable pub recordRule : List ℕ → Store → ℕ → Rule
-recordRule p v x =
-    lateRule (queueAt (memoryWords p) (v .logPairs) + 2 * x)
+recordRule p v u =
+    lateRule (queueAt (memoryWords p) (v .logPairs) + 2 * u)
     (phaseRule v .kept
     and headRule v .kept
     and tailRule v .kept
     and (not (inPhase v 2) or pendingHeadRule v .kept)
-    and between (firstWaiting v) (v .tail) x) (ltb (event v x) (events p))
+    and between (firstWaiting v) (v .tail) u) (ltb (event v u) (events p))
 
 -- ---- 7 whole, as boot has it, and its early part: "without the parts of 7 .. that need a row, .. a log pair or a record"
 

@@ -25,10 +25,10 @@ turnedOn = fresh true
 
 -- another place, other registers and another log count; another handler
 unfoldable pub withPlace : Device → List ℕ → Place → ℕ → Device
-withPlace d r x l = record { on = d .on; registers = r; place = x; count = l; handler = d .handler }
+withPlace d r place n = record { on = d .on; registers = r; place = place; count = n; handler = d .handler }
 
 unfoldable pub withHandler : Device → Handler → Device
-withHandler d h = record { on = d .on; registers = d .registers; place = d .place; count = d .count; handler = h }
+withHandler d handler = record { on = d .on; registers = d .registers; place = d .place; count = d .count; handler = handler }
 
 -- ---- The outcome of a call. "A refusal .. changes no word, state or total."
 
@@ -38,29 +38,29 @@ pub record Outcome : Type 0 where
   pub answer : Answer
 
 abbrev pub out : Write → Device → Answer → Outcome
-out w d a = record { write = w; device = d; answer = a }
+out w d answer = record { write = w; device = d; answer = answer }
 
 abbrev pub refuse : Device → Refusal → Outcome
-refuse d r = out none d (Answer.Refused r)
+refuse d why = out none d (Answer.Refused why)
 
 unfoldable pub judged : Checked → Device → Outcome → Outcome
 judged Checked.Accepted d o = o
-judged (Checked.Refused r) d o = refuse d r
+judged (Checked.Refused why) d o = refuse d why
 
 -- Store number c of a row of stores, after which the device is d. The last of them has its own device and answer.
 unfoldable pub storing : List Write → ℕ → Device → Device → Answer → Outcome
-storing ws c d ended a =
+storing ws c d ended answer =
     let last = eqb (c + 1) (length ws) in
-    out (getD ws c none) (pick last ended d) (pick last a Answer.Stored)
+    out (getD ws c none) (pick last ended d) (pick last answer Answer.Stored)
 
 -- ---- The rows of stores that a commit makes
--- "11 is n, 12 the next task, 13 the new open number, 8 becomes 1 (the commit store)"; n is the log count l
+-- "11 is n, 12 the next task, 13 the new open number, 8 becomes 1 (the commit store)"; n is the log count
 unfoldable pub taskStores : List ℕ → ℕ → ℕ → ℕ → List Write
-taskStores p t k l = to Count l ∷ to Pending k ∷ to PendingOpen (newOpen (transaction p t) (transaction p k)) ∷ to Phase 1 ∷ []
+taskStores p t k n = to Count n ∷ to Pending k ∷ to PendingOpen (newOpen (transaction p t) (transaction p k)) ∷ to Phase 1 ∷ []
 
 -- "DONE: 11, 12 with the slot after head, 8 becomes 2"
 unfoldable pub eventStores : Store → ℕ → List Write
-eventStores v l = to Count l ∷ to Pending (slotAfter (v .queueRecords) (v .head)) ∷ to Phase 2 ∷ []
+eventStores v n = to Count n ∷ to Pending (slotAfter (v .queueRecords) (v .head)) ∷ to Phase 2 ∷ []
 
 -- "then n copies, 9 from 12, 10 from 13, 8 becomes 0": the stores after the copies
 unfoldable pub taskLastStores : Store → List Write
@@ -73,11 +73,11 @@ eventLastStores v = to Head (v .pending) ∷ to Phase 0 ∷ []
 unfoldable pub lastStores : Store → List Write
 lastStores v = pick (eqb (v .phase) 1) (taskLastStores v) (eventLastStores v)
 
--- ---- The row of stores that a handler makes: "event, data, then tail", for each of its records in its slot, from slot x on
+-- ---- The row of stores that a handler makes: "event, data, then tail", for each of its records in its slot, from slot u on
 
 unfoldable pub recordStores : ℕ → ℕ → List Record → List Write
-recordStores q x [] = to Tail x ∷ []
-recordStores q x (r ∷ rs) = to (Event x) (r .event) ∷ to (Datum x) (r .datum) ∷ recordStores q (slotAfter q x) rs
+recordStores q u [] = to Tail u ∷ []
+recordStores q u (first ∷ rs) = to (Event u) (first .event) ∷ to (Datum u) (first .datum) ∷ recordStores q (slotAfter q u) rs
 
 abbrev pub handlerStores : Store → List Record → List Write
 handlerStores v rs = recordStores (v .queueRecords) (v .tail) rs
@@ -98,14 +98,14 @@ endStores (Body.Event e) = 3
 -- "log count above L; commit place past its last store, or phase disagreeing; a body running in phase 1 or 2; a commit begun in
 -- phase 0 without a body ..; half a SAVE .. with L pairs"
 unfoldable pub placeSound : List ℕ → Store → ℕ → Place → Bool
-placeSound p v l (Free c) = pick (eqb (v .phase) 0) (eqb c 0) (ltb c (v .count + length (lastStores v)))
-placeSound p v l (Run b j c) = eqb (v .phase) 0 and mayRun p v b and ltb c (endStores b)
-placeSound p v l (Half b j) = eqb (v .phase) 0 and mayRun p v b and ltb l (v .logPairs)
+placeSound p v n (Free c) = pick (eqb (v .phase) 0) (eqb c 0) (ltb c (v .count + length (lastStores v)))
+placeSound p v n (Run b j c) = eqb (v .phase) 0 and mayRun p v b and ltb c (endStores b)
+placeSound p v n (Half b j) = eqb (v .phase) 0 and mayRun p v b and ltb n (v .logPairs)
 
 -- every event is below E
 unfoldable pub knownEvents : List ℕ → List Record → Bool
 knownEvents p [] = true
-knownEvents p (r ∷ rs) = ltb (r .event) (events p) and knownEvents p rs
+knownEvents p (first ∷ rs) = ltb (first .event) (events p) and knownEvents p rs
 
 -- "a handler at work with the queue full or its event not below E"; nor is it past its tail store
 unfoldable pub recordsSound : List ℕ → Store → ℕ → List Record → Bool
@@ -117,14 +117,14 @@ handlerSound p v (Storing c e x) = recordsSound p v c (carried e x)
 
 unfoldable pub isFresh : Place → Handler → Bool
 isFresh (Free c) Resting = eqb c 0
-isFresh (Free c) (Storing n e x) = false
-isFresh (Run b j c) h = false
-isFresh (Half b j) h = false
+isFresh (Free c) (Storing made e x) = false
+isFresh (Run b j c) handler = false
+isFresh (Half b j) handler = false
 
--- the first n registers
+-- the registers below a
 unfoldable pub zeros : List ℕ → ℕ → Bool
 zeros r zero = true
-zeros r (suc n) = zeros r n and eqb (reg r n) 0
+zeros r (suc a) = zeros r a and eqb (reg r a) 0
 
 -- "off unlike its fixed value"
 unfoldable pub deviceSound : List ℕ → Store → Device → Bool
@@ -181,7 +181,7 @@ handlerStep v d c e x =
 
 -- "the rest of 7 .. for .. a log pair"
 unfoldable pub pairSound : List ℕ → Store → ℕ → Checked
-pairSound p v j = must (ltb (address v j) (memoryWords p)) (Refusal.Control (logAt (memoryWords p) + 2 * j))
+pairSound p v i = must (ltb (address v i) (memoryWords p)) (Refusal.Control (logAt (memoryWords p) + 2 * i))
 
 unfoldable pub copyStep : List ℕ → Store → Device → ℕ → Outcome
 copyStep p v d c =
@@ -203,11 +203,11 @@ recordSound p v =
 -- "if word 10 is 0 and the queue isn't empty, the event at head; otherwise the current task"
 unfoldable pub chooseStep : List ℕ → Store → Device → Outcome
 chooseStep p v d =
-    let e = Body.Event (event v (v .head)) in
-    let t = Body.Task (v .task) in
+    let oldest = Body.Event (event v (v .head)) in
+    let current = Body.Task (v .task) in
     pick (eqb (v .openNumber) 0 and not (empty v))
-    (judged (recordSound p v) d (out none (begun d e (datum v (v .head))) (Answer.Chosen e)))
-    (out none (begun d t 0) (Answer.Chosen t))
+    (judged (recordSound p v) d (out none (begun d oldest (datum v (v .head))) (Answer.Chosen oldest)))
+    (out none (begun d current 0) (Answer.Chosen current))
 
 -- ---- Step 4. "One instruction runs."
 
@@ -220,8 +220,8 @@ headSound p v (Body.Event e) = recordSound p v
 unfoldable pub namedRow : List ℕ → Effect → Checked
 namedRow p (Effect.Compute a x) = Checked.Accepted
 namedRow p (Effect.Jump k) = Checked.Accepted
-namedRow p (Effect.Load a x) = Checked.Accepted
-namedRow p (Effect.Save x y) = Checked.Accepted
+namedRow p (Effect.Load a y) = Checked.Accepted
+namedRow p (Effect.Save y x) = Checked.Accepted
 namedRow p (Effect.EndTask k) = rowUsable p k
 namedRow p Effect.EndEvent = Checked.Accepted
 namedRow p Effect.Unknown = Checked.Accepted
@@ -238,8 +238,8 @@ headIs v (Body.Event e) = eqb (event v (v .head)) e
 unfoldable pub ends : Effect → Bool
 ends (Effect.Compute a x) = false
 ends (Effect.Jump k) = false
-ends (Effect.Load a x) = false
-ends (Effect.Save x y) = false
+ends (Effect.Load a y) = false
+ends (Effect.Save y x) = false
 ends (Effect.EndTask k) = true
 ends Effect.EndEvent = true
 ends Effect.Unknown = false
@@ -247,8 +247,8 @@ ends Effect.Unknown = false
 unfoldable pub saves : Effect → Bool
 saves (Effect.Compute a x) = false
 saves (Effect.Jump k) = false
-saves (Effect.Load a x) = false
-saves (Effect.Save x y) = true
+saves (Effect.Load a y) = false
+saves (Effect.Save y x) = true
 saves (Effect.EndTask k) = false
 saves Effect.EndEvent = false
 saves Effect.Unknown = false
@@ -260,39 +260,39 @@ placeFits (Run b j c) f = pick (eqb c 0) true (ends f)
 placeFits (Half b j) f = saves f
 
 unfoldable pub bodySound : List ℕ → Store → Place → Body → ℕ → Effect → Checked
-bodySound p v x b j f =
-    let i = bodyNumber p b in
-    let there = ltb j (instructions p i) in
+bodySound p v place b j f =
+    let number = bodyNumber p b in
+    let there = ltb j (instructions p number) in
     headSound p v b
     then rowsInside p
-    then rowUsable p i
-    then pick there (instructionRule p i j then namedRow p f) Checked.Accepted
+    then rowUsable p number
+    then pick there (instructionRule p number j then namedRow p f) Checked.Accepted
     then openSound p v b
-    then must (there and headIs v b and placeFits x f) Refusal.State
+    then must (there and headIs v b and placeFits place f) Refusal.State
 
--- what an address shows: "LOAD takes the log's value for that address, if it has one, else memory's"
+-- what address y shows: "LOAD takes the log's value for that address, if it has one, else memory's"
 unfoldable pub shown : Store → Found → ℕ → ℕ
-shown v (Found.Pair i) a = value v i
-shown v Found.Nothing a = word (v .memory) a
+shown v (Found.Pair i) y = value v i
+shown v Found.Nothing y = word (v .memory) y
 
 -- "SAVE to an address in the log overwrites its value in one step; otherwise one step stores the address and the next .. the
 -- value." "24: SAVE to an address not in the log, with L pairs there."
 unfoldable pub saveStep : Store → Device → Body → ℕ → ℕ → ℕ → Found → Outcome
-saveStep v d b j a x (Found.Pair i) = out (to (Value i) x) (withPlace d (d .registers) (Run b (j + 1) 0) (d .count)) Answer.Stored
-saveStep v d b j a x Found.Nothing =
-    pick (ltb (d .count) (v .logPairs)) (out (to (Address (d .count)) a) (withPlace d (d .registers) (Half b j) (d .count)) Answer.Stored)
+saveStep v d b j y x (Found.Pair i) = out (to (Value i) x) (withPlace d (d .registers) (Run b (j + 1) 0) (d .count)) Answer.Stored
+saveStep v d b j y x Found.Nothing =
+    pick (ltb (d .count) (v .logPairs)) (out (to (Address (d .count)) y) (withPlace d (d .registers) (Half b j) (d .count)) Answer.Stored)
     (refuse d Refusal.LogFull)
 
 -- body b at instruction j, c stores of its end made. "23: address k + b not below M."
 unfoldable pub act : List ℕ → Store → Device → Body → ℕ → ℕ → Effect → Outcome
 act p v d b j c (Effect.Compute a x) = out none (withPlace d (set (d .registers) a x) (Run b (j + 1) 0) (d .count)) Answer.Worked
 act p v d b j c (Effect.Jump k) = out none (withPlace d (d .registers) (Run b k 0) (d .count)) Answer.Worked
-act p v d b j c (Effect.Load a x) =
-    pick (ltb x (memoryWords p))
-    (out none (withPlace d (set (d .registers) a (shown v (find (v .log) (d .count) x) x)) (Run b (j + 1) 0) (d .count)) Answer.Worked)
+act p v d b j c (Effect.Load a y) =
+    pick (ltb y (memoryWords p))
+    (out none (withPlace d (set (d .registers) a (shown v (find (v .log) (d .count) y) y)) (Run b (j + 1) 0) (d .count)) Answer.Worked)
     (refuse d Refusal.Address)
-act p v d b j c (Effect.Save x y) =
-    pick (ltb x (memoryWords p)) (saveStep v d b j x y (find (v .log) (d .count) x)) (refuse d Refusal.Address)
+act p v d b j c (Effect.Save y x) =
+    pick (ltb y (memoryWords p)) (saveStep v d b j y x (find (v .log) (d .count) y)) (refuse d Refusal.Address)
 act p v d b j c (Effect.EndTask k) =
     storing (taskStores p (bodyNumber p b) k (d .count)) c (withPlace d (d .registers) (Run b j (c + 1)) (d .count)) turnedOn (Answer.Committed b)
 act p v d b j c Effect.EndEvent =
@@ -303,8 +303,8 @@ act p v d b j c Effect.Unknown = refuse d Refusal.State
 unfoldable pub saveRest : Device → Body → ℕ → Effect → Outcome
 saveRest d b j (Effect.Compute a x) = refuse d Refusal.State
 saveRest d b j (Effect.Jump k) = refuse d Refusal.State
-saveRest d b j (Effect.Load a x) = refuse d Refusal.State
-saveRest d b j (Effect.Save x y) = out (to (Value (d .count)) y) (withPlace d (d .registers) (Run b (j + 1) 0) (d .count + 1)) Answer.Stored
+saveRest d b j (Effect.Load a y) = refuse d Refusal.State
+saveRest d b j (Effect.Save y x) = out (to (Value (d .count)) x) (withPlace d (d .registers) (Run b (j + 1) 0) (d .count + 1)) Answer.Stored
 saveRest d b j (Effect.EndTask k) = refuse d Refusal.State
 saveRest d b j Effect.EndEvent = refuse d Refusal.State
 saveRest d b j Effect.Unknown = refuse d Refusal.State

@@ -55,8 +55,8 @@ pub data Walked : Type 0 where
 unfoldable pub advance : List ℕ → ℕ → List ℕ → List ℕ → (ℕ → List ℕ → List ℕ → Walked) → Effect → Walked
 advance p j r m go (Effect.Compute a x) = go (j + 1) (set r a x) m
 advance p j r m go (Effect.Jump k) = go k r m
-advance p j r m go (Effect.Load a x) = pick (ltb x (memoryWords p)) (go (j + 1) (set r a (word m x)) m) lost
-advance p j r m go (Effect.Save x y) = pick (ltb x (memoryWords p)) (go (j + 1) r (set m x y)) lost
+advance p j r m go (Effect.Load a y) = pick (ltb y (memoryWords p)) (go (j + 1) (set r a (word m y)) m) lost
+advance p j r m go (Effect.Save y x) = pick (ltb y (memoryWords p)) (go (j + 1) r (set m y x)) lost
 advance p j r m go (Effect.EndTask k) = went k m
 advance p j r m go Effect.EndEvent = served m
 advance p j r m go Effect.Unknown = lost
@@ -65,7 +65,7 @@ advance p j r m go Effect.Unknown = lost
 unfoldable pub walk : ℕ → List ℕ → ℕ → ℕ → List ℕ → List ℕ → Walked
 walk zero p i j r m = lost
 walk (suc fuel) p i j r m =
-    pick (ltb j (instructions p i)) (advance p j r m (λ k s n. walk fuel p i k s n) (effectAt p i j r)) lost
+    pick (ltb j (instructions p i)) (advance p j r m (λ j′ r′ m′. walk fuel p i j′ r′ m′) (effectAt p i j r)) lost
 
 -- "Registers are as at choosing"
 unfoldable pub walkBody : ℕ → List ℕ → Body → ℕ → List ℕ → Walked
@@ -141,7 +141,7 @@ tell fuel g z c Answer.Worked = some z
 tell fuel g z c Answer.Stored = some z
 tell fuel g z c (Answer.Committed b) = runBody fuel (g .program) z b
 tell fuel g z c Answer.Accepted = accept z (acceptedEvents Answer.Accepted)
-tell fuel g z c (Answer.Refused r) = some z
+tell fuel g z c (Answer.Refused why) = some z
 
 unfoldable pub andThen : Option Serial → (Serial → Option Serial) → Option Serial
 andThen none f = none

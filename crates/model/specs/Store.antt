@@ -72,16 +72,16 @@ view s =
 
 -- a log pair's address and value; a slot's event and data
 abbrev pub address : Store → ℕ → ℕ
-address v j = word (v .log) (2 * j)
+address v i = word (v .log) (2 * i)
 
 abbrev pub value : Store → ℕ → ℕ
-value v j = word (v .log) (2 * j + 1)
+value v i = word (v .log) (2 * i + 1)
 
 abbrev pub event : Store → ℕ → ℕ
-event v x = word (v .queue) (2 * x)
+event v u = word (v .queue) (2 * u)
 
 abbrev pub datum : Store → ℕ → ℕ
-datum v x = word (v .queue) (2 * x + 1)
+datum v u = word (v .queue) (2 * u + 1)
 
 -- ---- "A step makes at most one store": none, or one word with its new value
 pub data Word : Type 0 where
@@ -97,11 +97,11 @@ index s Pending = 12
 index s PendingOpen = 13
 index s Head = 14
 index s Tail = 15
-index s (Memory a) = memoryAt + a
-index s (Address j) = logAt (word s 1) + 2 * j
-index s (Value j) = logAt (word s 1) + (2 * j + 1)
-index s (Event x) = queueAt (word s 1) (word s 2) + 2 * x
-index s (Datum x) = queueAt (word s 1) (word s 2) + (2 * x + 1)
+index s (Memory y) = memoryAt + y
+index s (Address i) = logAt (word s 1) + 2 * i
+index s (Value i) = logAt (word s 1) + (2 * i + 1)
+index s (Event u) = queueAt (word s 1) (word s 2) + 2 * u
+index s (Datum u) = queueAt (word s 1) (word s 2) + (2 * u + 1)
 
 pub data Write : Type 0 where
   none : Write
@@ -116,20 +116,20 @@ unfoldable pub storedWord : List ℕ → Write → Stored
 storedWord s none = Stored.Nothing
 storedWord s (to w x) = Stored.Word (index s w)
 
--- ---- The log: "the search of the log ends with the pair found, or with none". Of k pairs from pair j on, the first with this
+-- ---- The log: "the search of the log ends with the pair found, or with none". Of k pairs from pair i on, the first with this
 -- address.
 unfoldable pub findFrom : List ℕ → ℕ → ℕ → ℕ → Found
-findFrom log a j zero = Found.Nothing
-findFrom log a j (suc k) = pick (eqb (word log (2 * j)) a) (Found.Pair j) (findFrom log a (suc j) k)
+findFrom log y i zero = Found.Nothing
+findFrom log y i (suc k) = pick (eqb (word log (2 * i)) y) (Found.Pair i) (findFrom log y (suc i) k)
 
 unfoldable pub find : List ℕ → ℕ → ℕ → Found
-find log n a = findFrom log a 0 n
+find log n y = findFrom log y 0 n
 
 -- ---- The ring: "Empty means head equals tail; full means the slot after tail is head." Then there is room for no record.
 
--- the slot after x, of the slots 0 to q
+-- the slot after slot u, of the slots 0 to q
 unfoldable pub slotAfter : ℕ → ℕ → ℕ
-slotAfter q x = pick (eqb x q) 0 (x + 1)
+slotAfter q u = pick (eqb u q) 0 (u + 1)
 
 abbrev pub empty : Store → Bool
 empty v = eqb (v .head) (v .tail)
@@ -155,12 +155,12 @@ unfoldable pub carried : ℕ → ℕ → List Record
 carried e x = record { event = e; datum = x } ∷ []
 
 unfoldable pub slot : List ℕ → ℕ → Record
-slot queue x = record { event = word queue (2 * x); datum = word queue (2 * x + 1) }
+slot queue u = record { event = word queue (2 * u); datum = word queue (2 * u + 1) }
 
--- k records from slot x on
+-- k records from slot u on
 unfoldable pub recordsFrom : List ℕ → ℕ → ℕ → ℕ → List Record
-recordsFrom queue q x zero = []
-recordsFrom queue q x (suc k) = slot queue x ∷ recordsFrom queue q (slotAfter q x) k
+recordsFrom queue q u zero = []
+recordsFrom queue q u (suc k) = slot queue u ∷ recordsFrom queue q (slotAfter q u) k
 
 unfoldable pub waiting : Store → List Record
 waiting v =
