@@ -22,7 +22,7 @@ pub data Exchange : Type 0 where
   single : Call → (answer : List ℕ) → Exchange
   run-of : (budget made : ℕ) (answer : List ℕ) → Exchange
 
--- the promise of a call that a host makes, hostState h before and g after it. What a function isn't lent stays.
+-- the promise of a call that a host makes, holding h before and g after it. What a function isn't lent stays.
 abbrev pub Makes : List ℕ → HostState → Exchange → HostState → Type 0
 Makes p h (single Boot a) g = Boots p (h .store) (h .device) a (g .device) × (g .store ≡ h .store) × (g .totals ≡ h .totals)
 Makes p h (single Step a) g = Steps p h a g
