@@ -44,9 +44,9 @@ low-row : (b : Bool) (i : ℕ) → Low (must b (Refusal.Row i))
 unfolding refusal
 low-row b i = refuses-must b (Refusal.Row i) (λ _. refl)
 
-low-code : (b : Bool) (i j : ℕ) → Low (must b (Refusal.Code i j))
+low-code : (b : Bool) (i j : ℕ) → Low (must b (Refusal.Instruction i j))
 unfolding refusal
-low-code b i j = refuses-must b (Refusal.Code i j) (λ _. refl)
+low-code b i j = refuses-must b (Refusal.Instruction i j) (λ _. refl)
 
 pub low-inside : (p : List ℕ) → Low (rowsInside p)
 unfolding rowsInside

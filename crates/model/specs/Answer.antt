@@ -20,7 +20,7 @@ refusal (Refusal.ProgramSize w) = numbered 3 w 0
 -- rows run past the program (place 0), a row breaks its rule (place: body), or the bodies don't end at the total (place T + E)
 refusal (Refusal.Row b) = numbered 4 b 0
 -- an instruction breaks its rule; place: body, instruction
-refusal (Refusal.Code b i) = numbered 5 b i
+refusal (Refusal.Instruction b i) = numbered 5 b i
 -- store contents or length wrong, or M unlike the program's
 refusal Refusal.StoreContents = numbered 6 0 0
 -- control; place: the word of any broken rule
@@ -28,7 +28,7 @@ refusal (Refusal.Control w) = numbered 7 w 0
 -- posted event not below E
 refusal Refusal.NoEvent = numbered 8 0 0
 -- L or Q outside limits, when formatting
-refusal Refusal.Sizes = numbered 9 0 0
+refusal Refusal.StoreSize = numbered 9 0 0
 -- post while a handler is at work
 refusal Refusal.HandlerBusy = numbered 20 0 0
 -- post while the queue is full

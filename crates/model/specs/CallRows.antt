@@ -342,11 +342,11 @@ numbers =
     ∷ refusal Refusal.ProgramMark ⇒ numbered 2 0 0
     ∷ refusal (Refusal.ProgramSize 41) ⇒ numbered 3 41 0
     ∷ refusal (Refusal.Row 42) ⇒ numbered 4 42 0
-    ∷ refusal (Refusal.Code 43 44) ⇒ numbered 5 43 44
+    ∷ refusal (Refusal.Instruction 43 44) ⇒ numbered 5 43 44
     ∷ refusal Refusal.StoreContents ⇒ numbered 6 0 0
     ∷ refusal (Refusal.Control 45) ⇒ numbered 7 45 0
     ∷ refusal Refusal.NoEvent ⇒ numbered 8 0 0
-    ∷ refusal Refusal.Sizes ⇒ numbered 9 0 0
+    ∷ refusal Refusal.StoreSize ⇒ numbered 9 0 0
     ∷ refusal Refusal.HandlerBusy ⇒ numbered 20 0 0
     ∷ refusal Refusal.QueueFull ⇒ numbered 21 0 0
     ∷ refusal Refusal.PowerOff ⇒ numbered 22 0 0

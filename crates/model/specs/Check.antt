@@ -66,8 +66,8 @@ unfoldable pub instructionRule : List ℕ → ℕ → ℕ → Checked
 instructionRule p i j =
     let w = code p i j in
     let f = bounds (memoryWords p) (tasks p) (instructions p i) (ltb i (tasks p)) (opcode w) in
-    must (fieldsFit f w (operand p i j)) (Refusal.Code i j)
-    then must (lastFits p i j) (Refusal.Code i j)
+    must (fieldsFit f w (operand p i j)) (Refusal.Instruction i j)
+    then must (lastFits p i j) (Refusal.Instruction i j)
 
 unfoldable pub bodyRule : List ℕ → ℕ → Checked
 bodyRule p i = each (instructionRule p i) 0 (instructions p i)

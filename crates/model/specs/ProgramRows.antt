@@ -72,7 +72,7 @@ abbrev largest : ℕ → ℕ → ℕ → ℕ → List Checked
 largest op a b k = checked op a b k ∷ checked op (a + 1) b k ∷ checked op a (b + 1) k ∷ checked op a b (k + 1) ∷ []
 
 abbrev wrong : Checked
-wrong = Checked.Refused (Refusal.Code 1 2)
+wrong = Checked.Refused (Refusal.Instruction 1 2)
 
 abbrev noLarger : List Checked
 noLarger = Checked.Accepted ∷ wrong ∷ wrong ∷ wrong ∷ []
@@ -161,12 +161,12 @@ programs =
     ∷ check (set sample 25 256) ⇒ Checked.Refused (Refusal.Row 7)
     ∷ check (set sample 25 1) ⇒ Checked.Refused (Refusal.Row 7)
     -- "5: an instruction breaks its rule; place: body, instruction"
-    ∷ check (set sample 27 0x1100) ⇒ Checked.Refused (Refusal.Code 0 0)
-    ∷ check (set sample 31 0x1100) ⇒ Checked.Refused (Refusal.Code 1 1)
-    ∷ check (set sample 49 0xFF00) ⇒ Checked.Refused (Refusal.Code 6 1)
-    ∷ check (set sample 45 0x1010) ⇒ Checked.Refused (Refusal.Code 5 1)
-    ∷ check (set sample 45 0x1001) ⇒ Checked.Refused (Refusal.Code 5 1)
-    ∷ check (set sample 46 1) ⇒ Checked.Refused (Refusal.Code 5 1)
+    ∷ check (set sample 27 0x1100) ⇒ Checked.Refused (Refusal.Instruction 0 0)
+    ∷ check (set sample 31 0x1100) ⇒ Checked.Refused (Refusal.Instruction 1 1)
+    ∷ check (set sample 49 0xFF00) ⇒ Checked.Refused (Refusal.Instruction 6 1)
+    ∷ check (set sample 45 0x1010) ⇒ Checked.Refused (Refusal.Instruction 5 1)
+    ∷ check (set sample 45 0x1001) ⇒ Checked.Refused (Refusal.Instruction 5 1)
+    ∷ check (set sample 46 1) ⇒ Checked.Refused (Refusal.Instruction 5 1)
     -- "check 1 to 5": with two faults, the first
     ∷ check (set (set sample 0 0) 5 50) ⇒ Checked.Refused Refusal.ProgramLength
     ∷ check (set (set sample 0 0) 1 0) ⇒ Checked.Refused Refusal.ProgramMark
@@ -178,8 +178,8 @@ programs =
     ∷ check (set (set sample 20 256) 11 256) ⇒ Checked.Refused (Refusal.Row 1)
     ∷ check (set (set sample 25 1) 11 256) ⇒ Checked.Refused (Refusal.Row 1)
     ∷ check (set (set sample 27 0x1100) 25 1) ⇒ Checked.Refused (Refusal.Row 7)
-    ∷ check (set (set sample 47 0x1100) 33 0x1100) ⇒ Checked.Refused (Refusal.Code 1 2)
-    ∷ check (set (set sample 33 0x1100) 29 0x1100) ⇒ Checked.Refused (Refusal.Code 1 0)
+    ∷ check (set (set sample 47 0x1100) 33 0x1100) ⇒ Checked.Refused (Refusal.Instruction 1 2)
+    ∷ check (set (set sample 33 0x1100) 29 0x1100) ⇒ Checked.Refused (Refusal.Instruction 1 0)
     ∷ []
 
 -- ---- Formatting
@@ -189,14 +189,14 @@ formats =
     formatCheck sample 2 3 (replicate 34 7) ⇒ Checked.Accepted
     ∷ formatCheck sample 2 3 (replicate 33 7) ⇒ Checked.Refused Refusal.StoreContents
     ∷ formatCheck sample 2 3 (replicate 35 7) ⇒ Checked.Refused Refusal.StoreContents
-    ∷ formatCheck sample 0 3 (replicate 30 7) ⇒ Checked.Refused Refusal.Sizes
-    ∷ formatCheck sample 65 3 (replicate 160 7) ⇒ Checked.Refused Refusal.Sizes
-    ∷ formatCheck sample 2 0 (replicate 28 7) ⇒ Checked.Refused Refusal.Sizes
-    ∷ formatCheck sample 2 33 (replicate 94 7) ⇒ Checked.Refused Refusal.Sizes
+    ∷ formatCheck sample 0 3 (replicate 30 7) ⇒ Checked.Refused Refusal.StoreSize
+    ∷ formatCheck sample 65 3 (replicate 160 7) ⇒ Checked.Refused Refusal.StoreSize
+    ∷ formatCheck sample 2 0 (replicate 28 7) ⇒ Checked.Refused Refusal.StoreSize
+    ∷ formatCheck sample 2 33 (replicate 94 7) ⇒ Checked.Refused Refusal.StoreSize
     ∷ formatCheck sample 1 1 (replicate 28 7) ⇒ Checked.Accepted
     ∷ formatCheck sample 64 32 (replicate 216 7) ⇒ Checked.Accepted
-    ∷ formatCheck sample 0 3 [] ⇒ Checked.Refused Refusal.Sizes
-    ∷ formatCheck (set sample 33 0x1100) 0 3 (replicate 30 7) ⇒ Checked.Refused (Refusal.Code 1 2)
+    ∷ formatCheck sample 0 3 [] ⇒ Checked.Refused Refusal.StoreSize
+    ∷ formatCheck (set sample 33 0x1100) 0 3 (replicate 30 7) ⇒ Checked.Refused (Refusal.Instruction 1 2)
     ∷ []
 
 unfoldable pub formattedStores : List (Row (List ℕ))

@@ -75,11 +75,11 @@ pub record Starred : Type 0 where
   -- "T 33: 3. Its last instruction as 0200 0000: 5 at body 1, instruction 1."
   pub thirty-three-tasks : Refuses (set counting 1 33) (Refusal.ProgramSize 1)
   pub number-3 : refusal (Refusal.ProgramSize 1) ≡ record { number = 3; first = 1; second = 0 }
-  pub last-instruction : Refuses (set counting 24 0x0200) (Refusal.Code 1 1)
-  pub number-5 : refusal (Refusal.Code 1 1) ≡ record { number = 5; first = 1; second = 1 }
+  pub last-instruction : Refuses (set counting 24 0x0200) (Refusal.Instruction 1 1)
+  pub number-5 : refusal (Refusal.Instruction 1 1) ≡ record { number = 5; first = 1; second = 1 }
   -- "LOAD with k 1 accepted, with k 2: 5."
   pub load-1 : check (set counting 13 1) ≡ Checked.Accepted
-  pub load-2 : Refuses (set counting 13 2) (Refusal.Code 0 0)
+  pub load-2 : Refuses (set counting 13 2) (Refusal.Instruction 0 0)
   -- "Boot, 9 steps, cut: recovered memory 0, 0. After 10 steps: 1, 0, by 4 recovery steps. Step 14 ends the commit."
   pub nine-steps : memoryOf (recover counting (Boot ∷ steps 9 ++ Cut ∷ [])) ≡ 0 ∷ 0 ∷ []
   pub ten-steps : memoryOf (recover counting (Boot ∷ steps 10 ++ Cut ∷ [])) ≡ 1 ∷ 0 ∷ []
@@ -108,7 +108,7 @@ pub record Starred : Type 0 where
   -- "SHR of hex 8000 by 15 gives FFFF; of 7FFF by 15, 0; k 16: 5." Steps 2 and 3 are SET and SHR.
   pub shr-lowest : deviceAfter (withTask (0x0000 ∷ 0x8000 ∷ 0x0700 ∷ 15 ∷ 0x0F00 ∷ 0 ∷ [])) (Boot ∷ steps 3) .registers ≡ 0xFFFF ∷ replicate 7 0
   pub shr-highest : deviceAfter (withTask (0x0000 ∷ 0x7FFF ∷ 0x0700 ∷ 15 ∷ 0x0F00 ∷ 0 ∷ [])) (Boot ∷ steps 3) .registers ≡ 0 ∷ replicate 7 0
-  pub shr-16 : Refuses (withTask (0x0000 ∷ 0x8000 ∷ 0x0700 ∷ 16 ∷ 0x0F00 ∷ 0 ∷ [])) (Refusal.Code 0 1)
+  pub shr-16 : Refuses (withTask (0x0000 ∷ 0x8000 ∷ 0x0700 ∷ 16 ∷ 0x0F00 ∷ 0 ∷ [])) (Refusal.Instruction 0 1)
   -- "JLT: 8000 is below 0; 7FFF isn't below 8000." Step 4 is JLT, which jumps to instruction 4 or goes on to 3.
   pub jlt-lowest : deviceAfter (withTask (0x0000 ∷ 0x8000 ∷ 0x0010 ∷ 0x0000 ∷ 0x0E01 ∷ 4 ∷ 0x0F00 ∷ 0 ∷ 0x0F00 ∷ 0 ∷ [])) (Boot ∷ steps 4) .place ≡ Run (Body.Task 0) 4 0
   pub jlt-highest : deviceAfter (withTask (0x0000 ∷ 0x7FFF ∷ 0x0010 ∷ 0x8000 ∷ 0x0E01 ∷ 4 ∷ 0x0F00 ∷ 0 ∷ 0x0F00 ∷ 0 ∷ [])) (Boot ∷ steps 4) .place ≡ Run (Body.Task 0) 3 0

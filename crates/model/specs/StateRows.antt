@@ -34,7 +34,7 @@ contents =
     ∷ meets (set sample 0 0) opened ⇒ allRefused Refusal.ProgramMark
     ∷ meets (set sample 2 17) opened ⇒ allRefused (Refusal.ProgramSize 2)
     ∷ meets (set sample 10 0) opened ⇒ bootRefused (Refusal.Row 1) (Answer.Chosen (Body.Task 1))
-    ∷ meets (set sample 29 0x1100) opened ⇒ bootRefused (Refusal.Code 1 0) (Answer.Chosen (Body.Task 1))
+    ∷ meets (set sample 29 0x1100) opened ⇒ bootRefused (Refusal.Instruction 1 0) (Answer.Chosen (Body.Task 1))
     -- "6: store contents or length wrong, or M unlike the program's"
     ∷ meets sample (set opened 0 0xC0B1) ⇒ allRefused Refusal.StoreContents
     ∷ meets sample (set opened 1 5) ⇒ allRefused Refusal.StoreContents
@@ -263,22 +263,22 @@ uses =
     ∷ asks (set sample 13 0) opened (task1 2) ⇒ Answer.Worked
     -- "the instruction (5)"
     ∷ asks (set sample 33 0x1100) opened (task1 1) ⇒ Answer.Stored
-    ∷ asks (set sample 33 0x1100) opened (task1 2) ⇒ Answer.Refused (Refusal.Code 1 2)
+    ∷ asks (set sample 33 0x1100) opened (task1 2) ⇒ Answer.Refused (Refusal.Instruction 1 2)
     ∷ asks (set (set sample 29 0x1100) 10 0) opened (task1 0) ⇒ Answer.Refused (Refusal.Row 1)
     ∷ asks (set sample 31 0x0810) opened (Half (Body.Task 1) 1) ⇒ Answer.Refused Refusal.State
-    ∷ asks (set sample 31 0x0818) opened (Half (Body.Task 1) 1) ⇒ Answer.Refused (Refusal.Code 1 1)
+    ∷ asks (set sample 31 0x0818) opened (Half (Body.Task 1) 1) ⇒ Answer.Refused (Refusal.Instruction 1 1)
     ∷ asks (set sample 49 0x0C00) closed (event1 1) ⇒ Answer.Worked
-    ∷ asks (set sample 49 0x0F00) closed (event1 1) ⇒ Answer.Refused (Refusal.Code 6 1)
-    ∷ asks (set (set sample 35 0x0200) 36 0) opened (task1 3) ⇒ Answer.Refused (Refusal.Code 1 3)
+    ∷ asks (set sample 49 0x0F00) closed (event1 1) ⇒ Answer.Refused (Refusal.Instruction 6 1)
+    ∷ asks (set (set sample 35 0x0200) 36 0) opened (task1 3) ⇒ Answer.Refused (Refusal.Instruction 1 3)
     -- "at GO task k's row (4)"
     ∷ asks (set sample 13 0) opened (task1 3) ⇒ Answer.Refused (Refusal.Row 2)
     ∷ asks (set sample 12 26) opened (Run (Body.Task 1) 3 3) ⇒ Answer.Refused (Refusal.Row 2)
-    ∷ asks (set (set sample 13 0) 35 0x0F10) opened (task1 3) ⇒ Answer.Refused (Refusal.Code 1 3)
+    ∷ asks (set (set sample 13 0) 35 0x0F10) opened (task1 3) ⇒ Answer.Refused (Refusal.Instruction 1 3)
     -- "the rest of 7"
     ∷ asks sample wrongOpen (task1 0) ⇒ Answer.Refused (Refusal.Control 10)
     ∷ asks sample wrongOpen (Half (Body.Task 1) 1) ⇒ Answer.Refused (Refusal.Control 10)
     ∷ asks (set sample 13 0) wrongOpen (task1 3) ⇒ Answer.Refused (Refusal.Row 2)
-    ∷ asks (set sample 29 0x1100) wrongOpen (task1 0) ⇒ Answer.Refused (Refusal.Code 1 0)
+    ∷ asks (set sample 29 0x1100) wrongOpen (task1 0) ⇒ Answer.Refused (Refusal.Instruction 1 0)
     -- "then of 25"
     ∷ asks sample wrongOpen (task1 4) ⇒ Answer.Refused (Refusal.Control 10)
     ∷ asks sample wrongOpen (Run (Body.Task 1) 0 1) ⇒ Answer.Refused (Refusal.Control 10)

@@ -182,7 +182,7 @@ sizesRule l q = leb 1 l and leb l 64 and leb 1 q and leb q 32
 unfoldable pub formatCheck : List ℕ → ℕ → ℕ → List ℕ → Checked
 formatCheck p l q s =
     check p
-    then must (sizesRule l q) Refusal.Sizes
+    then must (sizesRule l q) Refusal.StoreSize
     then must (eqb (length s) (storeLength (memoryWords p) l q)) Refusal.StoreContents
 
 -- the store after the call

@@ -159,10 +159,10 @@ pub fn rule(program: &[u16], body_number: u16, instruction: u16) -> Checked
         opcode(word),
     );
     if !fields_fit(below, word, operand(program, body_number, instruction)) {
-        return Checked::Refused(Refusal::Code(body_number, instruction));
+        return Checked::Refused(Refusal::Instruction(body_number, instruction));
     }
     if !last_fits(program, body_number, instruction) {
-        return Checked::Refused(Refusal::Code(body_number, instruction));
+        return Checked::Refused(Refusal::Instruction(body_number, instruction));
     }
     Checked::Accepted
 }

@@ -52,7 +52,7 @@ pub fn format(program: &[u16], log_pairs: u16, queue_records: u16, store: &mut [
         return checked;
     };
     if !contents::sizes(log_pairs, queue_records) {
-        return Checked::Refused(Refusal::Sizes);
+        return Checked::Refused(Refusal::StoreSize);
     }
     if store.len() != contents::end(program[3], log_pairs, queue_records) as usize {
         return Checked::Refused(Refusal::StoreContents);
