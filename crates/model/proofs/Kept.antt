@@ -15,7 +15,7 @@ use Rattle.model.proofs.FirstStores.{First, storing-goes, storing-ends}
 use Rattle.model.proofs.Invariant.{Controls, controls, Has, Lengths, Waiting, AtWork, Handles, HeldAt, Lasting, Copying, CopyingAt, TaskCommitAt, EventCommitAt, CommitAt, ChosenAt, Running, Placed, On, Inv}
 use Rattle.model.proofs.LogLaws.{overlay, overlay-suc}
 use Rattle.model.proofs.RingLaws.{Between, known-between, forward, forward-le, distance-some, distance-head, forward-distance, distance-forward, tail-apart, slot-apart, records-append, records-same, known-append, RecordStore, event-store, datum-store, record-store, tail-store, record-stores, records-made, queueAfter, slot-stays, next-made}
-use Rattle.model.proofs.StoreLaws.{apply, requeued, retasked, Inside}
+use Rattle.model.proofs.StoreLaws.{apply, withQueue, withNext, Inside}
 use Rattle.model.proofs.TestLaws.{pick-true, pick-false, below-or, must-true}
 use Rattle.model.specs.Demand3.{Expected}
 use Rattle.model.specs.Calls.{Call, Step, acceptedEvents}
@@ -130,14 +130,14 @@ queued z rs x = record { memory = z .memory; task = z .task; openNumber = z .ope
 
 module _ (p : List ℕ) (v : Store) (d : Device) (z : Serial) (k : ℕ) (queue : List ℕ) (t : ℕ) where
   abbrev pub ChosenStays : Type 0
-  ChosenStays = (b : Body) (x : ℕ) → ChosenAt v x b → ChosenAt (requeued v queue t) x b
+  ChosenStays = (b : Body) (x : ℕ) → ChosenAt v x b → ChosenAt (withQueue v queue t) x b
 
-  pub placed-requeued : (h : Handler) (rs : List Record) (y : List Record) → ChosenStays → (v .head ≢ v .tail → v .head ≢ t) → (x : Place)
-      → Placed p v d z k x → Placed p (requeued v queue t) (withHandler d h) (queued z rs y) (suc k) x
+  pub placed-queue : (h : Handler) (rs : List Record) (y : List Record) → ChosenStays → (v .head ≢ v .tail → v .head ≢ t) → (x : Place)
+      → Placed p v d z k x → Placed p (withQueue v queue t) (withHandler d h) (queued z rs y) (suc k) x
   unfolding withHandler taskStores eventStores taskLastStores eventLastStores
-  placed-requeued h rs y f g (Free c) (inl s) = inl s
-  placed-requeued h rs y f g (Free c) (inr (m, inl s)) = inr (m, inl s)
-  placed-requeued h rs y f g (Free c) (inr (m, inr s)) =
+  placed-queue h rs y f g (Free c) (inl s) = inl s
+  placed-queue h rs y f g (Free c) (inr (m, inl s)) = inr (m, inl s)
+  placed-queue h rs y f g (Free c) (inr (m, inr s)) =
       inr (
         m,
         inr
@@ -150,8 +150,8 @@ module _ (p : List ℕ) (v : Store) (d : Device) (z : Serial) (k : ℕ) (queue :
               lasting = s .lasting;
             }),
       )
-  placed-requeued h rs y f g (Run b j c) ((s, (x, m, r)), e) = ((s, (x, f b x m, running-later r)), e)
-  placed-requeued h rs y f g (Half b j) ((s, (x, m, r)), e) = ((s, (x, f b x m, running-later r)), e)
+  placed-queue h rs y f g (Run b j c) ((s, (x, m, r)), e) = ((s, (x, f b x m, running-later r)), e)
+  placed-queue h rs y f g (Half b j) ((s, (x, m, r)), e) = ((s, (x, f b x m, running-later r)), e)
 
 -- the stores of a handler at work on the records rs, c of which are made
 module _ (p : List ℕ) (v : Store) (lengths : Lengths p v) (d : Device) (z : Serial) (k : ℕ) (i : On p v d z k) (rs : List Record) (c : ℕ)
@@ -175,11 +175,11 @@ module _ (p : List ℕ) (v : Store) (lengths : Lengths p v) (d : Device) (z : Se
     abbrev queue′ : List ℕ
     queue′ = queueAfter (v .queue) w
 
-    store-is : apply v w ≡ requeued v queue′ (v .tail)
+    store-is : apply v w ≡ withQueue v queue′ (v .tail)
     unfolding apply queueAfter
     store-is = go w s
       where
-        go : (w : Write) → RecordStore (v .queueRecords) (v .tail) rs w → apply v w ≡ requeued v (queueAfter (v .queue) w) (v .tail)
+        go : (w : Write) → RecordStore (v .queueRecords) (v .tail) rs w → apply v w ≡ withQueue v (queueAfter (v .queue) w) (v .tail)
         go w (event-store n r l m) = refl
         go w (datum-store n r l m) = refl
 
@@ -223,7 +223,7 @@ module _ (p : List ℕ) (v : Store) (lengths : Lengths p v) (d : Device) (z : Se
           on = i .on;
           handles = hs;
           count-in = i .count-in;
-          placed = placed-requeued p v d z k queue′ (v .tail) h (z .records) (z .posted) chosen-stays (λ ne. ne) (d .place) (i .placed);
+          placed = placed-queue p v d z k queue′ (v .tail) h (z .records) (z .posted) chosen-stays (λ ne. ne) (d .place) (i .placed);
         })))
 
   -- ---- the last, after which the records wait
@@ -236,7 +236,7 @@ module _ (p : List ℕ) (v : Store) (lengths : Lengths p v) (d : Device) (z : Se
     tail-free : v .head ≢ tail′
     tail-free = tail-apart (v .queueRecords) (v .head) (v .tail) (length rs) (i .held .head-in) (i .held .waits .tail-in) (a .room) (omega arith)
 
-    held-longer : HeldAt p (requeued v (v .queue) tail′) (withRecords z rs)
+    held-longer : HeldAt p (withQueue v (v .queue) tail′) (withRecords z rs)
     unfolding firstWaiting withRecords
     held-longer =
         let q = i .held .waits in
@@ -259,7 +259,7 @@ module _ (p : List ℕ) (v : Store) (lengths : Lengths p v) (d : Device) (z : Se
               };
         }
 
-    tail-stored : Inv p (requeued v (v .queue) tail′) (withHandler d Resting) (withRecords z rs) (suc k)
+    tail-stored : Inv p (withQueue v (v .queue) tail′) (withHandler d Resting) (withRecords z rs) (suc k)
     unfolding withHandler withRecords
     tail-stored =
         inr
@@ -268,7 +268,7 @@ module _ (p : List ℕ) (v : Store) (lengths : Lengths p v) (d : Device) (z : Se
           on = i .on;
           handles = tt;
           count-in = i .count-in;
-          placed = placed-requeued p v d z k (v .queue) tail′ Resting (z .records ++ rs) (z .posted) chosen (λ _. tail-free) (d .place) (i .placed);
+          placed = placed-queue p v d z k (v .queue) tail′ Resting (z .records ++ rs) (z .posted) chosen (λ _. tail-free) (d .place) (i .placed);
         })
       where
         chosen : ChosenStays p v d z k (v .queue) tail′
@@ -425,13 +425,13 @@ module _ (p : List ℕ) (v : Store) (d : Device) (rest : d .handler ≡ Resting)
 
   module _ (h : v .count ≤ c) (s : TaskCommitAt p v z c) where
     -- words 9 and 10 become y and o, the first j + 1 of these stores are made
-    task-stored : (w : Write) (y o j : ℕ) → InsideOf p v w → apply v w ≡ retasked v y o → y < tasks p → c - v .count ≡ j → suc j < length (taskLastStores v)
-        → First (Has (controls (retasked v y o))) (suc j) (taskLastStores v) → Kept p v z k Step (out w further Answer.Stored)
+    task-stored : (w : Write) (y o j : ℕ) → InsideOf p v w → apply v w ≡ withNext v y o (v .head) → y < tasks p → c - v .count ≡ j → suc j < length (taskLastStores v)
+        → First (Has (controls (withNext v y o (v .head)))) (suc j) (taskLastStores v) → Kept p v z k Step (out w further Answer.Stored)
     unfolding taskLastStores firstWaiting
     task-stored w y o j inside is below at more made =
         stored-kept w further inside
         (rw is
-        (goes-on (retasked v y o) (i .held) refl (
+        (goes-on (withNext v y o (v .head)) (i .held) refl (
           copied-further h,
           inl
               (record {

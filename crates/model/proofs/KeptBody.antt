@@ -14,7 +14,7 @@ use Rattle.model.proofs.Invariant.{Lengths, Waiting, StillAt, Copying, 
 use Rattle.model.proofs.Kept.{Kept, refused-kept, stored-kept, copies-left, running-later, known-waiting, first-head, first-pending}
 use Rattle.model.proofs.LogLaws.{addr, overlay, overlay-zero, overlay-other, overlay-elsewhere, overlay-pair, overlay-overwrite, overlay-append, Distinct, find-pair, find-nothing}
 use Rattle.model.proofs.RingLaws.{slot-after-le, between-first, records-head}
-use Rattle.model.proofs.StoreLaws.{apply, relogged, recommitted, Inside}
+use Rattle.model.proofs.StoreLaws.{apply, withData, withCommit, Inside}
 use Rattle.model.proofs.TestLaws.{pick-case, pick-true, below-or, and-true, and-left, and-right, must-true}
 use Rattle.model.specs.Accepted.{Known, LegalEffect, Sound}
 use Rattle.model.specs.Answer.{refusal}
@@ -45,7 +45,7 @@ module _ (p : List ℕ) (sound : Sound p) (v : Store) (lengths : Lengths p v) (d
       → ChosenAt v x b
       → Running p (v .memory) log (z .memory) (suc k) b x j r l
       → l ≤ v .logPairs
-      → Inv p (relogged v log) (withPlace d r (Run b j 0) l) z (suc k)
+      → Inv p (withData v (v .memory) log (v .queue)) (withPlace d r (Run b j 0) l) z (suc k)
   unfolding withPlace firstWaiting
   runs log b x j r l chosen h s =
       inr
@@ -56,7 +56,7 @@ module _ (p : List ℕ) (sound : Sound p) (v : Store) (lengths : Lengths p v) (d
         count-in = s;
         placed = (
           (still, (x, chosen, h)),
-          ending-none p (relogged v log) (withPlace d r (Run b j 0) l) b (bodyNumber p b) j (effectAt p (bodyNumber p b) j r) (sound .legal (bodyNumber p b) j r (h .body-in) (h .place-in)),
+          ending-none p (withData v (v .memory) log (v .queue)) (withPlace d r (Run b j 0) l) b (bodyNumber p b) j (effectAt p (bodyNumber p b) j r) (sound .legal (bodyNumber p b) j r (h .body-in) (h .place-in)),
         );
       })
 
@@ -140,7 +140,7 @@ module _ (p : List ℕ) (sound : Sound p) (v : Store) (lengths : Lengths p v) (d
   goes-on : (f : Effect) → effectAt p n j (d .registers) ≡ f → (log : List ℕ) (a : ℕ) (r : List ℕ) (l : ℕ) → a < instructions p n
       → ((y : ℕ) → y < l → addr log y < memoryWords p) → Distinct log l → l ≤ v .logPairs
       → ((g : ℕ) → advance p j (d .registers) seen (λ c s o. walk g p n c s o) f ≡ walk g p n a r (overlay (v .memory) log l))
-      → Inv p (relogged v log) (withPlace d r (Run b a 0) l) z (suc k)
+      → Inv p (withData v (v .memory) log (v .queue)) (withPlace d r (Run b a 0) l) z (suc k)
   goes-on f e log a r l place addresses apart count same =
       runs p sound v lengths d z k i still log b x a r l chosen
       (record {
@@ -274,8 +274,8 @@ module _ (p : List ℕ) (sound : Sound p) (v : Store) (lengths : Lengths p v) (d
   waits-head = rw (first-head v 0 (still .phase-is) refl) at (i .held .waits)
 
   -- words 11 to 13 are stored one by one
-  staged : (w : Word) (y c a o m : ℕ) → Inside (memoryWords p) (v .logPairs) (v .queueRecords) w → apply v (to w y) ≡ recommitted v a o m
-      → (f : Effect) → effectAt p n j (d .registers) ≡ f → EndingAt p (recommitted v a o m) d b c f
+  staged : (w : Word) (y c a o m : ℕ) → Inside (memoryWords p) (v .logPairs) (v .queueRecords) w → apply v (to w y) ≡ withCommit v a o m
+      → (f : Effect) → effectAt p n j (d .registers) ≡ f → EndingAt p (withCommit v a o m) d b c f
       → Kept p v z k Step (out (to w y) (withPlace d (d .registers) (Run b j c) (d .count)) Answer.Stored)
   unfolding withPlace
   staged w y c a o m s q f e t =
@@ -287,7 +287,7 @@ module _ (p : List ℕ) (sound : Sound p) (v : Store) (lengths : Lengths p v) (d
             record {
               tasked = i .held .tasked;
               head-in = i .held .head-in;
-              waits = rw (first-head (recommitted v a o m) 0 (still .phase-is) refl) waits-head;
+              waits = rw (first-head (withCommit v a o m) 0 (still .phase-is) refl) waits-head;
             };
         on = i .on;
         handles = i .handles;

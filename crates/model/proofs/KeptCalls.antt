@@ -7,7 +7,7 @@ use native.Mathlib.Omega.{arith}
 use lib.Dec.{eqb}
 use Rattle.model.proofs.Checks.{body-sound, run-fits, half-fits}
 use Rattle.model.proofs.Invariant.{Lengths, Handles, HeldAt, CopyingAt, TaskCommitAt, EventCommitAt, Placed, Resumes, On, Inv}
-use Rattle.model.proofs.Kept.{Kept, placed-requeued, handler-kept, copies-left, commit-kept}
+use Rattle.model.proofs.Kept.{Kept, placed-queue, handler-kept, copies-left, commit-kept}
 use Rattle.model.proofs.KeptBody.{choose-kept, act-kept, rest-kept}
 use Rattle.model.proofs.LogLaws.{overlay, overlay-zero, overlay-again}
 use Rattle.model.proofs.StoreLaws.{apply}
@@ -133,6 +133,6 @@ module _ (p : List ℕ) (v : Store) (d : Device) (z : Serial) (k : ℕ) where
               on = i .on;
               handles = record { known = (below, tt); room = omega (arith, fits); posted-is = refl; inside = omega arith; made = tt };
               count-in = i .count-in;
-              placed = placed-requeued p v d z k (v .queue) (v .tail) (Storing 0 e x) (z .records) (carried e x) (λ b y m. m) (λ ne. ne) (d .place) (i .placed);
+              placed = placed-queue p v d z k (v .queue) (v .tail) (Storing 0 e x) (z .records) (carried e x) (λ b y m. m) (λ ne. ne) (d .place) (i .placed);
             });
       }

@@ -14,7 +14,7 @@ use Rattle.model.proofs.Passed.{sized}
 use Rattle.model.proofs.Kept.{InsideOf}
 use Rattle.model.proofs.LogLaws.{find-pair}
 use Rattle.model.proofs.RingLaws.{forward, forward-le, tail-apart, event-store, datum-store, slot-in, carried-one}
-use Rattle.model.proofs.StoreLaws.{parts, apply, view-after, rule-kept}
+use Rattle.model.proofs.StoreLaws.{withPhase, withNext, withCommit, withQueue, withData, apply, view-after, rule-kept}
 use Rattle.model.proofs.TestLaws.{clash, then-first, then-rest}
 use Rattle.model.specs.Device.{Outcome, fresh, withPlace, withHandler, taskLastStores, eventLastStores, lastStores, endStores, look, begun, step}
 use Rattle.model.specs.Accepted.{ControlledBy, MayRunBy, MayRun, StandsBy, Stands, Attends, Looked}
@@ -32,18 +32,15 @@ some-end (Body.Event e) = omega arith
 
 module _ (p : List ℕ) (v : Store) (d : Device) (fit : Fit p v d) where
   -- no store, and stores to memory, log and queue: no control word changes
-  abbrev beside : List ℕ → List ℕ → List ℕ → Store
-  beside m l q = parts (v .logPairs) (v .queueRecords) (v .phase) (v .task) (v .openNumber) (v .count) (v .pending) (v .pendingOpen) (v .head) (v .tail) m l q
-
-  withPlace-fits : (m l q r : List ℕ) (x : Place) (n : ℕ) → n ≤ v .logPairs → Stands p v n x → Fit p (beside m l q) (withPlace d r x n)
+  withPlace-fits : (m l q r : List ℕ) (x : Place) (n : ℕ) → n ≤ v .logPairs → Stands p v n x → Fit p (withData v m l q) (withPlace d r x n)
   unfolding withPlace lastStores taskLastStores eventLastStores
   withPlace-fits m l q r x n k h = record { control = fit .control; on = fit .on; count-in = k; place = h; handler = fit .handler }
 
   -- at an instruction
-  runs-fits : (m l q r : List ℕ) (b : Body) (j n : ℕ) → n ≤ v .logPairs → v .phase ≡ 0 → MayRun p v b → Fit p (beside m l q) (withPlace d r (Run b j 0) n)
+  runs-fits : (m l q r : List ℕ) (b : Body) (j n : ℕ) → n ≤ v .logPairs → v .phase ≡ 0 → MayRun p v b → Fit p (withData v m l q) (withPlace d r (Run b j 0) n)
   runs-fits m l q r b j n k z may = withPlace-fits m l q r (Run b j 0) n k (z, may, some-end b)
 
-  handled-fits : (q : List ℕ) (h : Handler) → Attends p v h → Fit p (beside (v .memory) (v .log) q) (withHandler d h)
+  handled-fits : (q : List ℕ) (h : Handler) → Attends p v h → Fit p (withData v (v .memory) (v .log) q) (withHandler d h)
   unfolding withHandler lastStores taskLastStores eventLastStores
   handled-fits q h a = record { control = fit .control; on = fit .on; count-in = fit .count-in; place = fit .place; handler = a }
 
@@ -83,7 +80,7 @@ module _ (p : List ℕ) (v : Store) (d : Device) (fit : Fit p v d) where
     stands-tail n c (Run b j i) h = (h .0, may-tail b (h .1), h .2)
     stands-tail n c (Half b j) h = (h .0, may-tail b (h .1), h .2)
 
-    tail-fits : Fit p (parts (v .logPairs) (v .queueRecords) (v .phase) (v .task) (v .openNumber) (v .count) (v .pending) (v .pendingOpen) (v .head) x (v .memory) (v .log) (v .queue)) (withHandler d Resting)
+    tail-fits : Fit p (withQueue v (v .queue) x) (withHandler d Resting)
     unfolding withHandler lastStores taskLastStores eventLastStores
     tail-fits =
         let c = fit .control in
@@ -100,7 +97,7 @@ module _ (p : List ℕ) (v : Store) (d : Device) (fit : Fit p v d) where
   -- a commit's stores to words 9, 10 and 14, and the last one
   last-fits : {c : ℕ} → Commits v d c → (t o h : ℕ) → t < tasks p → h ≤ v .queueRecords
       → (v .phase ≡ 2 → (v .pending ≡ h) ⊎ ((v .pending ≡ slotAfter (v .queueRecords) h) × (h ≢ v .tail))) → (v .phase ≡ 2 → o ≡ 0) → c + 1 < v .count + length (lastStores v)
-      → Fit p (parts (v .logPairs) (v .queueRecords) (v .phase) t o (v .count) (v .pending) (v .pendingOpen) h (v .tail) (v .memory) (v .log) (v .queue)) (atPlace d (Free (c + 1)))
+      → Fit p (withNext v t o h) (atPlace d (Free (c + 1)))
   unfolding withPlace lastStores taskLastStores eventLastStores
   last-fits w t o h task head pending open′ left =
       record {
@@ -111,7 +108,7 @@ module _ (p : List ℕ) (v : Store) (d : Device) (fit : Fit p v d) where
         handler = rw (w .rests) tt;
       }
 
-  over-fits : Fit p (parts (v .logPairs) (v .queueRecords) 0 (v .task) (v .openNumber) (v .count) (v .pending) (v .pendingOpen) (v .head) (v .tail) (v .memory) (v .log) (v .queue)) (fresh true)
+  over-fits : Fit p (withPhase v 0) (fresh true)
   unfolding fresh
   over-fits =
       let c = fit .control in
@@ -125,7 +122,7 @@ module _ (p : List ℕ) (v : Store) (d : Device) (fit : Fit p v d) where
 
   -- GO's and DONE's stores before the commit store, to words 11 to 13
   noted-fits : (n w o : ℕ) (b : Body) (j c : ℕ) → v .phase ≡ 0 → MayRun p v b → c < endStores b
-      → Fit p (parts (v .logPairs) (v .queueRecords) (v .phase) (v .task) (v .openNumber) n w o (v .head) (v .tail) (v .memory) (v .log) (v .queue)) (atPlace d (Run b j c))
+      → Fit p (withCommit v n w o) (atPlace d (Run b j c))
   unfolding withPlace
   noted-fits n w o b j c z may l =
       let h = fit .control in

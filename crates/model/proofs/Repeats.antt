@@ -15,7 +15,7 @@ use Rattle.model.proofs.Passed.{look-passed, sized}
 use Rattle.model.proofs.LookStays.{look-stays}
 use Rattle.model.proofs.Numbers.{Low, low-contents, low-store, low-inside, low-used, low-body}
 use Rattle.model.proofs.RingLaws.{forward, distance-some, slot-apart, RecordStore, event-store, datum-store, slot-in, queueAfter, slot-stays}
-use Rattle.model.proofs.StoreLaws.{apply, requeued, Inside, view-after}
+use Rattle.model.proofs.StoreLaws.{apply, withQueue, Inside, view-after}
 use Rattle.model.proofs.TestLaws.{clash, must-passed, then-rest, Refuses, refuses-accepted, refuses-must, refuses-then}
 use Rattle.model.specs.Accepted.{Looked, MayRun}
 use Rattle.model.specs.Answer.{refusal}
@@ -86,13 +86,13 @@ other-body p v x b j f =
 
 module _ (p : List ℕ) (v : Store) (queue : List ℕ) (t : ℕ) (same : v .head ≢ v .tail → word queue (2 * v .head) ≡ event v (v .head)) where
   -- what a body's checks read of the queue is the record at head, if it is an event
-  body-same : (x : Place) (b : Body) (j : ℕ) (f : Effect) → MayRun p v b → bodySound p (requeued v queue t) x b j f ≡ bodySound p v x b j f
+  body-same : (x : Place) (b : Body) (j : ℕ) (f : Effect) → MayRun p v b → bodySound p (withQueue v queue t) x b j f ≡ bodySound p v x b j f
   unfolding bodySound headSound recordSound openSound headIs openRule taskRule
   body-same x (Body.Task n) j f m = refl
   body-same x (Body.Event n) j f m = rw (same (m .2))
 
-  module _ (s : List ℕ) (d : Device) (rests : d .handler ≡ Resting) (looks : look p s d ≡ Checked.Accepted) (parts : view s ≡ requeued v queue t) where
-    acts-again : {b : Body} {j c : ℕ} {f : Effect} {r : Refusal} → RunsAt p v d b j c f → act p (requeued v queue t) d b j c f ≡ refuse d r
+  module _ (s : List ℕ) (d : Device) (rests : d .handler ≡ Resting) (looks : look p s d ≡ Checked.Accepted) (parts : view s ≡ withQueue v queue t) where
+    acts-again : {b : Body} {j c : ℕ} {f : Effect} {r : Refusal} → RunsAt p v d b j c f → act p (withQueue v queue t) d b j c f ≡ refuse d r
         → step p s d .answer ≡ Answer.Refused r
     acts-again {b} {j} {c} {f} h e =
         ap (λ (o : Outcome). o .answer)
@@ -142,7 +142,7 @@ module _ (p s : List ℕ) (d : Device) (r : Refusal) (w : Stays r) (k : Stuck p 
 
   -- a store by the handler
   stored : (x : Word) (y : ℕ) (h : Handler) (a : Answer) (queue : List ℕ) (t : ℕ) → step p s d ≡ out (to x y) (withHandler d h) a → soundAfter a ≡ true
-      → Inside (memoryWords p) (v .logPairs) (v .queueRecords) x → apply v (to x y) ≡ requeued v queue t
+      → Inside (memoryWords p) (v .logPairs) (v .queueRecords) x → apply v (to x y) ≡ withQueue v queue t
       → (v .head ≢ v .tail → word queue (2 * v .head) ≡ event v (v .head)) → SlotAfter (out (to x y) (withHandler d h) a)
   unfolding withHandler
   stored x y h a queue t is sound inside parts same =

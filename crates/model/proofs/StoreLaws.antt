@@ -36,39 +36,43 @@ abbrev pub parts : ℕ → ℕ → ℕ → ℕ → ℕ → ℕ → ℕ → ℕ �
 parts l q ph ta op n pe po h t m lo qu =
     record { logPairs = l; queueRecords = q; phase = ph; task = ta; openNumber = op; count = n; pending = pe; pendingOpen = po; head = h; tail = t; memory = m; log = lo; queue = qu }
 
--- a store with another queue and tail; another log; other words 9 and 10; other words 11 to 13
-abbrev pub requeued : Store → List ℕ → ℕ → Store
-requeued v queue t =
-    parts (v .logPairs) (v .queueRecords) (v .phase) (v .task) (v .openNumber) (v .count) (v .pending) (v .pendingOpen) (v .head) t (v .memory) (v .log) queue
+-- a store with another phase; other words 9, 10 and 14; other words 11 to 13; another queue and tail; other memory, log and queue words
+abbrev pub withPhase : Store → ℕ → Store
+withPhase v ph =
+    parts (v .logPairs) (v .queueRecords) ph (v .task) (v .openNumber) (v .count) (v .pending) (v .pendingOpen) (v .head) (v .tail) (v .memory) (v .log) (v .queue)
 
-abbrev pub relogged : Store → List ℕ → Store
-relogged v log =
-    parts (v .logPairs) (v .queueRecords) (v .phase) (v .task) (v .openNumber) (v .count) (v .pending) (v .pendingOpen) (v .head) (v .tail) (v .memory) log (v .queue)
+abbrev pub withNext : Store → ℕ → ℕ → ℕ → Store
+withNext v ta op h =
+    parts (v .logPairs) (v .queueRecords) (v .phase) ta op (v .count) (v .pending) (v .pendingOpen) h (v .tail) (v .memory) (v .log) (v .queue)
 
-abbrev pub retasked : Store → ℕ → ℕ → Store
-retasked v ta op =
-    parts (v .logPairs) (v .queueRecords) (v .phase) ta op (v .count) (v .pending) (v .pendingOpen) (v .head) (v .tail) (v .memory) (v .log) (v .queue)
-
-abbrev pub recommitted : Store → ℕ → ℕ → ℕ → Store
-recommitted v n pe po =
+abbrev pub withCommit : Store → ℕ → ℕ → ℕ → Store
+withCommit v n pe po =
     parts (v .logPairs) (v .queueRecords) (v .phase) (v .task) (v .openNumber) n pe po (v .head) (v .tail) (v .memory) (v .log) (v .queue)
+
+abbrev pub withQueue : Store → List ℕ → ℕ → Store
+withQueue v qu t =
+    parts (v .logPairs) (v .queueRecords) (v .phase) (v .task) (v .openNumber) (v .count) (v .pending) (v .pendingOpen) (v .head) t (v .memory) (v .log) qu
+
+abbrev pub withData : Store → List ℕ → List ℕ → List ℕ → Store
+withData v m lo qu =
+    parts (v .logPairs) (v .queueRecords) (v .phase) (v .task) (v .openNumber) (v .count) (v .pending) (v .pendingOpen) (v .head) (v .tail) m lo qu
 
 -- the parts after one store
 unfoldable pub apply : Store → Write → Store
 apply v none = v
-apply v (to Phase x) = parts (v .logPairs) (v .queueRecords) x (v .task) (v .openNumber) (v .count) (v .pending) (v .pendingOpen) (v .head) (v .tail) (v .memory) (v .log) (v .queue)
-apply v (to Task x) = parts (v .logPairs) (v .queueRecords) (v .phase) x (v .openNumber) (v .count) (v .pending) (v .pendingOpen) (v .head) (v .tail) (v .memory) (v .log) (v .queue)
-apply v (to Open x) = parts (v .logPairs) (v .queueRecords) (v .phase) (v .task) x (v .count) (v .pending) (v .pendingOpen) (v .head) (v .tail) (v .memory) (v .log) (v .queue)
-apply v (to Count x) = parts (v .logPairs) (v .queueRecords) (v .phase) (v .task) (v .openNumber) x (v .pending) (v .pendingOpen) (v .head) (v .tail) (v .memory) (v .log) (v .queue)
-apply v (to Pending x) = parts (v .logPairs) (v .queueRecords) (v .phase) (v .task) (v .openNumber) (v .count) x (v .pendingOpen) (v .head) (v .tail) (v .memory) (v .log) (v .queue)
-apply v (to PendingOpen x) = parts (v .logPairs) (v .queueRecords) (v .phase) (v .task) (v .openNumber) (v .count) (v .pending) x (v .head) (v .tail) (v .memory) (v .log) (v .queue)
-apply v (to Head x) = parts (v .logPairs) (v .queueRecords) (v .phase) (v .task) (v .openNumber) (v .count) (v .pending) (v .pendingOpen) x (v .tail) (v .memory) (v .log) (v .queue)
-apply v (to Tail x) = parts (v .logPairs) (v .queueRecords) (v .phase) (v .task) (v .openNumber) (v .count) (v .pending) (v .pendingOpen) (v .head) x (v .memory) (v .log) (v .queue)
-apply v (to (Memory a) x) = parts (v .logPairs) (v .queueRecords) (v .phase) (v .task) (v .openNumber) (v .count) (v .pending) (v .pendingOpen) (v .head) (v .tail) (set (v .memory) a x) (v .log) (v .queue)
-apply v (to (Address j) x) = parts (v .logPairs) (v .queueRecords) (v .phase) (v .task) (v .openNumber) (v .count) (v .pending) (v .pendingOpen) (v .head) (v .tail) (v .memory) (set (v .log) (2 * j) x) (v .queue)
-apply v (to (Value j) x) = parts (v .logPairs) (v .queueRecords) (v .phase) (v .task) (v .openNumber) (v .count) (v .pending) (v .pendingOpen) (v .head) (v .tail) (v .memory) (set (v .log) (2 * j + 1) x) (v .queue)
-apply v (to (Event i) x) = parts (v .logPairs) (v .queueRecords) (v .phase) (v .task) (v .openNumber) (v .count) (v .pending) (v .pendingOpen) (v .head) (v .tail) (v .memory) (v .log) (set (v .queue) (2 * i) x)
-apply v (to (Datum i) x) = parts (v .logPairs) (v .queueRecords) (v .phase) (v .task) (v .openNumber) (v .count) (v .pending) (v .pendingOpen) (v .head) (v .tail) (v .memory) (v .log) (set (v .queue) (2 * i + 1) x)
+apply v (to Phase x) = withPhase v x
+apply v (to Task x) = withNext v x (v .openNumber) (v .head)
+apply v (to Open x) = withNext v (v .task) x (v .head)
+apply v (to Count x) = withCommit v x (v .pending) (v .pendingOpen)
+apply v (to Pending x) = withCommit v (v .count) x (v .pendingOpen)
+apply v (to PendingOpen x) = withCommit v (v .count) (v .pending) x
+apply v (to Head x) = withNext v (v .task) (v .openNumber) x
+apply v (to Tail x) = withQueue v (v .queue) x
+apply v (to (Memory a) x) = withData v (set (v .memory) a x) (v .log) (v .queue)
+apply v (to (Address j) x) = withData v (v .memory) (set (v .log) (2 * j) x) (v .queue)
+apply v (to (Value j) x) = withData v (v .memory) (set (v .log) (2 * j + 1) x) (v .queue)
+apply v (to (Event i) x) = withData v (v .memory) (v .log) (set (v .queue) (2 * i) x)
+apply v (to (Datum i) x) = withData v (v .memory) (v .log) (set (v .queue) (2 * i + 1) x)
 
 -- ---- a part after a store before it, behind it and in it
 
