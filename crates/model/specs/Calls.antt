@@ -48,30 +48,30 @@ steps (suc n) = Step ∷ steps n
 
 -- how many answers are so
 unfoldable pub countBy : (Answer → Bool) → List Line → ℕ
-countBy f [] = 0
-countBy f (x ∷ xs) = pick (f (x .answered)) (suc (countBy f xs)) (countBy f xs)
+countBy holds [] = 0
+countBy holds (line ∷ lines) = pick (holds (line .answered)) (suc (countBy holds lines)) (countBy holds lines)
 
 -- what comes of a refusal, or what comes otherwise
 unfoldable pub unlessRefused {ℓ} : {A : Type ℓ} → Answer → (Refusal → A) → A → A
-unlessRefused Answer.Done f x = x
-unlessRefused (Answer.Chosen b) f x = x
-unlessRefused Answer.Worked f x = x
-unlessRefused Answer.Stored f x = x
-unlessRefused (Answer.Committed b) f x = x
-unlessRefused Answer.Accepted f x = x
-unlessRefused (Answer.Refused r) f x = f r
+unlessRefused Answer.Done refusing other = other
+unlessRefused (Answer.Chosen b) refusing other = other
+unlessRefused Answer.Worked refusing other = other
+unlessRefused Answer.Stored refusing other = other
+unlessRefused (Answer.Committed b) refusing other = other
+unlessRefused Answer.Accepted refusing other = other
+unlessRefused (Answer.Refused r) refusing other = refusing r
 
 unfoldable pub isRefusal : Answer → Bool
-isRefusal a = unlessRefused a (λ f. true) false
+isRefusal a = unlessRefused a (λ r. true) false
 
 -- ---- "The host's totals (bodies committed, events accepted, stores made; 32 bits, staying at the largest value)"
 
--- x and n more, as far as the largest value
+-- a total and n more, as far as the largest value
 unfoldable pub moreBy : ℕ → ℕ → ℕ
-moreBy x n = x + min n (2 ^ 32 - 1 - x)
+moreBy total n = total + min n (2 ^ 32 - 1 - total)
 
 unfoldable pub oneIf : Bool → ℕ
-oneIf b = pick b 1 0
+oneIf holds = pick holds 1 0
 
 unfoldable pub isCommit : Answer → Bool
 isCommit Answer.Done = false
@@ -144,10 +144,10 @@ pub record RunOutcome : Type 0 where
 
 unfoldable pub runFrom : List ℕ → ℕ → ℕ → List ℕ → Device → Totals → RunOutcome
 runFrom p zero n s d t = record { steps = n; ended = Ended.Spent; store = s; device = d; totals = t }
-runFrom p (suc k) n s d t =
+runFrom p (suc budget) n s d t =
     let o = step p s d in
-    let rest = runFrom p k (n + 1) (settled s (o .write)) (o .device) (counted t o) in
-    unlessRefused (o .answer) (λ f. record { steps = n; ended = Ended.Refused f; store = s; device = d; totals = t }) rest
+    let rest = runFrom p budget (n + 1) (settled s (o .write)) (o .device) (counted t o) in
+    unlessRefused (o .answer) (λ r. record { steps = n; ended = Ended.Refused r; store = s; device = d; totals = t }) rest
 
 unfoldable pub run : List ℕ → ℕ → List ℕ → Device → Totals → RunOutcome
 run p budget s d t = runFrom p budget 0 s d t
@@ -162,14 +162,14 @@ pub data Recovery : Type 0 where
 
 unfoldable pub finish : List ℕ → ℕ → ℕ → List ℕ → Device → Recovery
 finish p zero n s d = pick (eqb (view s .phase) 0) (recovered n s) unfinished
-finish p (suc k) n s d =
+finish p (suc allowed) n s d =
     let o = step p s d in
-    let rest = finish p k (n + 1) (settled s (o .write)) (o .device) in
+    let rest = finish p allowed (n + 1) (settled s (o .write)) (o .device) in
     let go = unlessRefused (o .answer) refused rest in
     pick (eqb (view s .phase) 0) (recovered n s) go
 
--- with at most k steps
+-- with so many steps allowed
 unfoldable pub recovery : List ℕ → ℕ → List ℕ → Recovery
-recovery p k s =
+recovery p allowed s =
     let o = boot p s (cut .device) in
-    unlessRefused (o .answer) refused (finish p k 0 s (o .device))
+    unlessRefused (o .answer) refused (finish p allowed 0 s (o .device))

@@ -28,18 +28,18 @@ abbrev pub TypedWords : List ℕ → Type 0
 TypedWords s = (i : ℕ) → word s i < 2 ^ 16
 
 abbrev pub TypedBody : Body → Type 0
-TypedBody (Body.Task t) = t < 2 ^ 16
+TypedBody (Body.Task task) = task < 2 ^ 16
 TypedBody (Body.Event e) = e < 2 ^ 16
 
 abbrev pub TypedPlace : Place → Type 0
-TypedPlace (Free c) = c < 2 ^ 16
-TypedPlace (Run b j c) = TypedBody b × ((j < 2 ^ 16) × (c < 2 ^ 16))
+TypedPlace (Free made) = made < 2 ^ 16
+TypedPlace (Run b j made) = TypedBody b × ((j < 2 ^ 16) × (made < 2 ^ 16))
 TypedPlace (Half b j) = TypedBody b × (j < 2 ^ 16)
 
 -- a handler at work has one of its three stores to make
 abbrev pub TypedHandler : Handler → Type 0
 TypedHandler Resting = Unit {0}
-TypedHandler (Storing c e x) = (c < 3) × (e < 2 ^ 16) × (x < 2 ^ 16)
+TypedHandler (Storing made e x) = (made < 3) × (e < 2 ^ 16) × (x < 2 ^ 16)
 
 -- a device state that the types allow
 pub record TypedDevice (d : Device) : Type 0 where
@@ -95,7 +95,7 @@ RefusalStays =
 -- "Place: the word of any broken rule": the words that a refusal 7 of the definitions names
 abbrev pub PlaceIsBroken : Type 0
 PlaceIsBroken =
-    (p s : List ℕ) (d : Device) (c : Call) (w : ℕ) → call p s d c .answer ≡ Answer.Refused (Refusal.Control w) → blames (rules p (view s)) w ≡ true
+    (p s : List ℕ) (d : Device) (c : Call) (i : ℕ) → call p s d c .answer ≡ Answer.Refused (Refusal.Control i) → blames (rules p (view s)) i ≡ true
 
 -- "A step answers: chosen, worked, stored, committed (the commit store), accepted, or refused": these made a store
 unfoldable pub tellsStore : Answer → Bool
@@ -120,16 +120,16 @@ StoreIsTold = (p s : List ℕ) (d : Device) → StoreTold p s d
 
 -- how a run of so many steps ended: all of its budget, or less and a step that is refused
 abbrev pub EndedSo : List ℕ → ℕ → RunOutcome → Ended → Type 0
-EndedSo p budget r Ended.Spent = r .steps ≡ budget
-EndedSo p budget r (Ended.Refused f) = (r .steps < budget) × (step p (r .store) (r .device) .answer ≡ Answer.Refused f)
+EndedSo p budget o Ended.Spent = o .steps ≡ budget
+EndedSo p budget o (Ended.Refused r) = (o .steps < budget) × (step p (o .store) (o .device) .answer ≡ Answer.Refused r)
 
--- a run r from s, d and t is its steps, none of them refused
-pub record IsSteps (p : List ℕ) (budget : ℕ) (s : List ℕ) (d : Device) (t : Totals) (r : RunOutcome) : Type 0 where
-  pub store : r .store ≡ afterCalls p s d (steps (r .steps)) .store
-  pub device : r .device ≡ afterCalls p s d (steps (r .steps)) .device
-  pub totals : r .totals ≡ totalsAfter p s d (steps (r .steps)) t
-  pub unrefused : countBy isRefusal (history p s d (steps (r .steps))) ≡ 0
-  pub ended : EndedSo p budget r (r .ended)
+-- a run from s, d and t with outcome o is its steps, none of them refused
+pub record IsSteps (p : List ℕ) (budget : ℕ) (s : List ℕ) (d : Device) (t : Totals) (o : RunOutcome) : Type 0 where
+  pub store : o .store ≡ afterCalls p s d (steps (o .steps)) .store
+  pub device : o .device ≡ afterCalls p s d (steps (o .steps)) .device
+  pub totals : o .totals ≡ totalsAfter p s d (steps (o .steps)) t
+  pub unrefused : countBy isRefusal (history p s d (steps (o .steps))) ≡ 0
+  pub ended : EndedSo p budget o (o .ended)
 
 abbrev pub RunIsSteps : Type 0
 RunIsSteps = (p : List ℕ) (budget : ℕ) (s : List ℕ) (d : Device) (t : Totals) → IsSteps p budget s d t (run p budget s d t)
@@ -150,7 +150,7 @@ pub record ByCalls (p s : List ℕ) (n : ℕ) (store : List ℕ) : Type 0 where
   pub goes-on : (m : ℕ) → m < n → view (afterCalls p s off (Boot ∷ steps m) .store) .phase ≢ 0
 
 abbrev pub RecoveryByCalls : Type 0
-RecoveryByCalls = (p s : List ℕ) (k n : ℕ) (store : List ℕ) → recovery p k s ≡ recovered n store → ByCalls p s n store
+RecoveryByCalls = (p s : List ℕ) (allowed n : ℕ) (store : List ℕ) → recovery p allowed s ≡ recovered n store → ByCalls p s n store
 
 -- ---- Why a run needn't look at everything before each step
 

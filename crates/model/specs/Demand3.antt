@@ -21,7 +21,7 @@ use Rattle.model.specs.Types.{Answer, Body, Checked}
 
 unfoldable pub isIn : ℕ → List ℕ → Bool
 isIn n [] = false
-isIn n (x ∷ xs) = eqb n x or isIn n xs
+isIn n (first ∷ rest) = eqb n first or isIn n rest
 
 unfoldable pub mayMeet : Call → List ℕ
 mayMeet Boot = 26 ∷ []
@@ -53,9 +53,9 @@ unfoldable pub recoverySteps : Store → ℕ
 recoverySteps v = pick (eqb (v .phase) 1) (v .count + 3) (pick (eqb (v .phase) 2) (v .count + 2) 0)
 
 -- with any number of steps allowed that suffices, recovery isn't refused, ends after just so many, and leaves what z says
-pub record Recovers (p s : List ℕ) (z : Serial) (k : ℕ) : Type 0 where
+pub record Recovers (p s : List ℕ) (z : Serial) (allowed : ℕ) : Type 0 where
   pub store : List ℕ
-  pub ends : recovery p k s ≡ recovered (recoverySteps (view s)) store
+  pub ends : recovery p allowed s ≡ recovered (recoverySteps (view s)) store
   pub left : Left (view store) z
 
 -- "each body run is the answered one and ends, each address below M; at an event a record is there and the open number is 0":
@@ -106,7 +106,7 @@ stepsToRecover p s cs = recoverySteps (view (reached p s cs .store))
 pub record AsSerialRun (p : List ℕ) (l q : ℕ) (s : List ℕ) (cs : List Call) : Type 0 where
   pub state : Serial
   pub ran : (fuel : ℕ) → length cs ≤ fuel → serial fuel (given p l q) (history p s off cs) ≡ some state
-  pub recovers : (k : ℕ) → stepsToRecover p s cs ≤ k → Recovers p (reached p s cs .store) state k
+  pub recovers : (allowed : ℕ) → stepsToRecover p s cs ≤ allowed → Recovers p (reached p s cs .store) state allowed
   -- "Its records are the store's waiting ones (event, data), in order, before recovery too."
   pub waits : waiting (view (reached p s cs .store)) ≡ state .records
   pub balance : countBy isAccept (history p s off cs) ≡ countBy isCompletion (history p s off cs) + length (state .records)
@@ -124,7 +124,7 @@ Demand3 =
 -- It determines its state: whatever the fuel, if the run comes to an end, it comes to the same.
 abbrev pub SerialDetermined : Type 0
 SerialDetermined =
-    (f f′ : ℕ) (g : Formatting) (y z : Serial) (xs : List Line) → serial f g xs ≡ some y → serial f′ g xs ≡ some z → y ≡ z
+    (fuel fuel′ : ℕ) (g : Formatting) (z z′ : Serial) (lines : List Line) → serial fuel g lines ≡ some z → serial fuel′ g lines ≡ some z′ → z ≡ z′
 
 -- Each task is the one that the task before it named, the first the entry task: the tasks whose commit store was made, and
 -- behind them the current one, are the entry task and behind it the tasks that these named at GO.
@@ -140,7 +140,7 @@ committedTask (Answer.Refused r) = []
 
 unfoldable pub committedTasks : List Line → List ℕ
 committedTasks [] = []
-committedTasks (x ∷ xs) = committedTask (x .answered) ++ committedTasks xs
+committedTasks (line ∷ lines) = committedTask (line .answered) ++ committedTasks lines
 
 -- the task that a body's run names
 unfoldable pub namedAtEnd : Walked → List ℕ
@@ -155,30 +155,30 @@ namedBy fuel p m (t ∷ ts) = namedAtEnd (walkBody fuel p (Body.Task t) 0 m) ++ 
 
 -- along the serial run
 unfoldable pub fromState : Option Serial → (Serial → List ℕ) → List ℕ
-fromState none f = []
-fromState (some z) f = f z
+fromState none tasks = []
+fromState (some z) tasks = tasks z
 
 unfoldable pub namedTasks : ℕ → Formatting → Serial → List Line → List ℕ
 namedTasks fuel g z [] = []
-namedTasks fuel g z (x ∷ xs) =
-    namedBy fuel (g .program) (z .memory) (committedTask (x .answered))
-    ++ fromState (tell fuel g z (x .called) (x .answered)) (λ y. namedTasks fuel g y xs)
+namedTasks fuel g z (line ∷ lines) =
+    namedBy fuel (g .program) (z .memory) (committedTask (line .answered))
+    ++ fromState (tell fuel g z (line .called) (line .answered)) (λ z′. namedTasks fuel g z′ lines)
 
 abbrev pub TasksFollow : Type 0
 TasksFollow =
-    (fuel : ℕ) (g : Formatting) (xs : List Line) (z : Serial) → serial fuel g xs ≡ some z
-    → committedTasks xs ++ (z .task ∷ []) ≡ entry (g .program) ∷ namedTasks fuel g (serialStart g) xs
+    (fuel : ℕ) (g : Formatting) (lines : List Line) (z : Serial) → serial fuel g lines ≡ some z
+    → committedTasks lines ++ (z .task ∷ []) ≡ entry (g .program) ∷ namedTasks fuel g (serialStart g) lines
 
 -- ---- What a bench sees that makes the calls, recovery among them, and reads words and answers
 
--- the store after these calls, then a cut, a boot and m steps
+-- the store after these calls, then a cut, a boot and n steps
 abbrev pub recovering : List ℕ → List ℕ → List Call → ℕ → List ℕ
-recovering p s cs m = reached p s (cs ++ (Cut ∷ Boot ∷ steps m)) .store
+recovering p s cs n = reached p s (cs ++ (Cut ∷ Boot ∷ steps n)) .store
 
 -- every call of the list was answered as that call may be
 unfoldable pub AllExpected : List Line → Type 0
 AllExpected [] = Unit {0}
-AllExpected (x ∷ xs) = Expected (x .called) (x .answered) × AllExpected xs
+AllExpected (line ∷ lines) = Expected (line .called) (line .answered) × AllExpected lines
 
 pub record Observed (p : List ℕ) (l q : ℕ) (s : List ℕ) (cs : List Call) : Type 0 where
   pub state : Serial
@@ -187,7 +187,7 @@ pub record Observed (p : List ℕ) (l q : ℕ) (s : List ℕ) (cs : List Call) :
       ≡ entry p ∷ namedTasks (length cs) (given p l q) (serialStart (given p l q)) (history p s off cs)
   pub answers : AllExpected (history p s off cs)
   -- "recovery .. is a cut, a boot, then steps while the phase isn't 0": so many, and then it has left what the serial run has
-  pub goes-on : (m : ℕ) → m < stepsToRecover p s cs → view (recovering p s cs m) .phase ≢ 0
+  pub goes-on : (n : ℕ) → n < stepsToRecover p s cs → view (recovering p s cs n) .phase ≢ 0
   pub ends : view (recovering p s cs (stepsToRecover p s cs)) .phase ≡ 0
   pub left : Left (view (recovering p s cs (stepsToRecover p s cs))) state
   -- accepted is completed plus waiting
@@ -195,7 +195,7 @@ pub record Observed (p : List ℕ) (l q : ℕ) (s : List ℕ) (cs : List Call) :
       countBy isAccept (history p s off cs) ≡ countBy isCompletion (history p s off cs) + length (waiting (view (reached p s cs .store)))
   -- "for an event that of the oldest record"
   pub oldest : (e : ℕ) → nextAnswer p s cs Step ≡ Answer.Committed (Body.Event e)
-      → (r : Record) × (rest : List Record) × (waiting (view (reached p s cs .store)) ≡ r ∷ rest) × (r .event ≡ e)
+      → (first : Record) × (rest : List Record) × (waiting (view (reached p s cs .store)) ≡ first ∷ rest) × (first .event ≡ e)
 
 abbrev pub ObservedByCalls : Type 0
 ObservedByCalls =
