@@ -21,7 +21,7 @@ use Rattle.model.specs.declared.Place.{Place}
 use Rattle.model.specs.declared.Place.the-variants.{Free, Run, Half}
 use Rattle.model.specs.declared.Refusal.{Refusal}
 use Rattle.model.proofs.ProgramLaws.{inside-passed, used-passed}
-use Rattle.body.specs.Running.{Running, OfBody, rowSound, lastSound, does, fetched, fetchedAt, bodyAt, instructionAt}
+use Rattle.body.specs.Running.{Running, Fetches, OfBody, rowSound, lastSound, does, fetched, fetchedAt, FetchesAt, bodyAt, instructionAt}
 use Rattle.body.specs.declared.Fetched.{Fetched}
 
 -- ---- what the early checks give
@@ -222,6 +222,14 @@ module _ (p : List ℕ) (v : Store) (d : Device) (b : Body) (j : ℕ) where
     half-acts = judged-fits (Half b j) (saveRest d b j) e ∙ rest-refuses f
 
 -- ---- the same at a place of a body
+
+-- what was fetched with body b and instruction j, where these are a place's
+module _ (p : List ℕ) (x : Place) {b : Body} {j : ℕ} (body : b ≡ bodyAt x) (instruction : j ≡ instructionAt x) where
+  pub fetched-there : (v : Store) (r : List ℕ) {got y : Fetched} → got ≡ fetched p v r b j → got ≡ y → fetchedAt p v r x ≡ y
+  fetched-there v r e is = rw (sym body, sym instruction) (sym e ∙ is)
+
+  pub fetches-there : {f : Effect} → Fetches p b j f → FetchesAt p x f
+  fetches-there h = rw (sym body, sym instruction) h
 
 pub there-refused : (p : List ℕ) (v : Store) (d : Device) {x : Refusal} (y : Place) → OfBody y → fetchedAt p v (d .registers) y ≡ Fetched.Refused x → placeStep p v d y ≡ refuse d x
 unfolding bodyAt instructionAt

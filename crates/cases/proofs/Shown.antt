@@ -13,7 +13,7 @@ use Rattle.model.specs.Starred.{counting}
 use Rattle.model.specs.declared.Answer.{Answer}
 use Rattle.model.specs.declared.Device.{Device}
 use Rattle.model.specs.declared.Refusal.{Refusal}
-use Rattle.cases.specs.Seen.{none, storeAfter, cutAfter, furtherPost}
+use Rattle.cases.specs.Seen.{none, storeAfterCut, cutAfter, furtherPost}
 
 -- ---- from the calls' contracts to what is seen: s₁ is formatted, d₁ booted
 
@@ -22,8 +22,8 @@ module _ (p s : List ℕ) {s₁ s₂ : List ℕ} {d₁ : Device} (formatted : s�
       → s₂ ≡ run p n s₁ d₁ none .store
       → d₂ ≡ boot p s₂ (cut .device) .device
       → s₃ ≡ run p m s₂ d₂ none .store
-      → s₃ ≡ storeAfter p s n m
-  unfolding storeAfter
+      → s₃ ≡ storeAfterCut p s n m
+  unfolding storeAfterCut
   cut-seen n m a b e = rw (e, b, a, on, formatted)
 
   pub post-seen : (n : ℕ) {d₂ d₃ : Device}
@@ -43,7 +43,7 @@ pub record Cases : Type 0 where
   pub further : furtherPost counting (replicate 24 0) 3 ≡ Answer.Refused Refusal.QueueFull
 
 pub cases : Cases
-unfolding storeAfter cutAfter furtherPost counting definitions
+unfolding storeAfterCut cutAfter furtherPost counting definitions
 cases = record { nine = refl; ten = refl; ten-but-one = refl; further = refl }
 
 pub queue-full-is-not-7 : {w : ℕ} → Answer.Refused Refusal.QueueFull ≡ Answer.Refused (Refusal.Control w) → ⊥

@@ -19,13 +19,13 @@ abbrev pub ranFrom : List ℕ → List ℕ → Device → ℕ → RunOutcome
 ranFrom p s d n = run p n s (boot p s d .device) none
 
 -- boot, n steps, a cut, a boot, m steps: the store
-unfoldable pub storeAfter : List ℕ → List ℕ → ℕ → ℕ → List ℕ
-storeAfter p s n m = ranFrom p (ranFrom p (format p 1 1 s) off n .store) (cut .device) m .store
+unfoldable pub storeAfterCut : List ℕ → List ℕ → ℕ → ℕ → List ℕ
+storeAfterCut p s n m = ranFrom p (ranFrom p (format p 1 1 s) off n .store) (cut .device) m .store
 
 -- the same of the counting program: the phase, and memory words 0 and 1
 unfoldable pub cutAfter : ℕ → ℕ → List ℕ
 cutAfter n m =
-    let s = storeAfter counting (replicate 24 0) n m in
+    let s = storeAfterCut counting (replicate 24 0) n m in
     word s 8 ∷ word s 16 ∷ word s 17 ∷ []
 
 -- boot, a post, n steps, and the answer of a further post

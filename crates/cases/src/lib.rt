@@ -3,7 +3,7 @@
 ghost use mathlib.Core.List.{[], _∷_};
 ghost use mathlib.Core.Path.{_≡_};
 ghost use Rattle.model.specs.Starred.{counting};
-ghost use Rattle.cases.specs.Seen.{none, storeAfter, cutAfter, furtherPost};
+ghost use Rattle.cases.specs.Seen.{none, storeAfterCut, cutAfter, furtherPost};
 use device::calls;
 use model::Answer;
 use model::Device;
@@ -58,7 +58,7 @@ fn none() -> Totals
 
 // On a store formatted with L and Q 1: boot, steps, a cut, a boot, recovery steps.
 fn cut_in(program: &[u16], store: &mut [u16], steps: u32, recovery: u32)
-    ensures { λ _. ⌜ now (store .exit) ≡ storeAfter (now (program .entry)) (now (store .entry)) steps recovery ⌝ }
+    ensures { λ _. ⌜ now (store .exit) ≡ storeAfterCut (now (program .entry)) (now (store .entry)) steps recovery ⌝ }
 {
     let _ = format::format(program, 1, 1, store);
     let on = calls::boot(program, store, Device::OFF);

@@ -58,8 +58,8 @@ pub record Bodies (p : List ℕ) : Type 0 where
 -- ---- an instruction: `instructionRule`
 
 -- instruction j of body i
-abbrev pub instructionAt : List ℕ → ℕ → ℕ → Instruction
-instructionAt p i j = decode (opcode (code p i j)) (fieldA (code p i j)) (fieldB (code p i j)) (operand p i j)
+abbrev pub bodyInstruction : List ℕ → ℕ → ℕ → Instruction
+bodyInstruction p i j = decode (opcode (code p i j)) (fieldA (code p i j)) (fieldB (code p i j)) (operand p i j)
 
 -- the registers that an instruction names, and SHR's k
 abbrev pub Registers : Instruction → Type 0
@@ -94,7 +94,7 @@ LegalEffect p i j Effect.EndEvent = tasks p ≤ i
 LegalEffect p i j Effect.Unknown = ⊥
 
 pub record Legal (p : List ℕ) (i j : ℕ) : Type 0 where
-  pub registers : Registers (instructionAt p i j)
+  pub registers : Registers (bodyInstruction p i j)
   pub effect : (r : List ℕ) → LegalEffect p i j (effectAt p i j r)
 
 -- ---- the whole program: `check`. What a step asks of it again is accepted.

@@ -15,19 +15,19 @@ use Rattle.model.specs.Serial.{Serial, given, serial}
 use Rattle.model.specs.Starred.{counting}
 use Rattle.model.specs.Store.{Record, view, room, waiting, Word, Phase, Task, Open, Count, Pending, PendingOpen, Head, Tail, Memory, Address, Value, Event, Datum, none, to, index, settled, formatted}
 use Rattle.model.specs.Types.{Answer, Body, Device, Ended, Free, Half, Refusal, Resting, Run, Storing, Totals}
-use Rattle.model.specs.ProgramRows.{stores}
-use Rattle.model.specs.Sample.{Row, _⇒_, at, cleared, closed, controls, device, eventCommit, offValue, onValue, opened, registers, sample, task1, taskCommit, twoPairs, withInstruction}
+use Rattle.model.specs.ProgramRows.{storesWord}
+use Rattle.model.specs.Sample.{Row, _⇒_, at, cleared, closed, controls, deviceWith, eventCommit, offValue, onValue, opened, registers, sample, task1, taskCommit, twoPairs, withInstruction}
 use Rattle.model.specs.StateRows.{wrongOpen}
 
 -- ---- What a step does: its one store, the device after it, its answer
 
 -- a handler at work for event 1 with data 66, and a body at an instruction
 abbrev handling : ℕ → Device
-handling c = device true registers (task1 2) 1 (Storing c 1 66)
+handling c = deviceWith true registers (task1 2) 1 (Storing c 1 66)
 
 -- a body begun, register 0 with the data of an event
 abbrev begins : Body → ℕ → Outcome
-begins b x = out none (device true (set cleared 0 x) (Run b 0 0) 0 Resting) (Answer.Chosen b)
+begins b x = out none (deviceWith true (set cleared 0 x) (Run b 0 0) 0 Resting) (Answer.Chosen b)
 
 -- a commit's last store, and a commit store
 abbrev endsWith : Word → ℕ → Answer → Outcome
@@ -39,40 +39,40 @@ outcomes =
     step sample (controls 0 1 8 0 0 0 1 3) (handling 0) ⇒ out (to (Event 3) 1) (handling 1) Answer.Stored
     ∷ step sample (controls 0 1 8 0 0 0 1 3) (handling 1) ⇒ out (to (Datum 3) 66) (handling 2) Answer.Stored
     ∷ step sample (controls 0 1 8 0 0 0 1 3) (handling 2) ⇒ out (to Tail 0) (at (task1 2)) Answer.Accepted
-    ∷ step sample taskCommit (device true registers (Free 1) 1 (Storing 2 1 66)) ⇒ out (to Tail 2) (at (Free 1)) Answer.Accepted
+    ∷ step sample taskCommit (deviceWith true registers (Free 1) 1 (Storing 2 1 66)) ⇒ out (to Tail 2) (at (Free 1)) Answer.Accepted
     -- "then n copies, 9 from 12, 10 from 13, 8 becomes 0"
-    ∷ step sample taskCommit (at (Free 0)) ⇒ stores (Memory 2) 777 (Free 1)
-    ∷ step sample taskCommit (at (Free 1)) ⇒ stores (Memory 3) 888 (Free 2)
-    ∷ step sample taskCommit (at (Free 2)) ⇒ stores Task 2 (Free 3)
-    ∷ step sample taskCommit (at (Free 3)) ⇒ stores Open 8 (Free 4)
+    ∷ step sample taskCommit (at (Free 0)) ⇒ storesWord (Memory 2) 777 (Free 1)
+    ∷ step sample taskCommit (at (Free 1)) ⇒ storesWord (Memory 3) 888 (Free 2)
+    ∷ step sample taskCommit (at (Free 2)) ⇒ storesWord Task 2 (Free 3)
+    ∷ step sample taskCommit (at (Free 3)) ⇒ storesWord Open 8 (Free 4)
     ∷ step sample taskCommit (at (Free 4)) ⇒ endsWith Phase 0 Answer.Stored
     -- "n copies, 14 from 12, 8 becomes 0"
-    ∷ step sample eventCommit (at (Free 0)) ⇒ stores (Memory 2) 777 (Free 1)
-    ∷ step sample eventCommit (at (Free 1)) ⇒ stores Head 0 (Free 2)
+    ∷ step sample eventCommit (at (Free 0)) ⇒ storesWord (Memory 2) 777 (Free 1)
+    ∷ step sample eventCommit (at (Free 1)) ⇒ storesWord Head 0 (Free 2)
     ∷ step sample eventCommit (at (Free 2)) ⇒ endsWith Phase 0 Answer.Stored
     -- "if word 10 is 0 and the queue isn't empty, the event at head; otherwise the current task"
     ∷ step sample closed (at (Free 0)) ⇒ begins (Body.Event 1) 53
     ∷ step sample opened (at (Free 0)) ⇒ begins (Body.Task 1) 0
     ∷ step sample (controls 0 4 0 0 0 0 2 2) (at (Free 0)) ⇒ begins (Body.Task 4) 0
     -- "the search of the log ends with the pair found": LOAD 3 2, with address 2 in both pairs
-    ∷ step (withInstruction 0x0830 2) (set opened 24 2) (twoPairs (task1 2)) ⇒ out none (device true (set registers 3 777) (task1 3) 2 Resting) Answer.Worked
+    ∷ step (withInstruction 0x0830 2) (set opened 24 2) (twoPairs (task1 2)) ⇒ out none (deviceWith true (set registers 3 777) (task1 3) 2 Resting) Answer.Worked
     -- the third of three pairs
-    ∷ step (withInstruction 0x0830 2) (set (set (formatted sample 3 3) 26 2) 27 999) (device true registers (task1 2) 3 Resting)
-    ⇒ out none (device true (set registers 3 999) (task1 3) 3 Resting) Answer.Worked
+    ∷ step (withInstruction 0x0830 2) (set (set (formatted sample 3 3) 26 2) 27 999) (deviceWith true registers (task1 2) 3 Resting)
+    ⇒ out none (deviceWith true (set registers 3 999) (task1 3) 3 Resting) Answer.Worked
     -- "the next, without looking again at address or log, the value": SAVE 1 4, though pair 1 has address 3
     ∷ step sample opened (at (Half (Body.Task 1) 1)) ⇒ out (to (Value 1) 2) (twoPairs (task1 2)) Answer.Stored
     -- GO 2: "11 is n, 12 the next task, 13 the new open number, 8 becomes 1 (the commit store)"
-    ∷ step sample opened (at (Run (Body.Task 1) 3 0)) ⇒ stores Count 1 (Run (Body.Task 1) 3 1)
-    ∷ step sample opened (at (Run (Body.Task 1) 3 1)) ⇒ stores Pending 2 (Run (Body.Task 1) 3 2)
-    ∷ step sample opened (at (Run (Body.Task 1) 3 2)) ⇒ stores PendingOpen 8 (Run (Body.Task 1) 3 3)
+    ∷ step sample opened (at (Run (Body.Task 1) 3 0)) ⇒ storesWord Count 1 (Run (Body.Task 1) 3 1)
+    ∷ step sample opened (at (Run (Body.Task 1) 3 1)) ⇒ storesWord Pending 2 (Run (Body.Task 1) 3 2)
+    ∷ step sample opened (at (Run (Body.Task 1) 3 2)) ⇒ storesWord PendingOpen 8 (Run (Body.Task 1) 3 3)
     ∷ step sample opened (at (Run (Body.Task 1) 3 3)) ⇒ endsWith Phase 1 (Answer.Committed (Body.Task 1))
     -- "DONE: 11, 12 with the slot after head, 8 becomes 2"
-    ∷ step sample closed (at (Run (Body.Event 1) 1 0)) ⇒ stores Count 1 (Run (Body.Event 1) 1 1)
-    ∷ step sample closed (at (Run (Body.Event 1) 1 1)) ⇒ stores Pending 0 (Run (Body.Event 1) 1 2)
+    ∷ step sample closed (at (Run (Body.Event 1) 1 0)) ⇒ storesWord Count 1 (Run (Body.Event 1) 1 1)
+    ∷ step sample closed (at (Run (Body.Event 1) 1 1)) ⇒ storesWord Pending 0 (Run (Body.Event 1) 1 2)
     ∷ step sample closed (at (Run (Body.Event 1) 1 2)) ⇒ endsWith Phase 2 (Answer.Committed (Body.Event 1))
     -- "A post makes no store, sets the handler to work": "post then 8, 20, 21"
     ∷ post sample opened (at (task1 2)) 1 66 ⇒ out none (handling 0) Answer.Done
-    ∷ post sample taskCommit (at (Free 1)) 0 9 ⇒ out none (device true registers (Free 1) 1 (Storing 0 0 9)) Answer.Done
+    ∷ post sample taskCommit (at (Free 1)) 0 9 ⇒ out none (deviceWith true registers (Free 1) 1 (Storing 0 0 9)) Answer.Done
     ∷ post sample opened offValue 2 66 ⇒ refuse offValue Refusal.PowerOff
     ∷ post sample opened (handling 1) 2 66 ⇒ refuse (handling 1) Refusal.NoEvent
     ∷ post sample opened (handling 1) 1 67 ⇒ refuse (handling 1) Refusal.HandlerBusy
@@ -81,7 +81,7 @@ outcomes =
     ∷ post sample (controls 2 1 0 0 1 0 0 3) (at (Free 0)) 1 66 ⇒ refuse (at (Free 0)) Refusal.QueueFull
     -- "Boot makes no store and turns that value on"; "boot 1 to 7, 26"; "A cut refuses nothing"
     ∷ boot sample opened offValue ⇒ out none onValue Answer.Done
-    ∷ boot sample taskCommit (device false registers (task1 2) 1 (Storing 2 1 66)) ⇒ out none onValue Answer.Done
+    ∷ boot sample taskCommit (deviceWith false registers (task1 2) 1 (Storing 2 1 66)) ⇒ out none onValue Answer.Done
     ∷ boot sample opened onValue ⇒ refuse onValue Refusal.PowerOn
     ∷ boot sample wrongOpen onValue ⇒ refuse onValue (Refusal.Control 10)
     ∷ boot sample (controls 0 5 9 0 0 0 3 1) offValue ⇒ refuse offValue (Refusal.Control 9)
@@ -153,8 +153,8 @@ isServed e = Answer.Chosen (Body.Event e) ∷ replicate 4 Answer.Stored ++ Answe
 
 -- Task 1 is chosen, then event 0 is posted. It waits for the transaction of tasks 1, 2 and 3 to close; tasks 0, 4 and 1 follow, with
 -- numbers 0, 9 and 8.
-abbrev transaction : List Call
-transaction = Boot ∷ Step ∷ posted 0 50
+abbrev transactionCalls : List Call
+transactionCalls = Boot ∷ Step ∷ posted 0 50
 
 -- these, and task 1's SET, SAVE, ADD and GO
 abbrev transactionBegins : List Answer
@@ -177,9 +177,9 @@ queueRefilled = Answer.Done ∷ isAccepted ++ isAccepted ++ isAccepted ++ isFull
 
 unfoldable pub schedules : List (Row (List Answer))
 schedules =
-    answers (transaction ++ steps 54) ⇒ (transactionBegins ++ goesOn 2 ++ goesOn 3 ++ isServed 0 ++ goesOn 0 ++ goesOn 4 ++ chosen 1)
+    answers (transactionCalls ++ steps 54) ⇒ (transactionBegins ++ goesOn 2 ++ goesOn 3 ++ isServed 0 ++ goesOn 0 ++ goesOn 4 ++ chosen 1)
     -- cut with the transaction open, at GO
-    ∷ answers (transaction ++ steps 16 ++ Cut ∷ Boot ∷ Step ∷ [])
+    ∷ answers (transactionCalls ++ steps 16 ++ Cut ∷ Boot ∷ Step ∷ [])
     ⇒ (transactionBegins ++ chosen 2 ++ replicate 3 Answer.Stored ++ replicate 2 Answer.Done ++ chosen 2)
     ∷ answers (refilled ++ Post 0 54 ∷ steps 28) ⇒ (queueRefilled ++ isFull ++ isServed 1 ++ isServed 0 ++ isServed 1 ++ chosen 1)
     ∷ []
@@ -187,7 +187,7 @@ schedules =
 unfoldable pub openNumbers : List (Row (List ℕ))
 openNumbers =
     -- after tasks 1, 2 and 3, event 0, tasks 0 and 4
-    map (λ (s : List ℕ). view s .openNumber) (storesAfter (left transaction) (12 ∷ 8 ∷ 8 ∷ 9 ∷ 8 ∷ 8 ∷ [])) ⇒ (8 ∷ 8 ∷ 0 ∷ 0 ∷ 0 ∷ 0 ∷ [])
+    map (λ (s : List ℕ). view s .openNumber) (storesAfter (left transactionCalls) (12 ∷ 8 ∷ 8 ∷ 9 ∷ 8 ∷ 8 ∷ [])) ⇒ (8 ∷ 8 ∷ 0 ∷ 0 ∷ 0 ∷ 0 ∷ [])
     -- "The new open number is the ended task's if that isn't 0 and the next task has the same; otherwise 0"
     ∷ (newOpen 8 8 ∷ newOpen 8 9 ∷ newOpen 8 0 ∷ newOpen 0 8 ∷ newOpen 0 0 ∷ []) ⇒ (8 ∷ 0 ∷ 0 ∷ 0 ∷ 0 ∷ [])
     ∷ []
@@ -262,7 +262,7 @@ words control memory log ring = 0xC0A1 ∷ 6 ∷ 2 ∷ 3 ∷ 8 ∷ 16 ∷ 22 ∷
 
 -- event 0 is posted with data 50: a run accepts it in 3 steps, serves it in 9 with 8 stores, and ends task 1 in 13 with 10 stores
 abbrev runs : ℕ → RunOutcome
-runs budget = run sample budget (formatted sample 2 3) (device true cleared (Free 0) 0 (Storing 0 0 50)) (totals 0 0 0)
+runs budget = run sample budget (formatted sample 2 3) (deviceWith true cleared (Free 0) 0 (Storing 0 0 50)) (totals 0 0 0)
 
 abbrev eventAccepted : List ℕ
 eventAccepted = words (0 ∷ 1 ∷ 0 ∷ 0 ∷ 0 ∷ 0 ∷ 0 ∷ 1 ∷ []) (replicate 6 0) (replicate 4 0) (0 ∷ 50 ∷ replicate 6 0)
@@ -280,7 +280,7 @@ runsWrong budget = run (withInstruction 0x0A31 0) budget (formatted sample 2 3) 
 abbrev atLoad : Ended → RunOutcome
 atLoad e =
     ran 4 e (words (0 ∷ 1 ∷ 0 ∷ 0 ∷ 0 ∷ 0 ∷ 0 ∷ 0 ∷ []) (replicate 6 0) (4 ∷ 9 ∷ 0 ∷ 0 ∷ []) (replicate 8 0))
-    (device true (set cleared 1 9) (task1 2) 1 Resting) (totals 10 20 32)
+    (deviceWith true (set cleared 1 9) (task1 2) 1 Resting) (totals 10 20 32)
 
 unfoldable pub runRows : List (Row RunOutcome)
 runRows =
@@ -333,48 +333,48 @@ recoveries =
 
 -- ---- "Numbers returned"
 
-abbrev numbered : ℕ → ℕ → ℕ → RefusalNumber
-numbered n x y = record { number = n; first = x; second = y }
+abbrev refusalNumber : ℕ → ℕ → ℕ → RefusalNumber
+refusalNumber n x y = record { number = n; first = x; second = y }
 
 unfoldable pub numbers : List (Row RefusalNumber)
 numbers =
-    refusal Refusal.ProgramLength ⇒ numbered 1 0 0
-    ∷ refusal Refusal.ProgramMark ⇒ numbered 2 0 0
-    ∷ refusal (Refusal.ProgramSize 41) ⇒ numbered 3 41 0
-    ∷ refusal (Refusal.Row 42) ⇒ numbered 4 42 0
-    ∷ refusal (Refusal.Instruction 43 44) ⇒ numbered 5 43 44
-    ∷ refusal Refusal.StoreContents ⇒ numbered 6 0 0
-    ∷ refusal (Refusal.Control 45) ⇒ numbered 7 45 0
-    ∷ refusal Refusal.NoEvent ⇒ numbered 8 0 0
-    ∷ refusal Refusal.StoreSize ⇒ numbered 9 0 0
-    ∷ refusal Refusal.HandlerBusy ⇒ numbered 20 0 0
-    ∷ refusal Refusal.QueueFull ⇒ numbered 21 0 0
-    ∷ refusal Refusal.PowerOff ⇒ numbered 22 0 0
-    ∷ refusal Refusal.Address ⇒ numbered 23 0 0
-    ∷ refusal Refusal.LogFull ⇒ numbered 24 0 0
-    ∷ refusal Refusal.State ⇒ numbered 25 0 0
-    ∷ refusal Refusal.PowerOn ⇒ numbered 26 0 0
+    refusal Refusal.ProgramLength ⇒ refusalNumber 1 0 0
+    ∷ refusal Refusal.ProgramMark ⇒ refusalNumber 2 0 0
+    ∷ refusal (Refusal.ProgramSize 41) ⇒ refusalNumber 3 41 0
+    ∷ refusal (Refusal.Row 42) ⇒ refusalNumber 4 42 0
+    ∷ refusal (Refusal.Instruction 43 44) ⇒ refusalNumber 5 43 44
+    ∷ refusal Refusal.StoreContents ⇒ refusalNumber 6 0 0
+    ∷ refusal (Refusal.Control 45) ⇒ refusalNumber 7 45 0
+    ∷ refusal Refusal.NoEvent ⇒ refusalNumber 8 0 0
+    ∷ refusal Refusal.StoreSize ⇒ refusalNumber 9 0 0
+    ∷ refusal Refusal.HandlerBusy ⇒ refusalNumber 20 0 0
+    ∷ refusal Refusal.QueueFull ⇒ refusalNumber 21 0 0
+    ∷ refusal Refusal.PowerOff ⇒ refusalNumber 22 0 0
+    ∷ refusal Refusal.Address ⇒ refusalNumber 23 0 0
+    ∷ refusal Refusal.LogFull ⇒ refusalNumber 24 0 0
+    ∷ refusal Refusal.State ⇒ refusalNumber 25 0 0
+    ∷ refusal Refusal.PowerOn ⇒ refusalNumber 26 0 0
     ∷ []
 
 -- ---- The serial run
 
-pub data Shown : Type 0 where
-  stopped : Shown
+pub data Summary : Type 0 where
+  stopped : Summary
   -- memory, current task, open number, records
-  reached : List ℕ → ℕ → ℕ → List Record → Shown
+  holding : List ℕ → ℕ → ℕ → List Record → Summary
 
-unfoldable pub shown : Option Serial → Shown
-shown Option.none = stopped
-shown (Option.some z) = reached (z .memory) (z .task) (z .openNumber) (z .records)
+unfoldable pub summary : Option Serial → Summary
+summary Option.none = stopped
+summary (Option.some z) = holding (z .memory) (z .task) (z .openNumber) (z .records)
 
 -- what the serial run makes of lines, with this much fuel, of another program, and of a list of calls with the device's answers
-abbrev serially : ℕ → List ℕ → List Line → Shown
-serially fuel p xs = shown (serial fuel (given p 2 3) xs)
+abbrev serially : ℕ → List ℕ → List Line → Summary
+serially fuel p xs = summary (serial fuel (given p 2 3) xs)
 
-abbrev fromLines : List Line → Shown
+abbrev fromLines : List Line → Summary
 fromLines xs = serially 4 sample xs
 
-abbrev fromCalls : List Call → Shown
+abbrev fromCalls : List Call → Summary
 fromCalls cs = serially 99 sample (history sample (formatted sample 2 3) offValue cs)
 
 abbrev line : Call → Answer → List Line
@@ -399,23 +399,23 @@ afterTask1 = 0 ∷ 0 ∷ 0 ∷ 0 ∷ 9 ∷ 0 ∷ []
 abbrev afterEvent0 : List ℕ
 afterEvent0 = 50 ∷ 0 ∷ 0 ∷ 0 ∷ 0 ∷ 0 ∷ []
 
-unfoldable pub serialRuns : List (Row Shown)
+unfoldable pub serialRuns : List (Row Summary)
 serialRuns =
     -- "It starts with memory 0, the entry task as current task, open number 0 and no records"
-    fromLines [] ⇒ reached untouched 1 0 []
+    fromLines [] ⇒ holding untouched 1 0 []
     -- "The answer accepted adds what the latest post with the answer done carried"
-    ∷ fromLines (accepts 0 50 ++ accepts 1 51) ⇒ reached untouched 1 0 (holds 0 50 ∷ holds 1 51 ∷ [])
-    ∷ fromLines (line (Post 0 50) Answer.Done ++ line Cut Answer.Done ++ accepts 1 51) ⇒ reached untouched 1 0 (holds 1 51 ∷ [])
-    ∷ fromLines (line (Post 0 50) Answer.Done ++ refusedPost ++ line Step Answer.Accepted) ⇒ reached untouched 1 0 (holds 0 50 ∷ [])
+    ∷ fromLines (accepts 0 50 ++ accepts 1 51) ⇒ holding untouched 1 0 (holds 0 50 ∷ holds 1 51 ∷ [])
+    ∷ fromLines (line (Post 0 50) Answer.Done ++ line Cut Answer.Done ++ accepts 1 51) ⇒ holding untouched 1 0 (holds 1 51 ∷ [])
+    ∷ fromLines (line (Post 0 50) Answer.Done ++ refusedPost ++ line Step Answer.Accepted) ⇒ holding untouched 1 0 (holds 0 50 ∷ [])
     ∷ fromLines (line Step Answer.Accepted) ⇒ stopped  -- before any post
     -- "for a task the current one"; "to DONE or to GO, which sets current task and open number"
-    ∷ fromLines (commits (Body.Task 1)) ⇒ reached afterTask1 2 8 []
-    ∷ fromLines (commits (Body.Task 1) ++ commits (Body.Task 2)) ⇒ reached afterTask1 3 8 []
-    ∷ fromLines (commits (Body.Task 1) ++ commits (Body.Task 2) ++ commits (Body.Task 3)) ⇒ reached afterTask1 0 0 []
-    ∷ fromLines (commits (Body.Task 1) ++ accepts 0 50) ⇒ reached afterTask1 2 8 (holds 0 50 ∷ [])
+    ∷ fromLines (commits (Body.Task 1)) ⇒ holding afterTask1 2 8 []
+    ∷ fromLines (commits (Body.Task 1) ++ commits (Body.Task 2)) ⇒ holding afterTask1 3 8 []
+    ∷ fromLines (commits (Body.Task 1) ++ commits (Body.Task 2) ++ commits (Body.Task 3)) ⇒ holding afterTask1 0 0 []
+    ∷ fromLines (commits (Body.Task 1) ++ accepts 0 50) ⇒ holding afterTask1 2 8 (holds 0 50 ∷ [])
     ∷ fromLines (commits (Body.Task 2)) ⇒ stopped
     -- "for an event that of the oldest record, which goes"
-    ∷ fromLines (accepts 0 50 ++ accepts 1 51 ++ commits (Body.Event 0)) ⇒ reached afterEvent0 1 0 (holds 1 51 ∷ [])
+    ∷ fromLines (accepts 0 50 ++ accepts 1 51 ++ commits (Body.Event 0)) ⇒ holding afterEvent0 1 0 (holds 1 51 ∷ [])
     ∷ fromLines (accepts 0 50 ++ accepts 1 51 ++ commits (Body.Event 1)) ⇒ stopped
     -- "at an event a record is there and the open number is 0"
     ∷ fromLines (commits (Body.Event 0)) ⇒ stopped
@@ -431,14 +431,14 @@ serialRuns =
     ∷ serially 9 (set sample 45 0x0F00) (accepts 0 50 ++ commits (Body.Event 0)) ⇒ stopped
     -- "instructions run from the first, on memory without a log": SAVEX 1 0 5, SAVE 2 5 and JUMP 3 for ADD;
     -- register 7 in the place of register 1; the counting program
-    ∷ serially 4 (withInstruction 0x0B10 5) (commits (Body.Task 1)) ⇒ reached (0 ∷ 0 ∷ 0 ∷ 0 ∷ 9 ∷ 9 ∷ []) 2 8 []
-    ∷ serially 4 (withInstruction 0x0920 5) (commits (Body.Task 1)) ⇒ reached afterTask1 2 8 []
-    ∷ serially 4 (withInstruction 0x0C00 3) (commits (Body.Task 1)) ⇒ reached afterTask1 2 8 []
-    ∷ serially 4 (set (set sample 29 0x0070) 31 0x0970) (commits (Body.Task 1)) ⇒ reached afterTask1 2 8 []
-    ∷ serially 5 counting (commits (Body.Task 0) ++ commits (Body.Task 0)) ⇒ reached (2 ∷ 0 ∷ []) 0 0 []
+    ∷ serially 4 (withInstruction 0x0B10 5) (commits (Body.Task 1)) ⇒ holding (0 ∷ 0 ∷ 0 ∷ 0 ∷ 9 ∷ 9 ∷ []) 2 8 []
+    ∷ serially 4 (withInstruction 0x0920 5) (commits (Body.Task 1)) ⇒ holding afterTask1 2 8 []
+    ∷ serially 4 (withInstruction 0x0C00 3) (commits (Body.Task 1)) ⇒ holding afterTask1 2 8 []
+    ∷ serially 4 (set (set sample 29 0x0070) 31 0x0970) (commits (Body.Task 1)) ⇒ holding afterTask1 2 8 []
+    ∷ serially 5 counting (commits (Body.Task 0) ++ commits (Body.Task 0)) ⇒ holding (2 ∷ 0 ∷ []) 0 0 []
     -- "All else, cuts and refusals too, changes nothing": the device's own answers
-    ∷ fromCalls (refilled ++ steps 18 ++ Cut ∷ Boot ∷ []) ⇒ reached (52 ∷ 0 ∷ 0 ∷ 0 ∷ 0 ∷ 51 ∷ []) 1 0 (holds 1 53 ∷ [])
-    ∷ fromCalls (transaction ++ steps 17 ++ Post 1 51 ∷ Cut ∷ Step ∷ []) ⇒ reached afterTask1 3 8 (holds 0 50 ∷ [])
+    ∷ fromCalls (refilled ++ steps 18 ++ Cut ∷ Boot ∷ []) ⇒ holding (52 ∷ 0 ∷ 0 ∷ 0 ∷ 0 ∷ 51 ∷ []) 1 0 (holds 1 53 ∷ [])
+    ∷ fromCalls (transactionCalls ++ steps 17 ++ Post 1 51 ∷ Cut ∷ Step ∷ []) ⇒ holding afterTask1 3 8 (holds 0 50 ∷ [])
     ∷ []
 
 -- ---- What the claims count by

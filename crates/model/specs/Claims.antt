@@ -14,14 +14,14 @@ use Rattle.model.specs.Store.{Store, view, Word, index, to, settled, slo
 use Rattle.model.specs.Types.{Answer, Body, Checked, Device, Ended, Free, Half, Handler, Place, Refusal, Resting, Run, Storing, Totals}
 
 -- "A refusal .. changes no word, state or total."
-pub record Unchanged (p s : List ℕ) (d : Device) (c : Call) (t : Totals) : Type 0 where
+pub record ChangesNothing (p s : List ℕ) (d : Device) (c : Call) (t : Totals) : Type 0 where
   pub store : settled s (call p s d c .write) ≡ s
   pub device : call p s d c .device ≡ d
   pub totals : counted t (call p s d c) ≡ t
 
 abbrev pub RefusedChangesNothing : Type 0
 RefusedChangesNothing =
-    (p s : List ℕ) (d : Device) (c : Call) (t : Totals) (r : Refusal) → call p s d c .answer ≡ Answer.Refused r → Unchanged p s d c t
+    (p s : List ℕ) (d : Device) (c : Call) (t : Totals) (r : Refusal) → call p s d c .answer ≡ Answer.Refused r → ChangesNothing p s d c t
 
 -- "a word is 16 bits, unsigned"
 abbrev pub TypedWords : List ℕ → Type 0

@@ -7,7 +7,7 @@ use Rattle.model.specs.Check.{instructionRule, check}
 use Rattle.model.specs.Device.{Outcome, out, refuse, step}
 use Rattle.model.specs.Store.{Word, Count, Address, Value, none, to, format, formatCheck}
 use Rattle.model.specs.Types.{Answer, Body, Checked, Half, Place, Refusal, Resting, Run}
-use Rattle.model.specs.Sample.{Row, _⇒_, at, closed, device, event1, opened, registers, sample, task1, withInstruction}
+use Rattle.model.specs.Sample.{Row, _⇒_, at, closed, deviceWith, event1, opened, registers, sample, task1, withInstruction}
 
 -- ---- Each opcode, as instruction 2 of task 1
 
@@ -16,13 +16,13 @@ executed w k = step (withInstruction w k) opened (at (task1 2))
 
 -- a register becomes a value; the body goes on at an instruction; the step stores a word and goes on at a place
 abbrev becomes : ℕ → ℕ → Outcome
-becomes a x = out none (device true (set registers a x) (task1 3) 1 Resting) Answer.Worked
+becomes a x = out none (deviceWith true (set registers a x) (task1 3) 1 Resting) Answer.Worked
 
 abbrev goesTo : ℕ → Outcome
 goesTo k = out none (at (task1 k)) Answer.Worked
 
-abbrev pub stores : Word → ℕ → Place → Outcome
-stores w x place = out (to w x) (at place) Answer.Stored
+abbrev pub storesWord : Word → ℕ → Place → Outcome
+storesWord w x place = out (to w x) (at place) Answer.Stored
 
 -- registers: 0, 2, 5, 12, 10, -5, hex 7FFF, hex 8000; the log has 777 for address 2
 unfoldable pub meanings : List (Row Outcome)
@@ -44,10 +44,10 @@ meanings =
     ∷ executed 0x0A31 3 ⇒ becomes 3 105  -- LOADX 3 1 3: memory word 3 + 2
     ∷ executed 0x0A31 0 ⇒ becomes 3 777  -- LOADX 3 1 0
     ∷ executed 0x0A31 4 ⇒ refuse (at (task1 2)) Refusal.Address  -- LOADX 3 1 4: word 6
-    ∷ executed 0x0930 2 ⇒ stores (Value 0) 12 (task1 3)  -- SAVE 3 2, overwrites
-    ∷ executed 0x0930 3 ⇒ stores (Address 1) 3 (Half (Body.Task 1) 2)  -- SAVE 3 3
-    ∷ executed 0x0B31 3 ⇒ stores (Address 1) 5 (Half (Body.Task 1) 2)  -- SAVEX 3 1 3: memory word 3 + 2
-    ∷ executed 0x0B31 0 ⇒ stores (Value 0) 12 (task1 3)  -- SAVEX 3 1 0
+    ∷ executed 0x0930 2 ⇒ storesWord (Value 0) 12 (task1 3)  -- SAVE 3 2, overwrites
+    ∷ executed 0x0930 3 ⇒ storesWord (Address 1) 3 (Half (Body.Task 1) 2)  -- SAVE 3 3
+    ∷ executed 0x0B31 3 ⇒ storesWord (Address 1) 5 (Half (Body.Task 1) 2)  -- SAVEX 3 1 3: memory word 3 + 2
+    ∷ executed 0x0B31 0 ⇒ storesWord (Value 0) 12 (task1 3)  -- SAVEX 3 1 0
     ∷ executed 0x0B31 4 ⇒ refuse (at (task1 2)) Refusal.Address  -- SAVEX 3 1 4: word 6
     ∷ executed 0x0C00 1 ⇒ goesTo 1  -- JUMP 1
     ∷ executed 0x0D00 1 ⇒ goesTo 1  -- JZ 0 1
@@ -58,8 +58,8 @@ meanings =
     ∷ executed 0x0E52 1 ⇒ goesTo 1  -- JLT 5 2 1: -5 is below 5
     ∷ executed 0x0E25 1 ⇒ goesTo 3  -- JLT 2 5 1
     ∷ executed 0x0E75 1 ⇒ goesTo 1  -- JLT 7 5 1: -32768 is below -5
-    ∷ executed 0x0F00 3 ⇒ stores Count 1 (Run (Body.Task 1) 2 1)  -- GO 3
-    ∷ step sample closed (at (event1 1)) ⇒ stores Count 1 (Run (Body.Event 1) 1 1)  -- DONE
+    ∷ executed 0x0F00 3 ⇒ storesWord Count 1 (Run (Body.Task 1) 2 1)  -- GO 3
+    ∷ step sample closed (at (event1 1)) ⇒ storesWord Count 1 (Run (Body.Event 1) 1 1)  -- DONE
     ∷ []
 
 -- ---- The fields of an instruction

@@ -74,29 +74,29 @@ eventCommit = controls 2 1 0 1 0 0 3 1
 
 -- ---- Devices
 
-abbrev pub device : Bool → List ℕ → Place → ℕ → Handler → Device
-device on r x l h = record { on = on; registers = r; place = x; count = l; handler = h }
+abbrev pub deviceWith : Bool → List ℕ → Place → ℕ → Handler → Device
+deviceWith on r x l h = record { on = on; registers = r; place = x; count = l; handler = h }
 
 abbrev pub cleared : List ℕ
 cleared = 0 ∷ 0 ∷ 0 ∷ 0 ∷ 0 ∷ 0 ∷ 0 ∷ 0 ∷ []
 
 -- "Off is one fixed value of the device, all else 0"; the same turned on
 abbrev pub offValue : Device
-offValue = device false cleared (Free 0) 0 Resting
+offValue = deviceWith false cleared (Free 0) 0 Resting
 
 abbrev pub onValue : Device
-onValue = device true cleared (Free 0) 0 Resting
+onValue = deviceWith true cleared (Free 0) 0 Resting
 
 -- one that is on, with values in its registers and one pair in the log
 abbrev pub registers : List ℕ
 registers = 0 ∷ 2 ∷ 5 ∷ 12 ∷ 10 ∷ 0xFFFB ∷ 0x7FFF ∷ 0x8000 ∷ []
 
 abbrev pub at : Place → Device
-at x = device true registers x 1 Resting
+at x = deviceWith true registers x 1 Resting
 
 -- the same with two
 abbrev pub twoPairs : Place → Device
-twoPairs x = device true registers x 2 Resting
+twoPairs x = deviceWith true registers x 2 Resting
 
 -- a body at an instruction
 abbrev pub task1 : ℕ → Place

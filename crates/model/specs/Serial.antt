@@ -144,12 +144,12 @@ tell fuel g z c Answer.Accepted = accept z (acceptedEvents Answer.Accepted)
 tell fuel g z c (Answer.Refused why) = some z
 
 unfoldable pub andThen : Option Serial → (Serial → Option Serial) → Option Serial
-andThen none f = none
-andThen (some z) f = f z
+andThen none next = none
+andThen (some z) next = next z
 
 unfoldable pub serialFrom : ℕ → Formatting → Serial → List Line → Option Serial
 serialFrom fuel g z [] = some z
-serialFrom fuel g z (x ∷ xs) = andThen (tell fuel g z (x .called) (x .answered)) (λ y. serialFrom fuel g y xs)
+serialFrom fuel g z (line ∷ lines) = andThen (tell fuel g z (line .called) (line .answered)) (λ z′. serialFrom fuel g z′ lines)
 
 unfoldable pub serial : ℕ → Formatting → List Line → Option Serial
-serial fuel g xs = serialFrom fuel g (serialStart g) xs
+serial fuel g lines = serialFrom fuel g (serialStart g) lines

@@ -8,7 +8,7 @@ use Rattle.model.specs.Device.{boot, post, step}
 use Rattle.model.specs.Store.{view, formatted}
 use Rattle.model.specs.Test.{pick}
 use Rattle.model.specs.Types.{Answer, Body, Device, Free, Half, Place, Refusal, Resting, Run, Storing}
-use Rattle.model.specs.Sample.{Row, _⇒_, at, cleared, closed, controls, device, event1, eventCommit, offValue, onValue, opened, registers, sample, task1, taskCommit, twoPairs, withInstruction}
+use Rattle.model.specs.Sample.{Row, _⇒_, at, cleared, closed, controls, deviceWith, event1, eventCommit, offValue, onValue, opened, registers, sample, task1, taskCommit, twoPairs, withInstruction}
 
 -- ---- What boot, a step and a post meet in the program and in the store's contents (6)
 
@@ -176,8 +176,8 @@ states =
     ∷ looked (set closed 32 2) (at (Run (Body.Event 2) 0 0)) ⇒ both Refusal.State
     -- "log count above L"
     ∷ looked opened (twoPairs (task1 0)) ⇒ neither Answer.Worked
-    ∷ looked opened (device true registers (task1 0) 3 Resting) ⇒ both Refusal.State
-    ∷ looked taskCommit (device true registers (Free 0) 3 Resting) ⇒ both Refusal.State
+    ∷ looked opened (deviceWith true registers (task1 0) 3 Resting) ⇒ both Refusal.State
+    ∷ looked taskCommit (deviceWith true registers (Free 0) 3 Resting) ⇒ both Refusal.State
     -- "commit place past its last store": n is 2, and 1
     ∷ looked taskCommit (at (Free 4)) ⇒ neither Answer.Stored
     ∷ looked taskCommit (at (Free 5)) ⇒ both Refusal.State
@@ -217,21 +217,21 @@ states =
     ∷ looked closed (at (Half (Body.Event 0) 0)) ⇒ stepAlone
     ∷ looked closed (at (Half (Body.Event 1) 0)) ⇒ neither Answer.Stored
     -- "a handler at work with the queue full or its event not below E"
-    ∷ looked opened (device true registers (task1 0) 1 (Storing 0 1 66)) ⇒ (Answer.Stored ∷ Answer.Refused Refusal.HandlerBusy ∷ [])
-    ∷ looked opened (device true registers (task1 0) 1 (Storing 0 2 66)) ⇒ both Refusal.State
-    ∷ looked (controls 0 1 8 0 0 0 2 1) (device true registers (task1 0) 1 (Storing 2 1 66)) ⇒ both Refusal.State
+    ∷ looked opened (deviceWith true registers (task1 0) 1 (Storing 0 1 66)) ⇒ (Answer.Stored ∷ Answer.Refused Refusal.HandlerBusy ∷ [])
+    ∷ looked opened (deviceWith true registers (task1 0) 1 (Storing 0 2 66)) ⇒ both Refusal.State
+    ∷ looked (controls 0 1 8 0 0 0 2 1) (deviceWith true registers (task1 0) 1 (Storing 2 1 66)) ⇒ both Refusal.State
     -- all of a handler's stores are made, and it is at work still
-    ∷ looked opened (device true registers (task1 0) 1 (Storing 2 1 66)) ⇒ (Answer.Accepted ∷ Answer.Refused Refusal.HandlerBusy ∷ [])
-    ∷ looked opened (device true registers (task1 0) 1 (Storing 3 1 66)) ⇒ both Refusal.State
+    ∷ looked opened (deviceWith true registers (task1 0) 1 (Storing 2 1 66)) ⇒ (Answer.Accepted ∷ Answer.Refused Refusal.HandlerBusy ∷ [])
+    ∷ looked opened (deviceWith true registers (task1 0) 1 (Storing 3 1 66)) ⇒ both Refusal.State
     -- "off unlike its fixed value"
     ∷ looked opened offValue ⇒ both Refusal.PowerOff
-    ∷ looked opened (device false (set cleared 0 1) (Free 0) 0 Resting) ⇒ both Refusal.State
-    ∷ looked opened (device false (set cleared 7 1) (Free 0) 0 Resting) ⇒ both Refusal.State
-    ∷ looked taskCommit (device false cleared (Free 1) 0 Resting) ⇒ both Refusal.State
-    ∷ looked opened (device false cleared (task1 0) 0 Resting) ⇒ both Refusal.State
-    ∷ looked opened (device false cleared (Half (Body.Task 1) 1) 0 Resting) ⇒ both Refusal.State
-    ∷ looked opened (device false cleared (Free 0) 1 Resting) ⇒ both Refusal.State
-    ∷ looked opened (device false cleared (Free 0) 0 (Storing 0 1 66)) ⇒ both Refusal.State
+    ∷ looked opened (deviceWith false (set cleared 0 1) (Free 0) 0 Resting) ⇒ both Refusal.State
+    ∷ looked opened (deviceWith false (set cleared 7 1) (Free 0) 0 Resting) ⇒ both Refusal.State
+    ∷ looked taskCommit (deviceWith false cleared (Free 1) 0 Resting) ⇒ both Refusal.State
+    ∷ looked opened (deviceWith false cleared (task1 0) 0 Resting) ⇒ both Refusal.State
+    ∷ looked opened (deviceWith false cleared (Half (Body.Task 1) 1) 0 Resting) ⇒ both Refusal.State
+    ∷ looked opened (deviceWith false cleared (Free 0) 1 Resting) ⇒ both Refusal.State
+    ∷ looked opened (deviceWith false cleared (Free 0) 0 (Storing 0 1 66)) ⇒ both Refusal.State
     -- "7, 25, 22": with two faults, the first
     ∷ looked (set opened 8 3) (at (Free 1)) ⇒ both (Refusal.Control 8)
     ∷ []

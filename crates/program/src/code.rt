@@ -4,7 +4,7 @@ ghost use mathlib.Core.Path.{_≡_};
 ghost use Rattle.model.specs.Check.{fieldsFit, lastFits, instructionRule, bodyRule};
 ghost use Rattle.model.specs.Program.{bodies, opcode, fieldA, fieldB, code, operand, decode, bounds, mayBeLast};
 ghost use Rattle.model.specs.Test.{each};
-ghost use Rattle.model.specs.Accepted.{Bodies, HasBody, HasInstruction, instructionAt, Legal};
+ghost use Rattle.model.specs.Accepted.{Bodies, HasBody, HasInstruction, bodyInstruction, Legal};
 ghost use Rattle.program.specs.Fields.{asBounds};
 use super::rows;
 use model::Checked;
@@ -110,7 +110,7 @@ pub fn operand(program: &[u16], body_number: u16, instruction: u16) -> u16
 // The instruction itself.
 pub fn instruction(program: &[u16], body_number: u16, instruction: u16) -> Instruction
     requires { ⌜ HasInstruction (now program) «body_number» instruction ⌝ }
-    ensures { λ r. ⌜ r ≡ instructionAt (now (program .entry)) «body_number» instruction ⌝ }
+    ensures { λ r. ⌜ r ≡ bodyInstruction (now (program .entry)) «body_number» instruction ⌝ }
 {
     let word = code(program, body_number, instruction);
     decode(

@@ -1,8 +1,8 @@
 -- `body_step` meets its contract: a refusal of the fetch, or what is done. Assumes nothing.
-use mathlib.Core.Path.{refl, sym, _∙_}
+use mathlib.Core.Path.{refl}
 use Rattle.model.specs.Store.{view, settled, storedWord}
 use Rattle.device.specs.Result.{device}
-use Rattle.body.proofs.Running.{running-at, there-refused}
+use Rattle.body.proofs.Running.{running-at, fetched-there, fetches-there, there-refused}
 use borrow.Author.Needs.{needs}
 use Rattle.body.proofs.body_step.Statement.{statement}
 use Rattle.body.proofs.body_step.Tie as tie
@@ -26,14 +26,32 @@ enum-known-got-2 : tie.Need-enum-known-got-2
 enum-known-got-2 c = search needs
 
 perform-requires : tie.Need-perform-requires
-perform-requires c κs = (c .before .before .before .before .before .before .before .before .before .before .before .before .pre .0, (c .before .before .before .before .before .before .before .before .before .before .before .before .pre .1, (sym (rw (c .before .before .before .before .before .before .before .before .before .body-at .ensures, c .before .before .before .before .before .before .before .before .instruction-at .ensures) at (c .before .before .before .before .before .fetch .ensures .0)) ∙ c .before .before .before .got2 .given .1, rw (c .before .before .before .before .before .before .before .before .before .body-at .ensures, c .before .before .before .before .before .before .before .before .instruction-at .ensures) at (c .before .before .before .before .before .fetch .ensures .1 _ (c .before .before .before .got2 .given .1)))))
+perform-requires c κs =
+    let body = c .before .before .before .before .before .before .before .before .before .body-at .ensures in
+    let instruction = c .before .before .before .before .before .before .before .before .instruction-at .ensures in
+    let given = c .before .before .before .got2 .given .1 in (
+      c .before .before .before .before .before .before .before .before .before .before .before .before .pre .0,
+      (
+        c .before .before .before .before .before .before .before .before .before .before .before .before .pre .1,
+        (
+          fetched-there _ _ body instruction _ _ (c .before .before .before .before .before .fetch .ensures .0) given,
+          fetches-there _ _ body instruction (c .before .before .before .before .before .fetch .ensures .1 _ given),
+        ),
+      ),
+    )
 
 same-length : tie.Need-same-length
 same-length c = search needs
 
 returns : tie.Need-returns
 unfolding settled storedWord
-returns c = rw (there-refused (c .before .before .before .before .before .before .before .before .before .before .before .args .program .now) (view (c .before .before .before .before .before .before .before .before .before .before .before .args .store .now)) (device (c .before .before .before .before .before .before .before .before .before .before .before .args .core) (c .before .before .before .before .before .before .before .before .before .before .before .args .registers .now)) (c .before .before .before .before .before .before .before .before .before .before .before .args .core .place) (c .before .before .before .before .before .before .before .before .before .before .before .pre .1) (sym (rw (c .before .before .before .before .before .before .before .before .body-at .ensures, c .before .before .before .before .before .before .before .instruction-at .ensures) at (c .before .before .before .before .fetch .ensures .0)) ∙ c .before .before .got .given .1), c .refused .ensures)
+returns c =
+    let body = c .before .before .before .before .before .before .before .before .body-at .ensures in
+    let instruction = c .before .before .before .before .before .before .before .instruction-at .ensures in
+    let there = fetched-there _ _ body instruction _ _ (c .before .before .before .before .fetch .ensures .0) (c .before .before .got .given .1) in
+    let v = view (c .before .before .before .before .before .before .before .before .before .before .before .args .store .now) in
+    let d = device (c .before .before .before .before .before .before .before .before .before .before .before .args .core) (c .before .before .before .before .before .before .before .before .before .before .before .args .registers .now) in
+    rw (there-refused (c .before .before .before .before .before .before .before .before .before .before .before .args .program .now) v d _ (c .before .before .before .before .before .before .before .before .before .before .before .pre .1) there, c .refused .ensures)
 
 same-length-2 : tie.Need-same-length-2
 same-length-2 c = search needs

@@ -3,7 +3,7 @@ use Prim.Native.Nat.{ℕ}
 use mathlib.Core.List.{List, [], _∷_}
 use mathlib.Core.Path.{ap, _∙_}
 use lib.ListN.{replicate}
-use Rattle.cases.specs.Seen.{storeAfter, cutAfter}
+use Rattle.cases.specs.Seen.{storeAfterCut, cutAfter}
 use Rattle.model.specs.Program.{word}
 use borrow.Author.Needs.{needs}
 use Rattle.cases.proofs.cut_after.Statement.{statement}
@@ -33,7 +33,7 @@ array-read-t19 c = search needs
 returns : tie.Need-returns
 unfolding cutAfter
 returns c =
-    let e = c .before .cut-in .ensures ∙ ap (λ (p : List ℕ). storeAfter p (replicate 24 0) (c .before .before .before .before .before .args .steps) (c .before .before .before .before .before .args .recovery)) (c .before .before .before .before .counting .ensures) in
+    let e = c .before .cut-in .ensures ∙ ap (λ (p : List ℕ). storeAfterCut p (replicate 24 0) (c .before .before .before .before .before .args .steps) (c .before .before .before .before .before .args .recovery)) (c .before .before .before .before .counting .ensures) in
     ap (λ (s : List ℕ). word s 8 ∷ word s 16 ∷ word s 17 ∷ []) e
 
 pub cut-after-spec : {M : Type 1} → statement M
