@@ -70,7 +70,8 @@ pub struct Sizes {
     pub fill: bool,
 }
 
-fn sizes(random: &mut Random) -> Sizes {
+/// Sizes from the smallest to the limits, small ones mostly.
+pub fn sizes(random: &mut Random) -> Sizes {
     let mut sizes = Sizes {
         tasks: random.from(1, 4),
         events: if random.percent(10) { 0 } else { random.from(1, 3) },
@@ -151,7 +152,7 @@ fn sizes(random: &mut Random) -> Sizes {
 }
 
 /// An instruction's two words.
-fn code(opcode: u16, a: usize, b: usize, k: usize) -> [u16; 2] {
+pub fn code(opcode: u16, a: usize, b: usize, k: usize) -> [u16; 2] {
     [opcode * 256 + (a as u16) * 16 + b as u16, k as u16]
 }
 
@@ -438,9 +439,19 @@ const MOODS: [Mood; 6] = [
     Mood { step: 45, run: 5, post: 45, cut: 3, aimed_cut: 10 },
 ];
 
+/// For exam sheets, which show what is left at cuts.
+const MOODS_WITH_CUTS: [Mood; 5] = [
+    Mood { step: 80, run: 5, post: 10, cut: 1, aimed_cut: 2 },
+    Mood { step: 70, run: 5, post: 20, cut: 2, aimed_cut: 5 },
+    Mood { step: 60, run: 5, post: 30, cut: 1, aimed_cut: 10 },
+    Mood { step: 60, run: 2, post: 15, cut: 1, aimed_cut: 25 },
+    Mood { step: 40, run: 25, post: 20, cut: 6, aimed_cut: 8 },
+];
+
 struct Schedule {
     random: Random,
     sizes: Sizes,
+    moods: &'static [Mood],
     mood: Mood,
     machine: Machine,
     kept: Machine,
@@ -497,7 +508,7 @@ impl Schedule {
     /// The next call of an undamaged list.
     fn next(&mut self) -> Call {
         if self.random.percent(2) {
-            self.mood = self.random.pick(&MOODS);
+            self.mood = self.random.pick(self.moods);
         }
         let device = self.machine.device;
         if !device.on {
@@ -539,6 +550,16 @@ impl Schedule {
             return self.post();
         }
         Call::Cut
+    }
+
+    /// The steps of a run, up to the one that is refused.
+    fn steps(&mut self, budget: u32) {
+        for _ in 0..budget {
+            self.make(Call::Step);
+            if self.stuck || !self.machine.device.on {
+                break;
+            }
+        }
     }
 
     /// A call on a damaged machine: any of them.
@@ -954,7 +975,7 @@ pub fn scenario(seed: u64, damaged: bool) -> Scenario {
     );
     let mood = random.pick(&MOODS);
     let kept = machine.clone();
-    let mut schedule = Schedule { random, sizes, mood, machine, kept, calls: Vec::new(), stuck: false };
+    let mut schedule = Schedule { random, sizes, moods: &MOODS, mood, machine, kept, calls: Vec::new(), stuck: false };
     // Large programs get short lists.
     let large = scenario.program.len() > 2000;
     let rounds = if damaged { schedule.random.from(1, 8) } else { 1 };
@@ -998,4 +1019,20 @@ pub fn scenario(seed: u64, damaged: bool) -> Scenario {
     }
     scenario.calls = schedule.calls;
     scenario
+}
+
+/// An undamaged list with many cuts, from a formatted store on: boots, steps, posts, cuts and checks. In the place of a run
+/// are its steps.
+pub fn calls_with_cuts(mut random: Random, sizes: Sizes, machine: Machine, count: usize) -> Vec<Call> {
+    let moods = &MOODS_WITH_CUTS;
+    let mood = random.pick(moods);
+    let kept = machine.clone();
+    let mut schedule = Schedule { random, sizes, moods, mood, machine, kept, calls: Vec::new(), stuck: false };
+    for _ in 0..count {
+        match schedule.next() {
+            Call::Run { budget } => schedule.steps(budget),
+            call => schedule.make(call),
+        }
+    }
+    schedule.calls
 }

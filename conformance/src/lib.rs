@@ -1,6 +1,6 @@
 //! A second, independent implementation of the split-phase task runtime, the serial run that its histories
 //! are held against, a generator of programs and schedules, and a driver that compares two implementations
-//! call by call.
+//! call by call. Above it, exam sheets and their comparison with another program's.
 
 pub mod cases;
 pub mod compare;
@@ -15,5 +15,6 @@ pub mod runtime;
 pub mod scenario;
 pub mod selfrun;
 pub mod serial;
+pub mod sheet;
 pub mod shorten;
 pub mod standin;

@@ -5,15 +5,24 @@ use crate::scenario::{Call, Scenario};
 
 /// The shortened scenario. `fails` tells whether a scenario still fails.
 pub fn shorten(scenario: &Scenario, fails: &dyn Fn(&Scenario) -> bool) -> Scenario {
-    let mut best = scenario.clone();
-    let mut part = best.calls.len().max(1);
+    let with = |calls: &[Call]| Scenario { calls: calls.to_vec(), ..scenario.clone() };
+    let mut best = with(&remove_parts(&scenario.calls, &|calls| fails(&with(calls))));
+    smaller_budgets(&mut best, fails);
+    gather_steps(&mut best, fails);
+    best
+}
+
+/// A list without the parts that it fails without.
+pub fn remove_parts<T: Clone>(list: &[T], fails: &dyn Fn(&[T]) -> bool) -> Vec<T> {
+    let mut best = list.to_vec();
+    let mut part = best.len().max(1);
     loop {
         let mut removed = false;
         let mut start = 0;
-        while start < best.calls.len() {
-            let end = (start + part).min(best.calls.len());
+        while start < best.len() {
+            let end = (start + part).min(best.len());
             let mut candidate = best.clone();
-            candidate.calls.drain(start..end);
+            candidate.drain(start..end);
             if fails(&candidate) {
                 best = candidate;
                 removed = true;
@@ -22,13 +31,10 @@ pub fn shorten(scenario: &Scenario, fails: &dyn Fn(&Scenario) -> bool) -> Scenar
             }
         }
         if part == 1 && !removed {
-            break;
+            return best;
         }
         part = (part / 2).max(1);
     }
-    smaller_budgets(&mut best, fails);
-    gather_steps(&mut best, fails);
-    best
 }
 
 /// Steps and runs one after another as one run.

@@ -6,20 +6,17 @@ use mathlib.Core.List.{List, [], _∷_, _++_, append-assoc, append-nil}
 use mathlib.Core.Logic.{_≢_}
 use mathlib.Core.Path.{_≡_, refl, sym, ap, _∙_, subst}
 use native.Mathlib.Omega.{arith}
-use Rattle.model.proofs.TestLaws.{impossible}
 use Rattle.exports.specs.Demand3.{Exchange, single, run-of, Makes, MakesAll, callsOf, allCalls, Answered, AllAnswered, RecoversTo, ExportsObserved, atFirst, Demand3OfExports}
 use Rattle.exports.specs.Exported.{HostState, wordsOf, PerformsInWords, RunPerformsInWords, totalsOf, totalsWords}
 use Rattle.model.proofs.CallLaws.{after-append, totals-append, boot-counts-nothing, cut-counts-nothing, post-counts-nothing, run-is-steps, totals-are-counts}
 use Rattle.model.proofs.Demand3.{demand3}
-use Rattle.model.proofs.Observed.{observed}
+use Rattle.model.proofs.Observed.{no-control, observed}
 use Rattle.model.proofs.Words.{fresh-device-words, words-stay-words, format-stays-words}
-use Rattle.model.specs.Answer.{refusal}
 use Rattle.model.specs.Calls.{Call, Boot, Step, Cut, Post, Now, call, afterCalls, steps, noTotals, counted, totalsAfter, RunOutcome as Defined, run}
 use Rattle.model.specs.Claims.{TypedWords, TypedHandler, TypedDevice, TypedCall, EndedSo, IsSteps, AreCounts}
-use Rattle.model.specs.Demand3.{isIn, mayMeet, Expected, Left, recoverySteps, recovering}
+use Rattle.model.specs.Demand3.{Expected, Left, recoverySteps, recovering}
 use Rattle.model.specs.Device.{Outcome, fresh, off, boot, cut, post, step}
 use Rattle.model.specs.Store.{view, settled, format, formatCheck}
-use Rattle.model.specs.Test.{_or_}
 use Rattle.model.specs.declared.Answer.{Answer}
 use Rattle.model.specs.declared.Checked.{Checked}
 use Rattle.model.specs.declared.Device.{Device}
@@ -30,18 +27,6 @@ use Rattle.model.specs.declared.Refusal.{Refusal}
 use Rattle.model.specs.declared.Totals.{Totals}
 use Rattle.words.proofs.Words.{back}
 use Rattle.words.specs.Words.{flag, placeWords, handlerWords, StoreLeft, HasWords, deviceOf, known, deviceWords, endedWords, refusedWords, checkedWords}
-
--- ---- 7 doesn't come up
-
-no-control : (c : Call) (w : ℕ) (a : Answer) → Expected c a → a ≡ Answer.Refused (Refusal.Control w) → ⊥
-unfolding isIn mayMeet refusal _or_
-no-control c w a h e = by-call c (subst (Expected c) e h)
-  where
-    by-call : (c : Call) → Expected c (Answer.Refused (Refusal.Control w)) → ⊥
-    by-call Boot h = impossible (cc)
-    by-call Step h = impossible (cc)
-    by-call Cut h = impossible (cc)
-    by-call (Post e x) h = impossible (cc)
 
 -- ---- what a host holds after the calls cs on the fresh store s is what the definitions have
 

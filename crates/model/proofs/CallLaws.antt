@@ -271,7 +271,7 @@ boot-stores-nothing p s d = go (bootCheck p s d)
     go (Checked.Refused r) = refl
 
 -- after a boot, whatever it answers
-booted : (p s : List ℕ) (d : Device) (cs : List Call) → afterCalls p s d (Boot ∷ cs) ≡ afterCalls p s (boot p s d .device) cs
+pub booted : (p s : List ℕ) (d : Device) (cs : List Call) → afterCalls p s d (Boot ∷ cs) ≡ afterCalls p s (boot p s d .device) cs
 unfolding afterCalls call settled
 booted p s d cs = rw (boot-stores-nothing p s d)
 

@@ -59,7 +59,7 @@ module _ (p : List ℕ) (sound : Sound p) (l q : ℕ) (sizes : sizesRule l q ≡
         records-is = refl;
       }
 
-  contents : storeRule p s ≡ Checked.Accepted
+  pub contents : storeRule p s ≡ Checked.Accepted
   unfolding storeRule formatted storeContents
   contents =
       let eight : 8 ≤ length s = omega (arith, sized .length-is) in

@@ -93,6 +93,7 @@ store-passed p s c e =
           record {
             most-memory = omega arith;
             sizes = sizes-passed _ _ limits;
+            memory-start = eqb-true _ _ memoryStart;
             log-start = omega arith;
             queue-start = omega arith;
             length-is = omega arith;

@@ -10,7 +10,7 @@ use lib.ListN.{length}
 use Rattle.model.specs.Check.{contentsRule, rowsInside, rowUsable, instructionRule, check}
 use Rattle.model.specs.Device.{recordStores, lastStores, endStores, look, headSound, namedRow, openSound, headIs, placeFits}
 use Rattle.model.specs.Program.{word, tasks, events, memoryWords, entry, total, bodies, start, instructions, firstBody, opcode, fieldA, fieldB, code, operand, decode, effectAt, bodyNumber}
-use Rattle.model.specs.Store.{Store, view, logAt, queueAt, storeLength, Record, carried, slotAfter, distance}
+use Rattle.model.specs.Store.{Store, view, memoryAt, logAt, queueAt, storeLength, Record, carried, slotAfter, distance}
 use Rattle.model.specs.Types.{Body, Checked, Device, Effect, Free, Half, Handler, Instruction, Place, Resting, Run, Storing}
 
 -- ---- the program's contents: `contentsRule`
@@ -122,6 +122,7 @@ pub record Sizes (l q : ℕ) : Type 0 where
 pub record Shaped (s : List ℕ) : Type 0 where
   pub most-memory : word s 1 ≤ 1024
   pub sizes : Sizes (word s 2) (word s 3)
+  pub memory-start : word s 5 ≡ memoryAt
   pub log-start : word s 6 ≡ logAt (word s 1)
   pub queue-start : word s 7 ≡ queueAt (word s 1) (word s 2)
   pub length-is : length s ≡ storeLength (word s 1) (word s 2) (word s 3)

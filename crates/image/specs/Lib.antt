@@ -1,0 +1,2 @@
+-- What program.img says, and what is promised of it.
+pub mod Image

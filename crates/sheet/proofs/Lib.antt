@@ -1,0 +1,4 @@
+pub mod All
+pub mod TextLaws
+pub mod ReachedLaws
+pub mod SheetLaws

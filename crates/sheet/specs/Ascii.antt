@@ -1,0 +1,9 @@
+-- A text as bytes, in ASCII. Assumes nothing.
+use Prim.Native.Char.{code}
+use Prim.Native.Nat.{ℕ}
+use Prim.Native.String.{String, [], _∷_}
+use mathlib.Core.List.{List, [] as no-bytes, _∷_ as _then-byte_}
+
+abbrev pub ascii : String → List ℕ
+ascii [] = no-bytes
+ascii (first ∷ rest) = _then-byte_ (code first) (ascii rest)
