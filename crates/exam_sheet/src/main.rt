@@ -6,7 +6,8 @@ use libc::STDOUT_FILENO;
 use model::Checked;
 use sheet::State;
 
-// "a missing file is empty", and so is one that can't be read. More bytes than are read can only be 1.
+// "a missing file is empty", and so is one that can't be read. What lies past the bytes that are read decides nothing
+// (`LongIsRefused`, crates/image).
 fn read_image(image: &mut [u8; 131072]) -> usize {
     let file = os::open_read(b"program.img");
     if file < 0 {

@@ -1,11 +1,11 @@
 -- Laws of program.img's words: how many there are and which, and an image whose count of words isn't its word 5. Assumes nothing.
-use Prim.Native.Nat.{ℕ, zero, suc, _+_, _/_, _%_, _<_, _≤_}
-use mathlib.Core.List.{List, [], _∷_, _++_}
+use Prim.Native.Nat.{ℕ, zero, suc, _/_, _%_, _<_, _≤_}
+use mathlib.Core.List.{List, [], _∷_}
 use mathlib.Core.Logic.{_≢_}
 use mathlib.Core.Path.{_≡_, refl, sym, _∙_}
 use native.Mathlib.Omega.{arith}
 use borrow.Author.Tests.{eq-eqb, ne-eqb, lt-leb, le-leb}
-use lib.ListN.{length, getD, length-append, List·getD-append}
+use lib.ListN.{length, length-append, List·getD-append}
 use lib.Seq.{getD-at}
 use Rattle.model.proofs.TestLaws.{same-or, must-stop, must-go, then-rest}
 use Rattle.model.specs.Check.{contentsRule, check}
@@ -13,7 +13,7 @@ use Rattle.model.specs.Program.{word, total}
 use Rattle.model.specs.Test.{must, _then_}
 use Rattle.model.specs.declared.Checked.{Checked}
 use Rattle.model.specs.declared.Refusal.{Refusal}
-use Rattle.image.specs.Image.{lowFirst, firstWords, programOf, imageCheck}
+use Rattle.image.specs.Image.{lowFirst, firstWords, programOf, imageCheck, LongIsRefused}
 
 pub words-length : (image : List ℕ) (n : ℕ) → length (firstWords image n) ≡ n
 unfolding firstWords
@@ -64,3 +64,10 @@ module _ (image : List ℕ) where
   pub image-accepted : imageCheck image ≡ Checked.Accepted → check (programOf image) ≡ Checked.Accepted
   unfolding imageCheck
   image-accepted e = then-rest _ _ e
+
+pub long-is-refused : LongIsRefused
+unfolding lowFirst
+long-is-refused image bytes long =
+    same-or (length image % 2) 0
+    (λ even. sym (unequal-is-1 image even (omega arith) (λ same. absurd (omega (arith, bytes 10, bytes 11)))))
+    (λ odd. sym (odd-is-1 image odd))

@@ -1,5 +1,5 @@
 -- Document 02, N1: program.img, and what is promised of it. A number below 256 is a byte. Assumes nothing.
-use Prim.Native.Nat.{ℕ, zero, suc, _+_, _*_, _/_, _%_, _≤_}
+use Prim.Native.Nat.{ℕ, zero, suc, _+_, _*_, _/_, _%_, _≤_, _<_}
 use mathlib.Core.List.{List, [], _∷_, _++_}
 use mathlib.Core.Path.{_≡_}
 use lib.Dec.{eqb}
@@ -40,3 +40,8 @@ pub record Loads (image words : List ℕ) (r : Loaded) : Type 0 where
 pub record StoreWords (p : List ℕ) (n : ℕ) : Type 0 where
   pub most : n ≤ 1046
   pub enough : check p ≡ Checked.Accepted → n ≡ storeLength (memoryWords p) 1 1
+
+-- More words than word 5 can say are 1: what lies past 131,072 bytes decides nothing.
+abbrev pub LongIsRefused : Type 0
+LongIsRefused =
+    (image : List ℕ) → ((i : ℕ) → word image i < 256) → 131072 ≤ length image → imageCheck image ≡ Checked.Refused Refusal.ProgramLength

@@ -1,39 +1,13 @@
--- All that is claimed of the sheet (specs/Printed.antt, specs/SheetRows.antt), with the theorems. Assumes nothing.
-use mathlib.Core.Path.{refl}
-use Rattle.image.specs.Image.{lowFirst, firstWords, programOf, imageCheck}
-use Rattle.model.proofs.Definitions.{definitions}
-use Rattle.model.specs.Starred.{counting}
+-- All that is claimed of the sheet (specs/SheetRows.antt, specs/Printed.antt), with the theorems. The rows stand first: the prover begins with
+-- this file, the first by name, so a wrong definition is refused at a row, and not at a law that repeats it. Assumes nothing.
+use Rattle.sheet.proofs.Rows.{sheet-rows}
 use Rattle.sheet.proofs.ReachedLaws.{recovery-is-printed}
 use Rattle.sheet.proofs.SheetLaws.{texts-are-the-sheet}
 use Rattle.sheet.specs.Printed.{TextsAreTheSheet, RecoveryIsPrinted}
-use Rattle.sheet.specs.Sheet.{digit, letter, posting, posted, scheduled, lastLine, linesFrom, decimalOf, decimal, spaced, hexDigit, hexWord, hexWords, header, leaves, memoryLine, recoveredMemory, refusedLine, unreadLine, otherLine, callLine, ifRead, sheetLines, ifChecked, sheet}
-use Rattle.sheet.specs.SheetRows.{imageOf, SheetRows}
+use Rattle.sheet.specs.SheetRows.{SheetRows}
+
+pub of-rows : SheetRows
+of-rows = sheet-rows
 
 pub of-texts : TextsAreTheSheet × RecoveryIsPrinted
 of-texts = (texts-are-the-sheet, recovery-is-printed)
-
-pub sheet-rows : SheetRows
-unfolding definitions counting imageOf lowFirst firstWords programOf imageCheck digit letter posting posted scheduled lastLine linesFrom decimalOf decimal spaced hexDigit hexWord hexWords header leaves memoryLine recoveredMemory refusedLine unreadLine otherLine callLine ifRead sheetLines ifChecked sheet
-sheet-rows =
-    record {
-      example = refl;
-      no-last-line-feed = refl;
-      event = refl;
-      goes-on-off = refl;
-      odd-count = refl;
-      missing-file = refl;
-      refused-program = refl;
-      refused-instruction = refl;
-      no-input = refl;
-      line-feed = refl;
-      capital = refl;
-      carriage-return = refl;
-      spaced = refl;
-      long-post = refl;
-      short-post = refl;
-      no-digit = refl;
-      refused-step = refl;
-      refused-post = refl;
-      queue-full = refl;
-      refused-boot = refl;
-    }

@@ -1,4 +1,5 @@
 pub mod All
+pub mod Rows
 pub mod TextLaws
 pub mod ReachedLaws
 pub mod SheetLaws

@@ -1,6 +1,6 @@
 -- What holds of a store and a device that a list of calls on the fresh store has reached, from demand 3: one call more reaches again, its
 -- answer is the defined one (7 doesn't come up), recovery isn't refused and ends, and the contents are sound. Assumes nothing.
-use Prim.Native.Nat.{ℕ, zero, suc, _-_, _+_, _≤_}
+use Prim.Native.Nat.{ℕ, suc, _-_, _+_, _≤_}
 use mathlib.Core.List.{List, [], _∷_, _++_}
 use mathlib.Core.Path.{_≡_, refl, sym, ap, _∙_, subst}
 use native.Mathlib.Nat.{sub-zero, le-refl}
@@ -19,7 +19,7 @@ use Rattle.model.proofs.ProgramLaws.{check-passed}
 use Rattle.model.proofs.StoreLaws.{rule-kept}
 use Rattle.model.proofs.TestLaws.{must-true, then-passed}
 use Rattle.model.specs.Accepted.{Shaped}
-use Rattle.model.specs.Calls.{Call, Boot, Step, Now, call, afterCalls, steps, recovered, recovery}
+use Rattle.model.specs.Calls.{Call, Boot, Now, call, afterCalls, steps, recovered, recovery}
 use Rattle.model.specs.Check.{check}
 use Rattle.model.specs.Demand3.{AsSerialRun, Expected, recoverySteps}
 use Rattle.model.specs.Device.{off, step}

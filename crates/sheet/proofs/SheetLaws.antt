@@ -1,10 +1,10 @@
 -- Laws of the sheet that is left: bytes fed one after the other, a byte that is held, the end of a line, the end of the schedule; and that the
 -- texts are the sheet. Assumes nothing.
-use Prim.Native.Nat.{ℕ, zero, suc, _+_, _^_, _≤_, _<_}
-use mathlib.Core.Bool.{Bool, true, false}
+use Prim.Native.Nat.{ℕ, _+_, _^_, _≤_, _<_}
+use mathlib.Core.Bool.{true, false}
 use mathlib.Core.List.{List, [], _∷_, _++_, append-assoc, append-nil}
 use mathlib.Core.Logic.{_⊎_, inl, inr, _≢_}
-use mathlib.Core.Option.{Option, none, some}
+use mathlib.Core.Option.{none, some}
 use mathlib.Core.Path.{_≡_, refl, sym, ap, _∙_, subst}
 use native.Mathlib.Numerals.{add-one}
 use native.Mathlib.Omega.{arith}
@@ -15,7 +15,7 @@ use Rattle.device.specs.Agree.{Performs}
 use Rattle.device.specs.Result.{ofCall}
 use Rattle.device.specs.declared.CallResult.{CallResult}
 use Rattle.image.proofs.ImageLaws.{image-accepted}
-use Rattle.image.specs.Image.{programOf, imageCheck}
+use Rattle.image.specs.Image.{programOf}
 use Rattle.model.proofs.TestLaws.{pick-true, pick-false, pick-case, same-or, clash, impossible}
 use Rattle.model.specs.Answer.{refusal}
 use Rattle.model.specs.Calls.{Call, Cut, call, unlessRefused}
@@ -29,7 +29,8 @@ use Rattle.model.specs.declared.Checked.{Checked}
 use Rattle.model.specs.declared.Device.{Device}
 use Rattle.model.specs.declared.Refusal.{Refusal}
 use Rattle.sheet.proofs.ReachedLaws.{fresh-reached, fresh-length, fresh-format, reached-answer, reached-next}
-use Rattle.sheet.specs.Printed.{SheetState, holding, linesLeft, left, Reached, Ready, Fits, Begins, Feeds, TakesByte, EndsLine, Holds, nextNumber, stateAt, afterCall, Piece, allFed, allText, FeedsAll, Finishes, TextsAreTheSheet}
+use Rattle.sheet.specs.Inside.{TakesByte, EndsLine, Holds, nextNumber, stateAt, afterCall}
+use Rattle.sheet.specs.Printed.{SheetState, holding, linesLeft, left, Reached, Ready, Fits, Begins, Feeds, Piece, allFed, allText, FeedsAll, TextsAreTheSheet}
 use Rattle.sheet.specs.Sheet.{scheduled, lineFeed, lastLine, linesFrom, header, memoryLine, recoveredMemory, refusedLine, unreadLine, otherLine, callLine, ifRead, sheetLines, ifChecked, sheet}
 use Rattle.sheet.specs.declared.State.{State}
 

@@ -17,7 +17,7 @@ use Rattle.model.specs.Calls.{unlessRefused}
 use Rattle.model.specs.Test.{pick}
 use Rattle.model.specs.declared.Answer.{Answer}
 use Rattle.model.specs.declared.Checked.{Checked}
-use Rattle.sheet.specs.Printed.{Puts, toldLine}
+use Rattle.sheet.specs.Inside.{Puts, toldLine}
 use Rattle.sheet.specs.Sheet.{space, decimalOf, decimal, hexWord, hexWords, refusedLine, ifChecked}
 use Rattle.words.specs.Words.{refusedWords, answerWords, checkedWords}
 

@@ -1,5 +1,6 @@
--- The exam sheet, its worked rows, and what the library promises of it.
+-- The exam sheet, its worked rows, what the library promises of it, and what its inner functions promise.
 pub mod Ascii
 pub mod Sheet
 pub mod SheetRows
 pub mod Printed
+pub mod Inside

@@ -1,4 +1,4 @@
--- Worked rows of the sheet. proofs/All.antt has the theorem, in which the checker computes every row from the definitions.
+-- Worked rows of the sheet. proofs/Rows.antt has the theorem, in which the checker computes every row from the definitions.
 use Prim.Native.Nat.{ℕ, _/_, _%_}
 use Prim.Native.String.{String}
 use mathlib.Core.Path.{_≡_}

@@ -1,6 +1,6 @@
 // A line of the schedule at its end: the call that it is, made on the sheet's store and device, and its line of the sheet.
-ghost use Prim.Native.Nat.{_+_, _*_, _^_, _≤_, _<_};
-ghost use lib.ListN.{length, take};
+ghost use Prim.Native.Nat.{_+_, _≤_};
+ghost use lib.ListN.{length};
 ghost use mathlib.Core.Bool.{true, false};
 ghost use mathlib.Core.List.{[], _∷_};
 ghost use mathlib.Core.Path.{_≡_};
@@ -12,7 +12,8 @@ ghost use Rattle.model.specs.Device.{off};
 ghost use Rattle.model.specs.Program.{word as wordOf};
 ghost use Rattle.model.specs.Store.{view};
 ghost use Rattle.sheet.specs.Sheet.{refusedLine, unreadLine};
-ghost use Rattle.sheet.specs.Printed.{holding, Prints, Shows, PrintsCut, TakesLine, stateAt, afterCall};
+ghost use Rattle.sheet.specs.Inside.{Prints, Shows, PrintsCut, TakesLine, stateAt, afterCall};
+ghost use Rattle.sheet.specs.Printed.{holding};
 use crate::Printed;
 use crate::Scheduled;
 use crate::State;

@@ -1,16 +1,15 @@
-// Exam sheets from a schedule. A host loads program.img and learns how many words a store has (crate image), and lends these words twice,
-// for the store and for a copy of it, and a text. `begin` prints the sheet's first lines into the text, `feed` those of the bytes of the schedule that it takes,
-// `finish` that of a last line without a line feed; the host writes the text out each time. What the texts are, one behind the other, is
-// said in specs/Printed.antt. No call has a `requires`.
+// Exam sheets from a schedule. A host loads program.img and learns how many words a store has (crate image); these it lends twice, for the
+// store and for a copy of it, and a text. `begin` prints the sheet's first lines into the text, `feed` those of the bytes of the schedule that
+// it takes, `finish` that of a last line without a line feed; the host writes the text out each time. That the texts, one behind the other,
+// are the sheet is said in specs/Printed.antt. No call has a `requires`.
 mod calls;
 mod schedule;
 mod text;
 
 ghost use Prim.Native.Nat.{_+_, _≤_, _<_};
 ghost use lib.ListN.{length, take};
-ghost use mathlib.Core.List.{List, [], _∷_};
-ghost use mathlib.Core.Path.{_≡_};
-ghost use Rattle.sheet.specs.Printed.{holding, Ready, Fits, Begins, Feeds, Finishes, TakesByte};
+ghost use Rattle.sheet.specs.Inside.{TakesByte};
+ghost use Rattle.sheet.specs.Printed.{holding, Ready, Fits, Begins, Feeds, Finishes};
 use model::Checked;
 use model::Device;
 use store::format;

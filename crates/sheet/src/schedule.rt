@@ -4,7 +4,8 @@ ghost use lib.ListN.{length, take};
 ghost use mathlib.Core.List.{List};
 ghost use mathlib.Core.Path.{_≡_};
 ghost use Rattle.sheet.specs.Sheet.{digit, letter, posting, posted, scheduled};
-ghost use Rattle.sheet.specs.Printed.{callOf, holding, Holds};
+ghost use Rattle.sheet.specs.Inside.{callOf, Holds};
+ghost use Rattle.sheet.specs.Printed.{holding};
 use crate::Scheduled;
 use crate::State;
 

@@ -1,13 +1,13 @@
 // The sheet's lines, each put at a place of the text; a function answers where what it put ends.
 ghost use Prim.Native.Nat.{_+_, _*_, _≤_, _<_};
-ghost use lib.ListN.{length, take};
-ghost use mathlib.Core.List.{[], _∷_, _++_};
+ghost use lib.ListN.{length};
+ghost use mathlib.Core.List.{[], _∷_};
 ghost use mathlib.Core.Path.{_≡_};
 ghost use Rattle.model.specs.Answer.{refusal};
 ghost use Rattle.model.specs.Calls.{unlessRefused};
 ghost use Rattle.sheet.specs.Sheet.{space, hexDigit, hexWord, hexWords, memoryLine, unreadLine, refusedLine, ifChecked};
 ghost use Rattle.sheet.specs.Sheet.{decimal as decimalOf, spaced as spacedOf};
-ghost use Rattle.sheet.specs.Printed.{Puts, toldLine, numbersOf};
+ghost use Rattle.sheet.specs.Inside.{Puts, toldLine, numbersOf};
 use model::Answer;
 use model::Checked;
 

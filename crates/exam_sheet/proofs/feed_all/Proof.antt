@@ -1,6 +1,5 @@
 -- `feed_all` ends: it counts its turns down. Assumes nothing.
 use mathlib.Core.Path.{_≡_, refl, _∙_}
-use native.Mathlib.Omega.{arith}
 use lib.ListN.{length}
 use borrow.Author.Needs.{needs}
 use Rattle.exam_sheet.proofs.feed_all.Statement.{statement}

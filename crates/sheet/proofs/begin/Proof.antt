@@ -1,7 +1,7 @@
 -- `begin` meets its contract: the header, and the line of a program that the check refuses. Assumes nothing.
 use Prim.Native.Nat.{ℕ}
 use mathlib.Core.List.{List, [], _++_}
-use mathlib.Core.Path.{_≡_, refl, ap, _∙_}
+use mathlib.Core.Path.{refl, ap, _∙_}
 use denote.Ref.{now}
 use native.Mathlib.Omega.{arith}
 use Rattle.sheet.proofs.SheetLaws.{begins-refused, begins-accepted}

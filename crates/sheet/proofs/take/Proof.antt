@@ -5,7 +5,6 @@ use native.Mathlib.Omega.{arith}
 use lib.ListN.{length}
 use Rattle.sheet.proofs.TextLaws.{puts-nothing}
 use Rattle.sheet.proofs.SheetLaws.{feeds-ended, feeds-held, feeds-line}
-use Rattle.sheet.specs.Printed.{holding}
 use borrow.Author.Needs.{needs}
 use Rattle.sheet.proofs.take.Statement.{statement}
 use Rattle.sheet.proofs.take.Tie as tie

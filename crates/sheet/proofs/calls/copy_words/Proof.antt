@@ -1,11 +1,11 @@
 -- `calls::copy_words` meets its contract. The invariant: so many words are copied. The measure is how many are left. Assumes nothing.
-use Prim.Native.Nat.{ℕ, _+_, _-_, _*_, _≤_, zero-le}
+use Prim.Native.Nat.{ℕ, _+_, _-_, _≤_, zero-le}
 use mathlib.Core.List.{List, [], _∷_, _++_}
 use mathlib.Core.Path.{_≡_, refl, sym, ap, _∙_}
 use native.Mathlib.Numerals.{add-one}
 use native.Mathlib.Omega.{arith}
 use denote.Ref.{now}
-use lib.ListN.{length, set, getD, take, length-set}
+use lib.ListN.{length, getD, take, length-set}
 use lib.Seq.{take-suc-set, take-suc, take-all}
 use borrow.Author.Needs.{needs}
 use Rattle.sheet.proofs.calls.copy_words.Statement.{statement}

@@ -2,16 +2,15 @@
 use Prim.Native.Nat.{ℕ}
 use mathlib.Core.Bool.{false}
 use mathlib.Core.List.{List, [], _∷_}
-use mathlib.Core.Path.{_≡_, ap, _∙_}
+use mathlib.Core.Path.{ap, _∙_}
 use denote.Ref.{now}
 use Rattle.device.specs.Result.{Result}
 use Rattle.model.specs.Calls.{Boot, afterCalls, steps}
 use Rattle.model.specs.Demand3.{recoverySteps}
 use Rattle.model.specs.Device.{off, cut}
 use Rattle.model.specs.Store.{view}
-use Rattle.model.specs.declared.Device.{Device}
 use Rattle.sheet.proofs.ReachedLaws.{reached-copy}
-use Rattle.sheet.specs.Printed.{afterCall}
+use Rattle.sheet.specs.Inside.{afterCall}
 use Rattle.sheet.specs.Sheet.{memoryLine}
 use borrow.Author.Needs.{needs}
 use Rattle.sheet.proofs.calls.cut.Statement.{statement}

@@ -3,9 +3,9 @@ use mathlib.Core.Path.{refl, sym, ap, _∙_}
 use denote.Ref.{now}
 use lib.ListN.{length}
 use Rattle.model.specs.Calls.{Boot, Step, Cut, Post, call}
-use Rattle.model.specs.declared.Answer.{Answer}
 use Rattle.sheet.proofs.SheetLaws.{ends-unread, ends-cut, ends-other}
-use Rattle.sheet.specs.Printed.{holding, callOf}
+use Rattle.sheet.specs.Inside.{callOf}
+use Rattle.sheet.specs.Printed.{holding}
 use Rattle.sheet.specs.Sheet.{callLine}
 use borrow.Author.Needs.{needs}
 use Rattle.sheet.proofs.calls.line.Statement.{statement}

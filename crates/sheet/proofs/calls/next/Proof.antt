@@ -1,7 +1,7 @@
 -- `calls::next` meets its contract: its test is the definition's. Assumes nothing.
 use Rattle.model.proofs.TestLaws.{tests}
 use Rattle.model.specs.Test.{pick}
-use Rattle.sheet.specs.Printed.{nextNumber}
+use Rattle.sheet.specs.Inside.{nextNumber}
 use borrow.Author.Needs.{needs}
 use Rattle.sheet.proofs.calls.next.Statement.{statement}
 use Rattle.sheet.proofs.calls.next.Tie as tie

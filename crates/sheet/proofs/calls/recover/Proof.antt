@@ -1,12 +1,11 @@
 -- `calls::recover` meets its contract. The invariant: the steps that are left, from here, lead where all of them lead. The measure is how many are left. Assumes nothing.
 use Prim.Native.Nat.{ℕ, suc, _+_, _-_, _≤_, zero-le}
-use mathlib.Core.List.{List, _∷_}
 use mathlib.Core.Path.{_≡_, refl, sym, ap, _∙_}
 use native.Mathlib.Omega.{arith}
 use denote.Ref.{now}
 use lib.ListN.{length}
 use Rattle.model.proofs.CallLaws.{booted}
-use Rattle.model.specs.Calls.{Boot, Now, afterCalls}
+use Rattle.model.specs.Calls.{Now, afterCalls}
 use Rattle.model.specs.Calls.{steps as stepsOf}
 use Rattle.model.specs.Device.{fresh, off, boot}
 use Rattle.model.specs.declared.Device.{Device}

@@ -1,7 +1,6 @@
 -- `calls::start` meets its contract. Assumes nothing.
 use mathlib.Core.Path.{refl}
 use Rattle.model.specs.Device.{fresh}
-use borrow.Author.Needs.{needs}
 use Rattle.sheet.proofs.calls.start.Statement.{statement}
 use Rattle.sheet.proofs.calls.start.Tie as tie
 

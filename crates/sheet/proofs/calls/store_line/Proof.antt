@@ -1,12 +1,11 @@
 -- `calls::store_line` meets its contract: the memory's words, where the contents are sound. Assumes nothing.
-use Prim.Native.Nat.{ℕ, _+_, _-_, _≤_}
+use Prim.Native.Nat.{ℕ, _+_, _-_}
 use mathlib.Core.List.{List, []}
 use mathlib.Core.Path.{_≡_, ap, _∙_}
 use native.Mathlib.Omega.{arith}
 use denote.Ref.{now}
-use lib.ListN.{length, take, drop}
+use lib.ListN.{take, drop}
 use Rattle.model.specs.Program.{word}
-use Rattle.model.specs.Store.{memoryAt}
 use Rattle.sheet.proofs.TextLaws.{puts-nothing}
 use Rattle.sheet.specs.Sheet.{memoryLine}
 use borrow.Author.Needs.{needs}

@@ -1,5 +1,5 @@
 -- `schedule::digit` meets its contract: its tests are the definition's. Assumes nothing.
-use Prim.Native.Nat.{_≤_, _<_}
+use Prim.Native.Nat.{_<_}
 use native.Mathlib.Omega.{arith}
 use Rattle.model.proofs.TestLaws.{tests}
 use Rattle.model.specs.Test.{pick, _and_}

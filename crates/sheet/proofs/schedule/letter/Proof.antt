@@ -2,7 +2,6 @@
 use Rattle.model.proofs.TestLaws.{tests}
 use Rattle.model.specs.Test.{pick}
 use Rattle.sheet.specs.Sheet.{letter}
-use borrow.Author.Needs.{needs}
 use Rattle.sheet.proofs.schedule.letter.Statement.{statement}
 use Rattle.sheet.proofs.schedule.letter.Tie as tie
 

@@ -1,7 +1,7 @@
 -- `text::answer_line` meets its contract: the answer's words tell its line. Assumes nothing.
 use mathlib.Core.Path.{ap, _∙_}
 use Rattle.sheet.proofs.TextLaws.{puts-as, answer-told}
-use Rattle.sheet.specs.Printed.{toldLine}
+use Rattle.sheet.specs.Inside.{toldLine}
 use borrow.Author.Needs.{needs}
 use Rattle.sheet.proofs.text.answer_line.Statement.{statement}
 use Rattle.sheet.proofs.text.answer_line.Tie as tie

@@ -1,7 +1,7 @@
 -- `text::check_line` meets its contract: the words of what was checked tell its line. Assumes nothing.
 use mathlib.Core.Path.{ap, _∙_}
 use Rattle.sheet.proofs.TextLaws.{puts-as, check-told}
-use Rattle.sheet.specs.Printed.{toldLine}
+use Rattle.sheet.specs.Inside.{toldLine}
 use borrow.Author.Needs.{needs}
 use Rattle.sheet.proofs.text.check_line.Statement.{statement}
 use Rattle.sheet.proofs.text.check_line.Tie as tie

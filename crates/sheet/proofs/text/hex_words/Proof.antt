@@ -7,8 +7,8 @@ use native.Mathlib.Omega.{arith}
 use denote.Ref.{now}
 use lib.ListN.{length, take}
 use lib.Seq.{take-suc, take-all}
-use Rattle.sheet.proofs.TextLaws.{puts-nothing, puts-then, puts-as, hex-append, hex-one, hex-length}
-use Rattle.sheet.specs.Printed.{Puts}
+use Rattle.sheet.proofs.TextLaws.{puts-nothing, puts-then, puts-as, hex-append, hex-one}
+use Rattle.sheet.specs.Inside.{Puts}
 use Rattle.sheet.specs.Sheet.{hexWord, hexWords}
 use borrow.Author.Needs.{needs}
 use Rattle.sheet.proofs.text.hex_words.Statement.{statement}

@@ -4,7 +4,7 @@ use native.Mathlib.Omega.{arith}
 use borrow.Author.Tests.{eq-eqb, ne-eqb}
 use Rattle.model.proofs.TestLaws.{pick-true, pick-false}
 use Rattle.sheet.proofs.TextLaws.{puts-nothing, puts-as}
-use Rattle.sheet.specs.Printed.{toldLine}
+use Rattle.sheet.specs.Inside.{toldLine}
 use borrow.Author.Needs.{needs}
 use Rattle.sheet.proofs.text.line_of.Statement.{statement}
 use Rattle.sheet.proofs.text.line_of.Tie as tie
