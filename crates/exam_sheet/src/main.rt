@@ -11,6 +11,7 @@ use sheet::State;
 fn read_image(image: &mut [u8; 131072]) -> usize {
     let file = os::open_read(b"program.img");
     if file < 0 {
+        os::fail(b"program.img");
         return 0;
     }
     let count = io::read_full(file, image);
@@ -18,15 +19,33 @@ fn read_image(image: &mut [u8; 131072]) -> usize {
     count
 }
 
-// The first bytes of the text, as many as the library says.
-fn write_first(text: &[u8], end: usize) {
-    if end <= text.len() {
-        io::write_all(STDOUT_FILENO, &text[..end]);
+// The first bytes of the text, as many as the library says; whether they were written.
+fn write_first(text: &[u8], end: usize) -> bool {
+    if end > text.len() {
+        return false;
     }
+    if !io::write_all(STDOUT_FILENO, &text[..end]) {
+        os::fail(b"standard output");
+        return false;
+    }
+    true
 }
 
-fn write(text: &[u8; 65536], end: usize) {
-    write_first(text, end);
+fn write(text: &[u8; 65536], end: usize) -> bool {
+    write_first(text, end)
+}
+
+// A sheet that can't be written out any more.
+fn stopped(state: State) -> State {
+    let device = state.device;
+    let line = state.line;
+    State {
+        device,
+        number: state.number,
+        line,
+        held: state.held,
+        ended: true,
+    }
 }
 
 // Bytes of the schedule, and their text, as often as the text is full.
@@ -42,8 +61,10 @@ fn feed(
     let mut from = 0;
     while from < bytes.len() {
         let fed = sheet::feed(program, store, copy, text, &bytes[from..], now);
-        write(text, fed.written);
         now = fed.state;
+        if !write(text, fed.written) {
+            return stopped(now);
+        }
         from += fed.taken;
     }
     now
@@ -100,7 +121,9 @@ fn feed_all(
 fn print(checked: Checked, program: &[u16], store: &mut [u16], copy: &mut [u16]) {
     let mut text = [0u8; 65536];
     let begun = sheet::begin(checked, program, store, &mut text);
-    write(&text, begun.end);
+    if !write(&text, begun.end) {
+        return;
+    }
     let state = begun.state;
     let last = feed_all(program, store, copy, &mut text, state);
     let end = sheet::finish(program, store, copy, &mut text, last);
