@@ -30,7 +30,7 @@ use Rattle.model.specs.declared.Checked.{Checked}
 use Rattle.model.specs.declared.Device.{Device}
 use Rattle.model.specs.declared.Refusal.{Refusal}
 use Rattle.sheet.specs.Printed.{Reached, RecoveryIsPrinted}
-use Rattle.sheet.specs.Sheet.{leaves, recoveredMemory}
+use Rattle.sheet.specs.Sheet.{memoryLeft, recoveredMemory}
 
 -- ---- the fresh store of a program that the check accepts
 
@@ -119,10 +119,10 @@ module _ (p s : List ℕ) (d : Device) (h : Reached p s d) where
       (found .store, subst (λ (x : List ℕ). recovery p (recoverySteps (view x)) x ≡ recovered (recoverySteps (view x)) (found .store)) (h .store) (found .ends))
 
   by-steps : recoveredMemory p s ≡ view (afterCalls p s off (Boot ∷ steps (recoverySteps (view s))) .store) .memory
-  unfolding recoveredMemory leaves
+  unfolding recoveredMemory memoryLeft
   by-steps =
       let (z, ends) = reached-recovers in
-      ap leaves ends
+      ap memoryLeft ends
       ∙ sym (ap (λ (x : List ℕ). view x .memory) (recovery-by-calls p s (recoverySteps (view s)) (recoverySteps (view s)) z ends .leaves))
 
   -- a copy after these steps: its contents, and its memory
@@ -133,8 +133,8 @@ module _ (p s : List ℕ) (d : Device) (h : Reached p s d) where
       (shape .most-memory, shape .memory-start, omega (arith, shape .length-is), ap (λ (x : List ℕ). view x .memory) e ∙ sym by-steps)
 
 pub recovery-is-printed : RecoveryIsPrinted
-unfolding recoveredMemory leaves
-recovery-is-printed p s d h = let (z, ends) = reached-recovers p s d h in (z, ends, ap leaves ends)
+unfolding recoveredMemory memoryLeft
+recovery-is-printed p s d h = let (z, ends) = reached-recovers p s d h in (z, ends, ap memoryLeft ends)
 
 -- ---- steps that are left
 

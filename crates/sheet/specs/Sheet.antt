@@ -51,11 +51,12 @@ scheduled line = pick (eqb (length line) 1) (letter (word line 0)) (pick (eqb (l
 abbrev pub lineFeed : ℕ
 lineFeed = code "\n"
 
--- the lines of the bytes that follow, where a line has begun
+-- a last line without its line feed, if there is a byte of it
 unfoldable pub lastLine : List ℕ → List (List ℕ)
 lastLine [] = []
 lastLine (byte ∷ bytes) = (byte ∷ bytes) ∷ []
 
+-- the lines of the bytes that follow, where a line has begun
 unfoldable pub linesFrom : List ℕ → List ℕ → List (List ℕ)
 linesFrom begun [] = lastLine begun
 linesFrom begun (byte ∷ bytes) = pick (eqb byte lineFeed) (begun ∷ linesFrom [] bytes) (linesFrom (begun ++ (byte ∷ [])) bytes)
@@ -95,17 +96,17 @@ unfoldable pub header : List ℕ
 header = ascii "call memory\n"
 
 -- "for each cut the call's number in decimal and the words that uncut recovery would leave"
-unfoldable pub leaves : Recovery → List ℕ
-leaves (recovered n s) = view s .memory
-leaves (refused r) = []
-leaves unfinished = []
+unfoldable pub memoryLeft : Recovery → List ℕ
+memoryLeft (recovered n s) = view s .memory
+memoryLeft (refused r) = []
+memoryLeft unfinished = []
 
 unfoldable pub memoryLine : ℕ → List ℕ → List ℕ
 memoryLine n memory = decimal n ++ hexWords memory ++ (lineFeed ∷ [])
 
 -- what uncut recovery, with as many steps as it takes, leaves of the store s
 unfoldable pub recoveredMemory : List ℕ → List ℕ → List ℕ
-recoveredMemory p s = leaves (recovery p (recoverySteps (view s)) s)
+recoveredMemory p s = memoryLeft (recovery p (recoverySteps (view s)) s)
 
 -- "A refused call prints its number, "refused", the refusal's number and its two place words in decimal."
 unfoldable pub refusedLine : ℕ → RefusalNumber → List ℕ
@@ -121,7 +122,7 @@ refusedLine n r =
 unfoldable pub unreadLine : ℕ → List ℕ
 unreadLine n = decimal n ++ ascii " unread\n"
 
--- the line of call c, of number n; none where it is no cut and isn't refused
+-- the line of call c, of number n, which is no cut: none, unless it is refused
 unfoldable pub otherLine : List ℕ → List ℕ → Device → ℕ → Call → List ℕ
 otherLine p s d n c = unlessRefused (call p s d c .answer) (λ r. refusedLine n (refusal r)) []
 
