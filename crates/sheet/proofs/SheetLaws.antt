@@ -29,7 +29,7 @@ use Rattle.model.specs.declared.Checked.{Checked}
 use Rattle.model.specs.declared.Device.{Device}
 use Rattle.model.specs.declared.Refusal.{Refusal}
 use Rattle.sheet.proofs.ReachedLaws.{fresh-reached, fresh-length, fresh-format, reached-answer, reached-next}
-use Rattle.sheet.specs.Inside.{TakesByte, EndsLine, Holds, nextNumber, stateAt, afterCall}
+use Rattle.sheet.specs.Inside.{TakesByte, EndsLine, HoldsByte, nextNumber, stateAt, afterCall}
 use Rattle.sheet.specs.Printed.{SheetState, holding, linesLeft, left, Reached, Ready, Fits, Begins, Feeds, Piece, allFed, allText, FeedsAll, TextsAreTheSheet}
 use Rattle.sheet.specs.Sheet.{scheduled, lineFeed, lastLine, linesFrom, header, memoryLine, recoveredMemory, refusedLine, unreadLine, otherLine, callLine, ifRead, sheetLines, ifChecked, sheet}
 use Rattle.sheet.specs.declared.State.{State}
@@ -129,7 +129,7 @@ long-alike p s d n line line′ l l′ (byte ∷ more) =
 
 -- ---- a byte that is held
 
-pub feeds-held : (p : List ℕ) (n byte : ℕ) (h g : SheetState) → h .ended ≡ false → byte ≢ lineFeed → Ready p h n → Holds byte h g → Feeds p n h (byte ∷ []) [] g
+pub feeds-held : (p : List ℕ) (n byte : ℕ) (h g : SheetState) → h .ended ≡ false → byte ≢ lineFeed → Ready p h n → HoldsByte byte h g → Feeds p n h (byte ∷ []) [] g
 unfolding left linesFrom
 feeds-held p n byte h g going other ready holds =
     record {

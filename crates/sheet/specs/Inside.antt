@@ -48,7 +48,7 @@ pub record EndsLine (p : List ℕ) (n : ℕ) (h : SheetState) (xs : List ℕ) (g
   pub text : h .number + 1 < 2 ^ 64 → (lines : List (List ℕ)) → linesLeft p h (h .line ∷ lines) ≡ xs ++ linesLeft p g lines
 
 -- a byte more of the line that has begun; seven bytes are kept of a longer one.
-pub record Holds (byte : ℕ) (h g : SheetState) : Type 0 where
+pub record HoldsByte (byte : ℕ) (h g : SheetState) : Type 0 where
   pub store : g .store ≡ h .store
   pub device : g .device ≡ h .device
   pub number : g .number ≡ h .number

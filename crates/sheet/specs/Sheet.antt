@@ -36,15 +36,15 @@ posting event first second third fourth =
     (some (Post event (4096 * first + 256 * second + 16 * third + fourth)))
     none
 
-unfoldable pub posted : List ℕ → Option Call
-posted line =
+unfoldable pub postOf : List ℕ → Option Call
+postOf line =
     pick (eqb (word line 0) (code "p"))
     (posting (digit (word line 1)) (digit (word line 2)) (digit (word line 3)) (digit (word line 4)) (digit (word line 5)))
     none
 
 -- the call of a line, if the line can be read
 unfoldable pub scheduled : List ℕ → Option Call
-scheduled line = pick (eqb (length line) 1) (letter (word line 0)) (pick (eqb (length line) 6) (posted line) none)
+scheduled line = pick (eqb (length line) 1) (letter (word line 0)) (pick (eqb (length line) 6) (postOf line) none)
 
 -- ---- "Calls stand one to a line (the last line feed may be missing)"
 

@@ -3,8 +3,8 @@ ghost use Prim.Native.Nat.{ℕ};
 ghost use lib.ListN.{length, take};
 ghost use mathlib.Core.List.{List};
 ghost use mathlib.Core.Path.{_≡_};
-ghost use Rattle.sheet.specs.Sheet.{digit, letter, posting, posted, scheduled};
-ghost use Rattle.sheet.specs.Inside.{callOf, Holds};
+ghost use Rattle.sheet.specs.Sheet.{digit, letter, posting, postOf, scheduled};
+ghost use Rattle.sheet.specs.Inside.{callOf, HoldsByte};
 ghost use Rattle.sheet.specs.Printed.{holding};
 use crate::Scheduled;
 use crate::State;
@@ -68,9 +68,9 @@ fn posting(event: u16, first: u16, second: u16, third: u16, fourth: u16) -> Sche
 }
 
 // "p, an event digit and four data digits"
-fn posted(line: &[u8]) -> Scheduled
+fn post_of(line: &[u8]) -> Scheduled
     requires { ⌜ length (now line) ≡ 6 ⌝ }
-    ensures { λ r. ⌜ callOf r ≡ posted (now (line .entry)) ⌝ }
+    ensures { λ r. ⌜ callOf r ≡ postOf (now (line .entry)) ⌝ }
 {
     if line[0] != b'p' {
         return Scheduled::Unread;
@@ -91,7 +91,7 @@ fn read(line: &[u8]) -> Scheduled
         return letter(line[0]);
     }
     if line.len() == 6 {
-        return posted(line);
+        return post_of(line);
     }
     Scheduled::Unread
 }
@@ -108,7 +108,7 @@ pub fn held(line: &[u8], count: usize) -> Scheduled
 
 // One byte more of the line. Seven bytes are no call, whatever follows.
 pub fn hold(byte: u8, state: State) -> State
-    ensures { λ r. ⌜ ((s : List ℕ) → Holds byte (holding state s) (holding r s)) ⌝ }
+    ensures { λ r. ⌜ ((s : List ℕ) → HoldsByte byte (holding state s) (holding r s)) ⌝ }
 {
     let held = state.held;
     if held >= 7 {

@@ -17,12 +17,12 @@ returns : tie.Need-returns
 unfolding scheduled
 returns c = c .letter .ensures ∙ sym (pick-true _ _ (eq-eqb _ _ (c .before .before .if1 .taken)))
 
-posted-requires : tie.Need-posted-requires
-posted-requires c κs = search needs
+post-of-requires : tie.Need-post-of-requires
+post-of-requires c κs = search needs
 
 returns-2 : tie.Need-returns-2
 unfolding scheduled
-returns-2 c = c .posted .ensures ∙ sym (pick-false _ _ (ne-eqb _ _ (c .before .before .if1 .left)) ∙ pick-true _ _ (eq-eqb _ _ (c .before .if2 .taken)))
+returns-2 c = c .post-of .ensures ∙ sym (pick-false _ _ (ne-eqb _ _ (c .before .before .if1 .left)) ∙ pick-true _ _ (eq-eqb _ _ (c .before .if2 .taken)))
 
 returns-3 : tie.Need-returns-3
 unfolding scheduled
@@ -31,4 +31,4 @@ returns-3 c = sym (pick-false _ _ (ne-eqb _ _ (c .before .if1 .left)) ∙ pick-f
 pub read-spec : {M : Type 1} → statement M
 read-spec =
     tie.close
-    (tie.spec shared-slice-read-letter letter-requires returns posted-requires returns-2 returns-3)
+    (tie.spec shared-slice-read-letter letter-requires returns post-of-requires returns-2 returns-3)

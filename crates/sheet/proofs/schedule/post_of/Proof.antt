@@ -1,17 +1,17 @@
--- `schedule::posted` meets its contract: its digits are the definition's. Assumes nothing.
+-- `schedule::post_of` meets its contract: its digits are the definition's. Assumes nothing.
 use mathlib.Core.Path.{sym, _∙_}
 use borrow.Author.Tests.{eq-eqb, ne-eqb}
 use Rattle.model.proofs.TestLaws.{pick-true, pick-false}
-use Rattle.sheet.specs.Sheet.{posting, posted}
+use Rattle.sheet.specs.Sheet.{posting, postOf}
 use borrow.Author.Needs.{needs}
-use Rattle.sheet.proofs.schedule.posted.Statement.{statement}
-use Rattle.sheet.proofs.schedule.posted.Tie as tie
+use Rattle.sheet.proofs.schedule.post_of.Statement.{statement}
+use Rattle.sheet.proofs.schedule.post_of.Tie as tie
 
 shared-slice-read-if1 : tie.Need-shared-slice-read-if1
 shared-slice-read-if1 c = search needs
 
 returns : tie.Need-returns
-unfolding posted
+unfolding postOf
 returns c = sym (pick-false _ _ (ne-eqb _ _ (c .if1 .taken)))
 
 shared-slice-read-digit : tie.Need-shared-slice-read-digit
@@ -48,11 +48,11 @@ posting-requires : tie.Need-posting-requires
 posting-requires c κs = search needs
 
 returns-2 : tie.Need-returns-2
-unfolding posted
+unfolding postOf
 returns-2 c = c .posting .ensures ∙ rw (c .before .before .before .before .before .before .before .before .before .digit .ensures, c .before .before .before .before .before .before .before .digit2 .ensures, c .before .before .before .before .before .digit3 .ensures, c .before .before .before .digit4 .ensures, c .before .digit5 .ensures) (sym (pick-true _ _ (eq-eqb _ _ (c .before .before .before .before .before .before .before .before .before .before .before .if1 .left))))
 
-pub posted-spec : {M : Type 1} → statement M
-posted-spec =
+pub post-of-spec : {M : Type 1} → statement M
+post-of-spec =
     tie.close
     (tie.spec
     shared-slice-read-if1
