@@ -68,7 +68,7 @@
 #define RUNTIME_REFUSAL_ROW 4            /* a body's row; place: body, tasks first */
 #define RUNTIME_REFUSAL_INSTRUCTION 5    /* place: body, instruction */
 #define RUNTIME_REFUSAL_STORE_CONTENTS 6 /* contents or length, or unlike the program's memory words */
-#define RUNTIME_REFUSAL_CONTROL 7        /* control words, log addresses, records; place: the word of a broken rule */
+#define RUNTIME_REFUSAL_CONTROL 7        /* control words, log addresses, records; place: the lowest word of a broken rule */
 #define RUNTIME_REFUSAL_NO_EVENT 8       /* the program has no such event */
 #define RUNTIME_REFUSAL_STORE_SIZE 9     /* log pairs or queue records, when formatting */
 #define RUNTIME_REFUSAL_HANDLER_BUSY 20  /* a handler is at work */

@@ -1,7 +1,7 @@
 //! The counting program of the paper and the cases under it, for any implementation. A case that fails panics
 //! with what differs; `all` catches that and prints the case's name.
 
-use crate::reference::{broken_words, DONE, GO, JLT, JUMP, LOADX, SAVE, SET, SHR};
+use crate::reference::{DONE, GO, JLT, JUMP, LOADX, SAVE, SET, SHR};
 use crate::runtime::*;
 use crate::scenario::{Call, Outcome};
 
@@ -381,28 +381,146 @@ fn words_that_are_no_device(runtime: &dyn Runtime) {
     }
 }
 
-fn places_of_seven(runtime: &dyn Runtime) {
-    // Two broken rules that need no other, and one passed over.
-    let mut bench = Bench::counting(runtime);
-    bench.store[9] = 1;
-    bench.store[10] = 3;
-    bench.store[15] = 2;
-    assert_eq!(broken_words(&bench.program, &bench.store), [9, 15]);
-    // A waiting record of no event: slot 0 of the ring, at 20.
-    let mut bench = Bench::counting(runtime);
-    bench.store[15] = 1;
-    bench.store[20] = 1;
-    assert_eq!(broken_words(&bench.program, &bench.store), [20]);
-    assert_eq!(bench.step(), refused_at(7, 20, 0));
-    // In phase 2 with word 12 behind head, that record doesn't wait.
-    bench.store[8] = 2;
-    bench.store[12] = 1;
-    assert!(broken_words(&bench.program, &bench.store).is_empty());
-    // Log addresses count in phases 1 and 2.
-    bench.store[11] = 1;
-    bench.store[18] = 2;
-    assert_eq!(broken_words(&bench.program, &bench.store), [18]);
-    assert_eq!(bench.step(), refused_at(7, 18, 0));
+/// T 2, E 2, M 4; task 0 has transaction number 5. With L and Q 3 the log addresses are words 20, 22 and 24, and the
+/// events of the ring's slots words 26, 28, 30 and 32.
+const TWO_TASKS: [u16; 30] = [
+    0xC0B1, 2, 2, 4, 0, 30, // contents
+    18, 2, 5, 22, 2, 0, // the tasks' rows
+    26, 1, 0, 28, 1, 0, // the events' rows
+    0x0900, 0, 0x0F00, 1, 0x0900, 1, 0x0F00, 0, // the tasks: SAVE, GO
+    0x1000, 0, 0x1000, 0, // the events: DONE
+];
+
+/// Right words 8 to 15 for each phase. Records wait in slots 3 and 0; in phase 2, where 12 is the slot after 14, in
+/// slot 0.
+const RIGHT: [[u16; 8]; 3] = [
+    [0, 0, 0, 0, 0, 0, 3, 1],
+    [1, 0, 0, 2, 0, 5, 3, 1],
+    [2, 0, 0, 2, 0, 0, 3, 1],
+];
+
+/// A store with right control words, but for these words.
+fn damaged<'a>(runtime: &'a dyn Runtime, phase: usize, words: &[(usize, u16)]) -> Bench<'a> {
+    let mut bench = Bench::new(runtime, &TWO_TASKS, 3, 3);
+    bench.store[8..16].copy_from_slice(&RIGHT[phase]);
+    assert_eq!(bench.boot(), Answer::Done);
+    for (index, word) in words {
+        bench.store[*index] = *word;
+    }
+    bench
+}
+
+/// In a phase, with these words: the place that a boot names, and the one that a step, a post and a run name.
+type Places<'a> = (usize, &'a [(usize, u16)], u16, u16);
+
+/// Off or on: 7 comes before 22, 25 and 26.
+fn places(runtime: &dyn Runtime, table: &[Places]) {
+    for (phase, words, at_boot, at_step) in table {
+        for device in [Device::OFF, Device::ON] {
+            let mut bench = damaged(runtime, *phase, words);
+            bench.device = device;
+            let before = bench.store.clone();
+            let text = format!("phase {phase}, {words:?}, {device:?}");
+            assert_eq!(bench.boot(), refused_at(7, *at_boot, 0), "boot, {text}");
+            assert_eq!(bench.step(), refused_at(7, *at_step, 0), "step, {text}");
+            assert_eq!(bench.post(0, 9), refused_at(7, *at_step, 0), "post, {text}");
+            let end = End::Refused(Refusal { number: 7, place: (*at_step, 0) });
+            let run = runtime.run(&bench.program, &mut bench.store, &mut bench.device, &mut bench.totals, 9);
+            assert_eq!(run, RunAnswer { steps: 0, end }, "run, {text}");
+            assert_eq!((bench.store, bench.device, bench.totals), (before, device, Totals::default()), "{text}");
+        }
+    }
+}
+
+fn the_lowest_of_several_words(runtime: &dyn Runtime) {
+    let table: [Places; 17] = [
+        // "8 at most 2"; the rules of 10 to 13 need it.
+        (0, &[(8, 3), (9, 2), (10, 6), (11, 4), (12, 4), (13, 6), (14, 4), (15, 4)], 8, 8),
+        (2, &[(8, 65535), (15, 4)], 8, 8),
+        // "9 below T"; 10's rule in phase 0 needs it.
+        (0, &[(9, 2), (10, 6)], 9, 9),
+        (0, &[(9, 65535), (14, 4)], 9, 9),
+        (1, &[(9, 2), (13, 6), (15, 65535)], 9, 9),
+        // "10 is 0 or the transaction number of task 9" needs a row: step and post don't look at it first.
+        (0, &[(10, 6), (14, 4)], 10, 14),
+        (0, &[(10, 6), (15, 4)], 10, 15),
+        // "In phase 2, 10 is 0" needs none.
+        (2, &[(10, 5), (11, 4), (15, 4)], 10, 10),
+        // "In phases 1 and 2, 11 at most L", and then no log address is looked at.
+        (1, &[(11, 4), (12, 2), (20, 4)], 11, 11),
+        (2, &[(11, 65535), (14, 4), (15, 4)], 11, 11),
+        // "In phase 1, 12 below T and 13 is 0 or task 12's number; 10 is free."
+        (1, &[(12, 2), (13, 6)], 12, 12),
+        (1, &[(12, 2), (14, 4), (15, 4)], 12, 12),
+        (1, &[(13, 6), (14, 4)], 13, 14),
+        (1, &[(10, 6), (13, 6), (15, 4)], 13, 15),
+        // In phase 0, 11, 12 and 13 are free.
+        (0, &[(11, 4), (12, 4), (13, 6), (14, 4), (15, 4)], 14, 14),
+        // A control word, a log address and a record.
+        (1, &[(15, 4), (20, 4), (26, 2)], 15, 15),
+        (2, &[(9, 2), (22, 4), (26, 2)], 9, 9),
+    ];
+    places(runtime, &table);
+}
+
+fn word_12_in_phase_2(runtime: &dyn Runtime) {
+    let table: [Places; 9] = [
+        // "At most Q needs no other word".
+        (2, &[(12, 4), (14, 4)], 12, 12),
+        (2, &[(12, 4), (15, 4)], 12, 12),
+        (2, &[(12, 65535), (14, 65535), (15, 65535)], 12, 12),
+        (2, &[(9, 2), (10, 1), (11, 4), (12, 4), (14, 4), (15, 4)], 9, 9),
+        // "The rest needs 14 and 15": 2 is neither 3 nor the slot after it.
+        (2, &[(12, 2), (14, 4)], 14, 14),
+        (2, &[(12, 2), (15, 4)], 15, 15),
+        (2, &[(12, 2), (26, 2)], 12, 12),
+        // "The slot after it with the queue not empty": 14 and 15 are 3.
+        (2, &[(15, 3), (20, 4)], 12, 12),
+        (2, &[(15, 3), (11, 4)], 11, 11),
+    ];
+    places(runtime, &table);
+}
+
+/// What a boot names, and what a step answers that uses one word, on this device.
+type Used<'a> = (usize, &'a [(usize, u16)], u16, Place, Answer);
+
+fn the_word_that_a_step_uses(runtime: &dyn Runtime) {
+    let no_body = |commit: u16| Place::NoBody { commit };
+    let running = |body: Body| Place::Running { body, instruction: 0, ending: 0 };
+    let (task, event) = (running(Body::Task(0)), running(Body::Event(0)));
+    let table: [Used; 13] = [
+        // The record at head is in slot 3, the lowest in slot 0. Slots 1 and 2 don't wait.
+        (0, &[(32, 2), (26, 2)], 26, no_body(0), refused_at(7, 32, 0)),
+        (0, &[(32, 2), (26, 2)], 26, event, refused_at(7, 32, 0)),
+        (0, &[(28, 2), (30, 2), (32, 2)], 32, no_body(0), refused_at(7, 32, 0)),
+        (0, &[(26, 2)], 26, no_body(0), Answer::Chosen(Body::Event(0))),
+        // Word 10 by the row of task 9: choosing reads none, the task's first instruction does.
+        (0, &[(10, 6), (26, 2), (32, 2)], 10, no_body(0), Answer::Chosen(Body::Task(0))),
+        (0, &[(10, 6), (26, 2), (32, 2)], 10, task, refused_at(7, 10, 0)),
+        (0, &[(26, 2), (32, 2)], 26, task, Answer::Stored),
+        // "The first n log addresses below M", of which a step copies one; the third isn't among them.
+        (1, &[(13, 6), (20, 4), (22, 4), (26, 2)], 13, no_body(0), refused_at(7, 20, 0)),
+        (1, &[(13, 6), (20, 4), (22, 4), (26, 2)], 13, no_body(1), refused_at(7, 22, 0)),
+        (1, &[(13, 6), (20, 4), (22, 4), (26, 2)], 13, no_body(2), Answer::Stored),
+        (1, &[(20, 4), (22, 65535), (24, 4)], 20, no_body(1), refused_at(7, 22, 0)),
+        (2, &[(22, 4), (26, 2)], 22, no_body(1), refused_at(7, 22, 0)),
+        // In phase 2 the records start at word 12.
+        (2, &[(24, 4), (26, 65535), (32, 2)], 26, no_body(1), Answer::Stored),
+    ];
+    for (phase, words, at_boot, place, answer) in table {
+        let mut bench = damaged(runtime, phase, words);
+        assert_eq!(bench.boot(), refused_at(7, at_boot, 0), "boot, phase {phase}, {words:?}");
+        bench.device = Device { place, ..Device::ON };
+        // A post uses none of these words.
+        let device = bench.device;
+        assert_eq!(bench.post(0, 9), Answer::Done, "post, phase {phase}, {words:?}, {place:?}");
+        bench.device = device;
+        assert_eq!(bench.step(), answer, "step, phase {phase}, {words:?}, {place:?}");
+    }
+    // A run meets the second pair after a step; word 13 isn't used.
+    let Bench { program, mut store, mut device, mut totals, .. } = damaged(runtime, 1, &[(13, 6), (22, 4), (26, 2)]);
+    let end = End::Refused(Refusal { number: 7, place: (22, 0) });
+    assert_eq!(runtime.run(&program, &mut store, &mut device, &mut totals, 9), RunAnswer { steps: 1, end });
 }
 
 fn an_event_ends_with_done_only(runtime: &dyn Runtime) {
@@ -411,7 +529,7 @@ fn an_event_ends_with_done_only(runtime: &dyn Runtime) {
 }
 
 /// The cases by name.
-pub const CASES: [(&str, fn(&dyn Runtime)); 20] = [
+pub const CASES: [(&str, fn(&dyn Runtime)); 22] = [
     ("accepted and lengths", accepted_and_lengths),
     ("tasks and last instruction", tasks_and_last_instruction),
     ("load address", load_address),
@@ -430,7 +548,9 @@ pub const CASES: [(&str, fn(&dyn Runtime)); 20] = [
     ("the largest budget", the_largest_budget),
     ("totals stay at the largest value", totals_stay_at_the_largest_value),
     ("words that are no device", words_that_are_no_device),
-    ("places of seven", places_of_seven),
+    ("the lowest of several words", the_lowest_of_several_words),
+    ("word 12 in phase 2", word_12_in_phase_2),
+    ("the word that a step uses", the_word_that_a_step_uses),
     ("an event ends with done only", an_event_ends_with_done_only),
 ];
 

@@ -1,11 +1,11 @@
 //! The comparing driver: two implementations perform the same list of calls, and after every call the answer,
-//! the store, the device state and the totals must be equal, and after a step the word that it stored. In refusal 7
-//! the place is free: each side's must be the word of a broken rule. A refused call, and one without a device, must
-//! have changed nothing. Also the counts of what came up.
+//! the store, the device state and the totals must be equal, and after a step the word that it stored. A refused
+//! call, and one without a device, must have changed nothing. Also the counts of what came up.
 
-use crate::reference::{broken_words, PHASE};
+use crate::reference::PHASE;
 use crate::runtime::*;
 use crate::scenario::{outcome_text, Call, Machine, Outcome, Scenario, CALL_NAMES, LARGE_BUDGET};
+use crate::seven::Several;
 
 /// Where and how two implementations differ, or one breaks a demand.
 #[derive(Clone, Debug)]
@@ -41,15 +41,13 @@ pub struct Counts {
     pub largest_later: u64,
     /// Steps, runs among them, that made a store while a total was at its largest value.
     pub at_largest: u64,
+    /// Refusals 7 with several rules broken.
+    pub several: Several,
 }
 
 impl Counts {
     pub fn all_calls(&self) -> u64 {
         self.calls.iter().sum()
-    }
-
-    pub fn refusals_of(&self, number: usize) -> u64 {
-        self.refusals.iter().map(|by_number| by_number[number]).sum()
     }
 
     /// Count a call by what it found and what it gave.
@@ -100,6 +98,7 @@ impl Counts {
         for (sum, more) in self.singles_mut().into_iter().zip(other.singles()) {
             *sum += more.1;
         }
+        self.several.add_all(&other.several);
     }
 
     /// The counts that are one number each, with their names.
@@ -194,29 +193,6 @@ pub fn word_difference(a: &[u16], b: &[u16]) -> String {
     "no difference".into()
 }
 
-/// Whether two outcomes agree, the place of 7 left aside.
-fn agree(a: &Outcome, b: &Outcome) -> bool {
-    if a == b {
-        return true;
-    }
-    let same_beside = match (a, b) {
-        (Outcome::Run(a), Outcome::Run(b)) => a.steps == b.steps,
-        (Outcome::Step(a), Outcome::Step(b)) => a.stored == b.stored,
-        (Outcome::Answer(_), Outcome::Answer(_)) => true,
-        _ => false,
-    };
-    match (a.refusal(), b.refusal()) {
-        (Some(a), Some(b)) => same_beside && a.number == 7 && b.number == 7,
-        _ => false,
-    }
-}
-
-/// Whether a refusal 7 has the word of a broken rule as its place.
-pub fn place_is_right(refusal: &Refusal, program: &[u16], store: &[u16]) -> bool {
-    refusal.number != 7
-        || (refusal.place.1 == 0 && broken_words(program, store).contains(&refusal.place.0))
-}
-
 /// Buffers for a machine's words before a call, without the program.
 #[derive(Default)]
 struct Before {
@@ -245,7 +221,7 @@ pub type Tell<'a> = &'a mut dyn FnMut(Option<usize>, &Call, Option<[&Outcome; 2]
 /// Where two sides part after a call, if they do.
 fn part(outcomes: [&Outcome; 2], left: &Machine, right: &Machine) -> Option<String> {
     let [outcome, other] = outcomes;
-    if !agree(outcome, other) {
+    if outcome != other {
         return Some(format!("the answers differ: {} and {}", outcome_text(outcome), outcome_text(other)));
     }
     if left.store != right.store {
@@ -261,21 +237,12 @@ fn part(outcomes: [&Outcome; 2], left: &Machine, right: &Machine) -> Option<Stri
     None
 }
 
-/// What a refusal, or a call without a device, must not have done.
+/// A refusal, or a call without a device, must not have changed anything; in a run, the steps before it stand.
 fn broken_refusal(side: &str, outcome: &Outcome, before: &Before, machine: &Machine) -> Option<String> {
-    if outcome.no_device() && !before.equals(machine) {
-        return Some(format!("{side} side: no device, but something has changed"));
-    }
-    let refusal = outcome.refusal()?;
-    if !place_is_right(&refusal, &machine.program, &machine.store) {
-        let words = broken_words(&machine.program, &machine.store);
-        return Some(format!("{side} side: {}; the broken rules' words are {words:?}", outcome_text(outcome)));
-    }
     let some_steps = matches!(outcome, Outcome::Run(RunAnswer { steps, .. }) if *steps > 0);
-    if !some_steps && !before.equals(machine) {
-        return Some(format!("{side} side: {}, but something has changed", outcome_text(outcome)));
-    }
-    None
+    let no_change = outcome.no_device() || (outcome.refusal().is_some() && !some_steps);
+    (no_change && !before.equals(machine))
+        .then(|| format!("{side} side: {}, but something has changed", outcome_text(outcome)))
 }
 
 /// Two implementations, each with its words.
@@ -354,6 +321,9 @@ pub fn drive_telling(
         let left = &pair.first.1;
         counts.add(call, &device, phase, recovering, &outcome);
         counts.add_totals(&totals, &left.totals, pair.before.store != left.store);
+        if let Some(Refusal { number: 7, place: (word, _) }) = outcome.refusal() {
+            counts.several.add(call, left, word);
+        }
         recovering = match (call, &outcome) {
             (Call::Boot, Outcome::Answer(Answer::Done)) => phase != 0,
             (Call::Cut, _) => false,

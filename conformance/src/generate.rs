@@ -70,6 +70,17 @@ pub struct Sizes {
     pub fill: bool,
 }
 
+impl Sizes {
+    /// Where the store's log starts, and its queue.
+    fn log(&self) -> usize {
+        16 + self.memory
+    }
+
+    fn queue(&self) -> usize {
+        self.log() + 2 * self.log_pairs
+    }
+}
+
 /// Sizes from the smallest to the limits, small ones mostly.
 pub fn sizes(random: &mut Random) -> Sizes {
     let mut sizes = Sizes {
@@ -695,8 +706,7 @@ impl Schedule {
 
     fn damage_store(&mut self) {
         let Sizes { memory, log_pairs, queue_records, .. } = self.sizes;
-        let log = 16 + memory;
-        let queue = log + 2 * log_pairs;
+        let (log, queue) = (self.sizes.log(), self.sizes.queue());
         let word = |index: usize| self.machine.store.get(index).copied().unwrap_or(0) as usize;
         let head = word(HEAD);
         let count = word(COUNT).min(log_pairs).max(1);
@@ -753,6 +763,131 @@ impl Schedule {
                 let word = self.random.below(events) as u16;
                 self.make(Call::SetStore { index: 16 + memory + 2 * log_pairs + 2 * slot, word });
             }
+        }
+    }
+
+    /// Several rules of 7 broken: control words that are right in a phase, with right log addresses and records; then
+    /// two to six of all these words changed so as to break a rule; then calls that meet it.
+    fn several_broken(&mut self) {
+        let Sizes { events, memory, .. } = self.sizes;
+        self.strange_control();
+        let word = |machine: &Machine, index: usize| machine.store.get(index).copied().unwrap_or(0);
+        let head = word(&self.machine, HEAD);
+        // Without events no record is right. In phase 2 with the queue empty, 12 equals head.
+        if events == 0 {
+            self.make(Call::SetStore { index: TAIL, word: head });
+        }
+        if word(&self.machine, PHASE) == 2 && word(&self.machine, TAIL) == head {
+            self.make(Call::SetStore { index: PENDING, word: head });
+        }
+        for index in broken(&self.machine.program, &self.machine.store).all {
+            let bound = match index as usize {
+                0..=15 => continue,
+                index if index < self.sizes.queue() => memory,
+                _ => events,
+            };
+            let word = self.random.below(bound) as u16;
+            self.make(Call::SetStore { index: index as usize, word });
+        }
+        let (control, late) = self.words_with_rules();
+        let words = match self.random.below(10) {
+            0..=5 => control,
+            6 => [control, late].concat(),
+            _ if late.is_empty() => control,
+            _ => late,
+        };
+        let many = self.random.pick(&[2, 2, 2, 2, 3, 3, 4, 5, 6]);
+        let start = self.random.below(words.len());
+        for offset in 0..many.min(words.len()) {
+            let index = words[(start + offset) % words.len()];
+            let word = self.breaking_word(index);
+            self.make(Call::SetStore { index, word });
+        }
+        self.calls_on_broken();
+    }
+
+    /// The control words that have a rule in this phase, now and then the phase itself; and the words of rules that
+    /// need a row, a log pair or a record. Each list in a random order.
+    fn words_with_rules(&mut self) -> (Vec<usize>, Vec<usize>) {
+        let Sizes { log_pairs, queue_records, .. } = self.sizes;
+        let (log, queue) = (self.sizes.log(), self.sizes.queue());
+        let word = |index: usize| self.machine.store.get(index).copied().unwrap_or(0) as usize;
+        let (mut control, mut late) = match word(PHASE) {
+            0 => (vec![TASK, OPEN, HEAD, TAIL], vec![OPEN]),
+            1 => (vec![TASK, COUNT, PENDING, PENDING_OPEN, HEAD, TAIL], vec![PENDING_OPEN]),
+            _ => (vec![TASK, OPEN, COUNT, PENDING, HEAD, TAIL], vec![]),
+        };
+        if word(PHASE) != 0 {
+            late.extend((0..word(COUNT).min(log_pairs)).map(|pair| log + 2 * pair));
+        }
+        let first = word(if word(PHASE) == 2 { PENDING } else { HEAD });
+        let slots = (0..=queue_records).map(|offset| (first + offset) % (queue_records + 1));
+        late.extend(slots.take_while(|slot| *slot != word(TAIL)).map(|slot| queue + 2 * slot));
+        if self.random.percent(15) {
+            control.push(PHASE);
+        }
+        for list in [&mut control, &mut late] {
+            for at in 1..list.len() {
+                list.swap(at, self.random.below(at + 1));
+            }
+        }
+        (control, late)
+    }
+
+    /// A word that breaks a rule in its place, mostly.
+    fn breaking_word(&mut self, index: usize) -> u16 {
+        let Sizes { tasks, events, memory, log_pairs, queue_records, .. } = self.sizes;
+        let word = |index: usize| self.machine.store.get(index).copied().unwrap_or(0);
+        let bound = match index {
+            PHASE => 3,
+            TASK => tasks,
+            OPEN | PENDING_OPEN => {
+                let task = self.random.below(tasks);
+                let number = self.machine.program.get(8 + 3 * task).copied().unwrap_or(0);
+                return self.random.pick(&[1, 255, 256, 65535, number, number.wrapping_add(1)]);
+            }
+            COUNT => log_pairs + 1,
+            // A slot of the ring, too.
+            PENDING if word(PHASE) == 2 && self.random.percent(40) => {
+                return self.random.below(queue_records + 1) as u16
+            }
+            PENDING if word(PHASE) == 1 => tasks,
+            PENDING | HEAD | TAIL => queue_records + 1,
+            _ if index < self.sizes.queue() => memory,
+            _ => events,
+        };
+        self.random.pick(&[bound as u16, bound as u16, bound as u16 + 1, 0x8000, 0xFFFF])
+    }
+
+    /// Calls that look at 7, on devices that fit the phase.
+    fn calls_on_broken(&mut self) {
+        for _ in 0..self.random.from(1, 3) {
+            let word = |index: usize| self.machine.store.get(index).copied().unwrap_or(0);
+            let record = self.sizes.queue() + 2 * word(HEAD) as usize;
+            let event = word(record).min(self.sizes.events.saturating_sub(1) as u16);
+            let (body, row) = match self.random.below(2) {
+                0 => (Body::Task(word(TASK)), word(TASK) as usize),
+                _ => (Body::Event(event), self.sizes.tasks + event as usize),
+            };
+            let count = self.machine.program.get(7 + 3 * row).copied().unwrap_or(1).max(1);
+            let pairs = word(COUNT).min(self.sizes.log_pairs as u16);
+            let place = match word(PHASE) {
+                0 if self.random.percent(30) => Place::NoBody { commit: 0 },
+                0 => Place::Running { body, instruction: self.random.below(count as usize) as u16, ending: 0 },
+                _ => Place::NoBody { commit: self.random.below(pairs as usize + 1) as u16 },
+            };
+            self.make(Call::SetDevice(Device { place, ..Device::ON }));
+            let call = match self.random.below(6) {
+                0 | 1 => Call::Boot,
+                2 => self.post(),
+                3 => Call::Run { budget: self.budget() },
+                _ => Call::Step,
+            };
+            // What a step uses of the program comes between the first look and some of the rest of 7.
+            if matches!(call, Call::Step) && self.random.percent(15) {
+                self.damage_program();
+            }
+            self.make(call);
         }
     }
 
@@ -909,8 +1044,10 @@ impl Schedule {
     }
 
     fn damage_once(&mut self) {
-        if self.random.percent(6) {
-            return self.device_words();
+        match self.random.below(100) {
+            0..=5 => return self.device_words(),
+            6..=11 => return self.several_broken(),
+            _ => {}
         }
         match self.random.below(100) {
             0..=29 => self.damage_program(),

@@ -15,6 +15,7 @@ pub mod runtime;
 pub mod scenario;
 pub mod selfrun;
 pub mod serial;
+pub mod seven;
 pub mod sheet;
 pub mod shorten;
 pub mod standin;

@@ -1,12 +1,12 @@
 //! Many scenarios, one after another, for two implementations: each of them alone over undamaged lists, both
-//! compared over undamaged and damaged ones, the counts, and the report of a failure with its shortened list and
-//! the command line that replays it. A program that puts another implementation beside the reference needs
+//! compared over fixed, undamaged and damaged ones, the counts, and the report of a failure with its shortened list
+//! and the command line that replays it. A program that puts another implementation beside the reference needs
 //! `many` and `replay`, or `command`, which has both; each ends in a `Verdict`.
 
 use crate::compare::{self, Counts, Difference, POSSIBLE};
 use crate::runtime::{Answer, Runtime};
 use crate::scenario::{call_text, outcome_text, Call, Outcome, Scenario, CALL_NAMES};
-use crate::{cases, generate, selfrun, shorten};
+use crate::{cases, generate, selfrun, seven, shorten};
 use std::io::Read;
 use std::time::Instant;
 
@@ -86,6 +86,8 @@ fn print_counts(undamaged: &Counts, damaged: &Counts, all: &Counts) {
     println!();
     print!("{}", all.table());
     println!();
+    print!("{}", all.several.table());
+    println!();
 }
 
 /// What never came up and should, a line for each call and one for what else is counted.
@@ -109,6 +111,7 @@ pub fn missing(all: &Counts) -> Vec<String> {
     if !never.is_empty() {
         lines.push(never.join("; "));
     }
+    lines.extend(all.several.missing());
     lines
 }
 
@@ -140,6 +143,19 @@ impl Lists<'_> {
         self.undamaged.all_calls() + self.damaged.all_calls()
     }
 
+    /// The lists that don't come from a seed.
+    fn fixed(&mut self) -> bool {
+        let Lists { first, second, damaged, .. } = self;
+        let beside = |list: &Scenario, counts: &mut Counts| compare::drive(*first, *second, list, counts);
+        for list in seven::lists() {
+            if let Err(difference) = beside(&list, damaged) {
+                report("comparison of a fixed list", &list, &difference, &beside);
+                return false;
+            }
+        }
+        true
+    }
+
     fn seed(&mut self, seed: u64) -> bool {
         let Lists { first, second, undamaged, damaged } = self;
         let first_alone = |list: &Scenario, counts: &mut Counts| selfrun::drive(*first, list, counts);
@@ -163,13 +179,17 @@ impl Lists<'_> {
     }
 }
 
-/// Scenarios from a seed on until so many calls are made.
+/// The fixed lists, then scenarios from a seed on until so many calls of these are made.
 pub fn many(first: &dyn Runtime, second: &dyn Runtime, first_seed: u64, calls: u64) -> Verdict {
     let start = Instant::now();
     let mut lists = Lists { first, second, undamaged: Counts::default(), damaged: Counts::default() };
     let mut seed = first_seed;
     println!("seed {seed}");
-    while lists.all_calls() < calls {
+    if !lists.fixed() {
+        return Verdict::Failed;
+    }
+    let fixed = lists.all_calls();
+    while lists.all_calls() - fixed < calls {
         if !lists.seed(seed) {
             return Verdict::Failed;
         }
@@ -180,8 +200,9 @@ pub fn many(first: &dyn Runtime, second: &dyn Runtime, first_seed: u64, calls: u
     print_counts(&lists.undamaged, &lists.damaged, &all);
     println!("All lists: both sides compared after every call. Undamaged lists: for each side demand 3 by recovering");
     println!("a copy, after every call and every step of a run, and a run held against single steps.");
+    println!("fixed lists, several rules of 7 broken at once: {fixed} calls");
     println!(
-        "seeds {first_seed} to {}: {} programs, {} calls compared in {:.1} s",
+        "these and seeds {first_seed} to {}: {} programs, {} calls compared in {:.1} s",
         seed - 1,
         all.scenarios,
         all.all_calls(),

@@ -3,6 +3,7 @@
 
 use crate::reference::*;
 use crate::runtime::*;
+use crate::scenario::Call;
 
 #[derive(Clone, Copy, PartialEq, Eq, Debug)]
 pub enum Mistake {
@@ -37,10 +38,28 @@ pub enum Mistake {
     GoRowOnce,
     OffBeforeUnlike,
     BootRefusesUnlike,
+    // The place of 7: none; the highest word, in one call alone; by another order or other rules; of words that the
+    // call doesn't look at there.
     SevenWithoutPlace,
+    HighestAtBoot,
+    HighestAtStep,
+    HighestAtPost,
+    HighestInRun,
+    ReadingOrder,
+    HeadAndTailBeforeTwelve,
+    TwelveOneRule,
+    TwelveAlwaysWhole,
+    LastAddress,
+    RecordsBeforeAddresses,
+    OldestRecord,
+    BootInTwoLooks,
+    FirstLookNamesAll,
+    UsedWordNamesAll,
+    StepLooksAtAll,
+    PostLooksAtAll,
 }
 
-pub const MISTAKES: [Mistake; 27] = [
+pub const MISTAKES: [Mistake; 43] = [
     Mistake::HeadPlusOneOnRedo,
     Mistake::TailBeforeDatum,
     Mistake::PhaseBeforeTask,
@@ -68,16 +87,40 @@ pub const MISTAKES: [Mistake; 27] = [
     Mistake::OffBeforeUnlike,
     Mistake::BootRefusesUnlike,
     Mistake::SevenWithoutPlace,
+    Mistake::HighestAtBoot,
+    Mistake::HighestAtStep,
+    Mistake::HighestAtPost,
+    Mistake::HighestInRun,
+    Mistake::ReadingOrder,
+    Mistake::HeadAndTailBeforeTwelve,
+    Mistake::TwelveOneRule,
+    Mistake::TwelveAlwaysWhole,
+    Mistake::LastAddress,
+    Mistake::RecordsBeforeAddresses,
+    Mistake::OldestRecord,
+    Mistake::BootInTwoLooks,
+    Mistake::FirstLookNamesAll,
+    Mistake::UsedWordNamesAll,
+    Mistake::StepLooksAtAll,
+    Mistake::PostLooksAtAll,
 ];
+
+/// The mistakes about which of several broken rules 7 names.
+pub fn mistakes_about_the_lowest() -> &'static [Mistake] {
+    let first = MISTAKES.iter().position(|mistake| *mistake == Mistake::HighestAtBoot);
+    &MISTAKES[first.expect("a mistake")..]
+}
 
 /// The reference with a mistake.
 pub struct Mutant(pub Mistake);
 
-/// The reference, but for 7 it names the last broken rule. This is no mistake: the place is free.
-pub struct LastPlace;
-
 fn refused(number: u16) -> Answer {
     Answer::Refused(Refusal { number, place: (0, 0) })
+}
+
+/// Refusal 7.
+fn refused_at_word(word: u16) -> Answer {
+    Answer::Refused(Refusal { number: 7, place: (word, 0) })
 }
 
 /// A step that stored nothing, and one that stored a word.
@@ -239,9 +282,9 @@ impl Mutant {
             }
             Mistake::ChoosingReadsRow => {
                 let idle = device.place == Place::NoBody { commit: 0 };
-                let words = broken_words(program, store);
+                let words = broken(program, store).all;
                 (resting && idle && words.contains(&(OPEN as u16)) && Reference.check(program) == Answer::Done)
-                    .then(|| without(Answer::Refused(Refusal { number: 7, place: (OPEN as u16, 0) })))
+                    .then(|| without(refused_at_word(OPEN as u16)))
             }
             Mistake::SecondHalfLooksAgain => {
                 let Place::HalfSave { .. } = device.place else { return None };
@@ -309,12 +352,9 @@ impl Mutant {
                 }
                 Some(step)
             }
-            Mistake::SevenWithoutPlace => {
-                let step = Reference.step(program, store, device, totals);
-                Some(match step.answer {
-                    Answer::Refused(Refusal { number: 7, .. }) => without(refused(7)),
-                    _ => step,
-                })
+            Mistake::StepLooksAtAll => {
+                let lowest = broken(program, store).all.first().copied()?;
+                Some(without(refused_at_word(lowest)))
             }
             Mistake::ValueToldAsAddress => {
                 let step = Reference.step(program, store, device, totals);
@@ -373,6 +413,93 @@ impl Mutant {
     }
 }
 
+impl Mutant {
+    /// The word that the mistake names where the reference names another one in refusal 7.
+    fn other_word(&self, call: Call, program: &[u16], store: &[u16], right: u16) -> u16 {
+        let Broken { all, early } = broken(program, store);
+        // The words that this call looks at in the place of the order where it met 7.
+        let looked = match call {
+            Call::Boot => all.clone(),
+            _ if early.is_empty() => vec![right],
+            _ => early.clone(),
+        };
+        let [queue_records, log, queue] = [store[3], store[6], store[7]];
+        let [phase, pending, head, tail] = [PHASE, PENDING, HEAD, TAIL].map(|index| store[index]);
+        let is_address = |word: u16| word >= log && word < queue;
+        let is_record = |word: u16| word >= queue;
+        let words = || looked.iter().copied();
+        let first_by = |key: &dyn Fn(u16) -> (u16, u16)| words().min_by_key(|word| key(*word)).unwrap_or(right);
+        let highest = words().max().unwrap_or(right);
+        let ring_broken = head > queue_records || tail > queue_records;
+        match self.0 {
+            Mistake::SevenWithoutPlace => 0,
+            Mistake::HighestAtBoot if call == Call::Boot => highest,
+            Mistake::HighestAtStep if call == Call::Step => highest,
+            Mistake::HighestAtPost if matches!(call, Call::Post { .. }) => highest,
+            Mistake::HighestInRun if matches!(call, Call::Run { .. }) => highest,
+            // As 7 has the rules: 8, 9, 10, 14, 15, records; 11, addresses; 12, 13.
+            Mistake::ReadingOrder => first_by(&|word| match word {
+                8..=10 => (0, word),
+                14 | 15 => (1, word),
+                11 => (3, word),
+                12 | 13 => (5, word),
+                _ if is_address(word) => (4, word),
+                _ => (2, word),
+            }),
+            Mistake::HeadAndTailBeforeTwelve => first_by(&|word| match word {
+                12 | 13 => (1, word),
+                _ if word > 15 => (2, word),
+                _ => (0, word),
+            }),
+            // As document 01 had it.
+            Mistake::TwelveOneRule if phase == 2 && ring_broken => words().find(|word| *word != 12).unwrap_or(right),
+            Mistake::TwelveAlwaysWhole if phase == 2 && ring_broken && right > 12 => {
+                let moves = pending == after(store, head) && head != tail;
+                if pending == head || moves { right } else { 12 }
+            }
+            Mistake::LastAddress if is_address(right) => {
+                words().filter(|word| is_address(*word)).max().unwrap_or(right)
+            }
+            Mistake::RecordsBeforeAddresses if is_address(right) => {
+                words().find(|word| is_record(*word)).unwrap_or(right)
+            }
+            Mistake::OldestRecord if is_record(right) => {
+                let (slots, first) = (queue_records + 1, if phase == 2 { pending } else { head });
+                first_by(&|word| (((word - queue) / 2 + slots - first) % slots, word))
+            }
+            Mistake::BootInTwoLooks if call == Call::Boot => early.first().copied().unwrap_or(right),
+            Mistake::FirstLookNamesAll if !early.is_empty() => all[0],
+            Mistake::UsedWordNamesAll if early.is_empty() => all[0],
+            _ => right,
+        }
+    }
+
+    /// The refusal with the word that the mistake names.
+    fn refusal(&self, call: Call, program: &[u16], store: &[u16], refusal: Refusal) -> Refusal {
+        match refusal {
+            Refusal { number: 7, place: (right, _) } => {
+                Refusal { number: 7, place: (self.other_word(call, program, store, right), 0) }
+            }
+            _ => refusal,
+        }
+    }
+
+    fn answer(&self, call: Call, program: &[u16], store: &[u16], answer: Answer) -> Answer {
+        match answer {
+            Answer::Refused(refusal) => Answer::Refused(self.refusal(call, program, store, refusal)),
+            _ => answer,
+        }
+    }
+
+    /// A step of its own, or the reference's; the place of 7 is still the reference's.
+    fn own_step(&self, program: &[u16], store: &mut [u16], device: &mut Device, totals: &mut Totals) -> StepAnswer {
+        match self.mistaken_step(program, store, device, totals) {
+            Some(step) => step,
+            None => Reference.step(program, store, device, totals),
+        }
+    }
+}
+
 impl Runtime for Mutant {
     fn check(&self, program: &[u16]) -> Answer {
         Reference.check(program)
@@ -389,18 +516,21 @@ impl Runtime for Mutant {
             *device = old;
             return refused(25);
         }
-        answer
+        self.answer(Call::Boot, program, store, answer)
     }
 
     fn step(&self, program: &[u16], store: &mut [u16], device: &mut Device, totals: &mut Totals) -> StepAnswer {
-        match self.mistaken_step(program, store, device, totals) {
-            Some(step) => step,
-            None => Reference.step(program, store, device, totals),
-        }
+        let step = self.own_step(program, store, device, totals);
+        StepAnswer { answer: self.answer(Call::Step, program, store, step.answer), ..step }
     }
 
     fn post(&self, program: &[u16], store: &mut [u16], device: &mut Device, event: u16, datum: u16) -> Answer {
         let old = *device;
+        if self.0 == Mistake::PostLooksAtAll {
+            if let Some(lowest) = broken(program, store).all.first() {
+                return refused_at_word(*lowest);
+            }
+        }
         let answer = Reference.post(program, store, device, event, datum);
         if self.0 == Mistake::QueueFullEarly && answer == Answer::Done {
             let after_two = after(store, after(store, store[TAIL]));
@@ -409,7 +539,7 @@ impl Runtime for Mutant {
                 return refused(21);
             }
         }
-        answer
+        self.answer(Call::Post { event, datum }, program, store, answer)
     }
 
     fn cut(&self, device: &mut Device) -> Answer {
@@ -429,76 +559,14 @@ impl Runtime for Mutant {
             if self.0 == Mistake::RunSpentEarly && steps == 100 {
                 break;
             }
-            if let Answer::Refused(refusal) = self.step(program, store, device, totals).answer {
+            if let Answer::Refused(refusal) = self.own_step(program, store, device, totals).answer {
                 if self.0 == Mistake::RunCountsRefusedStep {
                     steps += 1;
                 }
-                return RunAnswer { steps, end: End::Refused(refusal) };
+                return RunAnswer { steps, end: End::Refused(self.refusal(Call::Run { budget }, program, store, refusal)) };
             }
             steps += 1;
         }
         RunAnswer { steps, end: End::Spent }
-    }
-}
-
-impl LastPlace {
-    fn last(program: &[u16], store: &[u16], refusal: Refusal) -> Refusal {
-        match broken_words(program, store).last() {
-            Some(word) if refusal.number == 7 => Refusal { number: 7, place: (*word, 0) },
-            _ => refusal,
-        }
-    }
-
-    fn answer(program: &[u16], store: &[u16], answer: Answer) -> Answer {
-        match answer {
-            Answer::Refused(refusal) => Answer::Refused(LastPlace::last(program, store, refusal)),
-            _ => answer,
-        }
-    }
-}
-
-impl Runtime for LastPlace {
-    fn check(&self, program: &[u16]) -> Answer {
-        Reference.check(program)
-    }
-
-    fn format(&self, program: &[u16], log_pairs: u16, queue_records: u16, store: &mut [u16]) -> Answer {
-        Reference.format(program, log_pairs, queue_records, store)
-    }
-
-    fn boot(&self, program: &[u16], store: &mut [u16], device: &mut Device) -> Answer {
-        let answer = Reference.boot(program, store, device);
-        LastPlace::answer(program, store, answer)
-    }
-
-    fn step(&self, program: &[u16], store: &mut [u16], device: &mut Device, totals: &mut Totals) -> StepAnswer {
-        let step = Reference.step(program, store, device, totals);
-        StepAnswer { answer: LastPlace::answer(program, store, step.answer), ..step }
-    }
-
-    fn post(&self, program: &[u16], store: &mut [u16], device: &mut Device, event: u16, datum: u16) -> Answer {
-        let answer = Reference.post(program, store, device, event, datum);
-        LastPlace::answer(program, store, answer)
-    }
-
-    fn cut(&self, device: &mut Device) -> Answer {
-        Reference.cut(device)
-    }
-
-    fn run(
-        &self,
-        program: &[u16],
-        store: &mut [u16],
-        device: &mut Device,
-        totals: &mut Totals,
-        budget: u32,
-    ) -> RunAnswer {
-        let answer = Reference.run(program, store, device, totals, budget);
-        match answer.end {
-            End::Refused(refusal) => {
-                RunAnswer { end: End::Refused(LastPlace::last(program, store, refusal)), ..answer }
-            }
-            _ => answer,
-        }
     }
 }

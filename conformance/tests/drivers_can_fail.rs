@@ -4,7 +4,7 @@
 use conformance::compare::{self, Counts};
 use conformance::foreign::{Foreign, Functions, NO_STORE};
 use conformance::generate::scenario;
-use conformance::mutants::{LastPlace, Mistake, Mutant, MISTAKES};
+use conformance::mutants::{Mistake, Mutant, MISTAKES};
 use conformance::reference::Reference;
 use conformance::scenario::Scenario;
 use conformance::{selfrun, shorten, standin};
@@ -32,7 +32,7 @@ fn every_mistake_is_caught_by_comparison() {
         let caught = caught_by_comparison(mistake);
         let (calls, short) = caught.unwrap_or_else(|| panic!("{mistake:?} isn't caught"));
         println!("{mistake:?}: caught after {calls} calls, {} calls are enough", short.calls.len());
-        assert!(short.calls.len() <= 80, "{mistake:?}: {} calls", short.calls.len());
+        assert!(calls <= 400_000 && short.calls.len() <= 80, "{mistake:?}: {} calls", short.calls.len());
         assert!(compare::drive(&Reference, &Mutant(mistake), &short, &mut Counts::default()).is_err());
     }
 }
@@ -57,17 +57,6 @@ fn blackboard_mistakes_are_caught_by_demand_3() {
         assert!(caught, "{mistake:?} isn't caught");
         println!("{mistake:?}: caught after {} calls", counts.all_calls());
     }
-}
-
-#[test]
-fn the_place_of_seven_is_free() {
-    let mut counts = Counts::default();
-    for seed in 0..400 {
-        let list = scenario(seed, true);
-        let result = compare::drive(&Reference, &LastPlace, &list, &mut counts);
-        assert!(result.is_ok(), "seed {seed}: {result:?}");
-    }
-    assert!(counts.refusals_of(7) > 0);
 }
 
 #[test]

@@ -101,8 +101,7 @@ pub fn ten_steps_but_one() -> [u16; 3]
 
 // On a store formatted with L and Q 1: boot, a post, steps; what a further post answers.
 fn post_in(program: &[u16], store: &mut [u16], steps: u32) -> Answer
-    ensures { λ answer. ⌜ (furtherPost (now (program .entry)) (now (store .entry)) steps ≡ Answer.Refused Refusal.QueueFull
-        → answer ≡ Answer.Refused Refusal.QueueFull) ⌝ }
+    ensures { λ answer. ⌜ answer ≡ furtherPost (now (program .entry)) (now (store .entry)) steps ⌝ }
 {
     let _ = format::format(program, 1, 1, store);
     let on = calls::boot(program, store, Device::OFF);

@@ -5,12 +5,11 @@ use model::Refusal;
 use program::rows;
 use store::log;
 use store::queue;
-ghost use mathlib.Core.Bool.{not};
 ghost use mathlib.Core.Path.{_≡_};
 ghost use mathlib.Core.List.{List};
 ghost use Prim.Native.Nat.{ℕ, _+_, _<_, _≤_};
 ghost use lib.Dec.{eqb};
-ghost use Rattle.model.specs.Control.{obey, obeyAll, inPhase, committing, phaseRule, taskRule, openRule, openServing, countRule, pendingTaskRule, pendingHeadRule, pendingOpenRule, headRule, tailRule, addressRule, recordRule, rules, earlyRules};
+ghost use Rattle.model.specs.Control.{obey, obeyAll, committing, phaseRule, taskRule, openRule, openServing, countRule, pendingTaskRule, pendingHeadRule, pendingMoveRule, pendingOpenRule, headRule, tailRule, addressRule, startKept, recordRule, rules, earlyRules};
 ghost use Rattle.model.specs.Program.{word, tasks, transaction};
 ghost use Rattle.model.specs.Store.{view};
 ghost use Rattle.model.specs.Test.{_or_, _then_};
@@ -125,15 +124,26 @@ fn pending_task_rule(program: &[u16], store: &[u16]) -> Checked
     Checked::Accepted
 }
 
-// "12 at most Q and equals 14, or is the slot after it with the queue not empty"
-fn pending_head_kept(store: &[u16]) -> bool
+// "In phase 2, 12 at most Q"
+fn pending_head_rule(store: &[u16]) -> Checked
+    requires { ⌜ Shaped (now store) ⌝ }
+    ensures { λ r. ⌜ r ≡ obey (pendingHeadRule (view (now (store .entry)))) ⌝ }
+{
+    if store[8] != 2 {
+        return Checked::Accepted;
+    }
+    if store[12] > store[3] {
+        return Checked::Refused(Refusal::Control(12));
+    }
+    Checked::Accepted
+}
+
+// "and equals 14, or is the slot after it with the queue not empty"
+fn pending_move_kept(store: &[u16]) -> bool
     requires { ⌜ Shaped (now store) ⌝ }
     requires { ⌜ word (now store) 14 ≤ word (now store) 3 ⌝ }
-    ensures { λ r. ⌜ r ≡ pendingHeadRule (view (now (store .entry))) .kept ⌝ }
+    ensures { λ r. ⌜ r ≡ pendingMoveRule (view (now (store .entry))) .kept ⌝ }
 {
-    if store[12] > store[3] {
-        return false;
-    }
     if store[12] == store[14] {
         return true;
     }
@@ -143,10 +153,10 @@ fn pending_head_kept(store: &[u16]) -> bool
     store[14] != store[15]
 }
 
-// "In phase 2" that, with 14 and 15 at most Q
-fn pending_head_rule(store: &[u16]) -> Checked
+// In phase 2 that, which "needs 14 and 15".
+fn pending_move_rule(store: &[u16]) -> Checked
     requires { ⌜ Shaped (now store) ⌝ }
-    ensures { λ r. ⌜ r ≡ obey (pendingHeadRule (view (now (store .entry)))) ⌝ }
+    ensures { λ r. ⌜ r ≡ obey (pendingMoveRule (view (now (store .entry)))) ⌝ }
 {
     if store[8] != 2 {
         return Checked::Accepted;
@@ -157,7 +167,7 @@ fn pending_head_rule(store: &[u16]) -> Checked
     if store[15] > store[3] {
         return Checked::Accepted;
     }
-    if !pending_head_kept(store) {
+    if !pending_move_kept(store) {
         return Checked::Refused(Refusal::Control(12));
     }
     Checked::Accepted
@@ -224,16 +234,19 @@ fn address_rule(program: &[u16], store: &[u16], pair: u16) -> Checked
     Checked::Accepted
 }
 
-// In phase 2 the waiting records start at word 12's slot, so that its rule must be kept.
+// In phase 2 the waiting records start at word 12's slot, so that its rules must be kept.
 fn start_kept(store: &[u16]) -> bool
     requires { ⌜ Shaped (now store) ⌝ }
     requires { ⌜ word (now store) 14 ≤ word (now store) 3 ⌝ }
-    ensures { λ r. ⌜ r ≡ (not (inPhase (view (now (store .entry))) 2) or pendingHeadRule (view (now (store .entry))) .kept) ⌝ }
+    ensures { λ r. ⌜ r ≡ startKept (view (now (store .entry))) ⌝ }
 {
     if store[8] != 2 {
         return true;
     }
-    pending_head_kept(store)
+    if store[12] > store[3] {
+        return false;
+    }
+    pending_move_kept(store)
 }
 
 // Does a record wait in a slot? Its rule is asked where that is known, for any program.
@@ -309,13 +322,13 @@ fn records(program: &[u16], store: &[u16]) -> Checked
 }
 
 // Of two checks the first refusal counts.
-fn first(found: Checked, next: Checked) -> Checked
-    ensures { λ r. ⌜ r ≡ (found then next) ⌝ }
+fn first(earlier: Checked, later: Checked) -> Checked
+    ensures { λ r. ⌜ r ≡ (earlier then later) ⌝ }
 {
-    let Checked::Accepted = found else {
-        return found;
+    let Checked::Accepted = earlier else {
+        return earlier;
     };
-    next
+    later
 }
 
 // The early rules that speak in phases 1 and 2 alone: in phase 0 each of them is passed over.
@@ -330,7 +343,8 @@ fn commit_rules(program: &[u16], store: &[u16]) -> Checked
     let found = open_serving(store);
     let found = first(found, count_rule(store));
     let found = first(found, pending_task_rule(program, store));
-    first(found, pending_head_rule(store))
+    let found = first(found, pending_head_rule(store));
+    first(found, pending_move_rule(store))
 }
 
 // 7 without the rules that need a row, a log pair or a record.
@@ -359,10 +373,7 @@ pub fn whole(program: &[u16], store: &[u16]) -> Checked
     let found = phase_rule(store);
     let found = first(found, task_rule(program, store));
     let found = first(found, open_rule(program, store));
-    let found = first(found, open_serving(store));
-    let found = first(found, count_rule(store));
-    let found = first(found, pending_task_rule(program, store));
-    let found = first(found, pending_head_rule(store));
+    let found = first(found, commit_rules(program, store));
     let found = first(found, pending_open_rule(program, store));
     let found = first(found, head_rule(store));
     let found = first(found, tail_rule(store));

@@ -1,3 +1,2 @@
--- How the values of the code stand for those of the definitions, and what a look and a call promise.
+-- How the values of the code stand for those of the definitions, and what a call promises.
 pub mod Result
-pub mod Agree

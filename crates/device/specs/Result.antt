@@ -1,10 +1,11 @@
 -- How the code's values stand for the definitions': the device from its core and its registers, and what a call leaves (answer, which
--- word it stored, device and store) as one value, from the code's result and from a defined outcome. Assumes nothing.
+-- word it stored, device and store) as one value, from the code's result and from a defined outcome. Document 01: "the contract equates the
+-- answer, the store, the device state .. after the call with defined ones"; so a promise is one equation. Assumes nothing.
 use Prim.Native.Nat.{ℕ}
 use mathlib.Core.Bool.{true}
 use mathlib.Core.List.{List}
 use mathlib.Core.Path.{_≡_}
-use Rattle.model.specs.Device.{Outcome, placeStep, nextStep}
+use Rattle.model.specs.Device.{Outcome, boot, post, placeStep, nextStep, step}
 use Rattle.model.specs.Store.{Store, view, settled, storedWord}
 use Rattle.model.specs.declared.Answer.{Answer}
 use Rattle.model.specs.declared.Device.{Device}
@@ -50,7 +51,7 @@ ofCore x r s = record { answer = x .answer; stored = x .stored; device = device 
 abbrev pub ofCall : CallResult → List ℕ → Result
 ofCall x s = record { answer = x .answer; stored = x .stored; device = x .device; store = s }
 
--- by an outcome, on the words s
+-- by an outcome, on the words s. Which word it stored is told even where its value stayed the same.
 abbrev pub ofOutcome : List ℕ → Outcome → Result
 ofOutcome s o = record { answer = o .answer; stored = storedWord s (o .write); device = o .device; store = settled s (o .write) }
 
@@ -72,3 +73,16 @@ OnAnyStore x o = (s : List ℕ) → x s ≡ ofOutcome s o
 -- A step that isn't lent the registers: whatever they are, x leaves them and the words s, and otherwise what f says of the device.
 abbrev pub OnAnyRegisters : Core → CoreResult → List ℕ → (Device → Result) → Type 0
 OnAnyRegisters c x s f = (r : List ℕ) → ofCore x r s ≡ f (device c r)
+
+-- ---- What a host is promised
+
+-- A boot of device d, and a post of event e with its data: neither is lent the words to be changed.
+abbrev pub BootPerforms : List ℕ → List ℕ → Device → CallResult → Type 0
+BootPerforms p s d x = ofCall x s ≡ ofOutcome s (boot p s d)
+
+abbrev pub PostPerforms : List ℕ → List ℕ → Device → ℕ → ℕ → CallResult → Type 0
+PostPerforms p s d e datum x = ofCall x s ≡ ofOutcome s (post p s d e datum)
+
+-- A step, which left the words z.
+abbrev pub StepPerforms : List ℕ → List ℕ → Device → CallResult → List ℕ → Type 0
+StepPerforms p s d x z = ofCall x z ≡ ofOutcome s (step p s d)

@@ -12,8 +12,7 @@ use store::queue;
 ghost use mathlib.Core.Path.{_≡_};
 ghost use Rattle.model.specs.Device.{turnedOn, out, judged, withHandler, bootCheck, cut, postCheck};
 ghost use Rattle.model.specs.Store.{none};
-ghost use Rattle.device.specs.Agree.{BootPerforms, PostPerforms};
-ghost use Rattle.device.specs.Result.{ofCall, OnAnyStore};
+ghost use Rattle.device.specs.Result.{ofCall, OnAnyStore, BootPerforms, PostPerforms};
 
 // "Boot .. turns that value on."
 pub fn turned_on() -> Device

@@ -1,5 +1,5 @@
--- Demand 3 of the exported functions: each exported call does what the definition's call does, for 7 with its free place doesn't come up on such
--- a store; the rest is model's `observed`. It cites: words-stay-words, back, run-is-steps, totals-are-counts, observed. Assumes nothing.
+-- Demand 3 of the exported functions: each exported call tells what the definition's call does; the rest is model's `observed`. It cites:
+-- words-stay-words, back, run-is-steps, totals-are-counts, observed. Assumes nothing.
 use Prim.Native.Nat.{ℕ, zero, suc, _<_}
 use mathlib.Core.Bool.{false}
 use mathlib.Core.List.{List, [], _∷_, _++_, append-assoc, append-nil}
@@ -7,26 +7,22 @@ use mathlib.Core.Logic.{_≢_}
 use mathlib.Core.Path.{_≡_, refl, sym, ap, _∙_, subst}
 use native.Mathlib.Omega.{arith}
 use Rattle.exports.specs.Demand3.{Exchange, single, run-of, Makes, MakesAll, callsOf, allCalls, Answered, AllAnswered, RecoversTo, ExportsObserved, atFirst, Demand3OfExports}
-use Rattle.exports.specs.Exported.{HostState, wordsOf, PerformsInWords, RunPerformsInWords, totalsOf, totalsWords}
+use Rattle.exports.specs.Exported.{HostState, TellsCall, TellsRun, totalsOf, totalsWords}
 use Rattle.model.proofs.CallLaws.{after-append, totals-append, boot-counts-nothing, cut-counts-nothing, post-counts-nothing, run-is-steps, totals-are-counts}
-use Rattle.model.proofs.Demand3.{demand3}
-use Rattle.model.proofs.Observed.{no-control, observed}
+use Rattle.model.proofs.Observed.{observed}
 use Rattle.model.proofs.Words.{fresh-device-words, words-stay-words, format-stays-words}
 use Rattle.model.specs.Calls.{Call, Boot, Step, Cut, Post, Now, call, afterCalls, steps, noTotals, counted, totalsAfter, RunOutcome as Defined, run}
-use Rattle.model.specs.Claims.{TypedWords, TypedHandler, TypedDevice, TypedCall, EndedSo, IsSteps, AreCounts}
-use Rattle.model.specs.Demand3.{Expected, Left, recoverySteps, recovering}
+use Rattle.model.specs.Claims.{TypedWords, TypedHandler, TypedDevice, TypedCall, IsSteps, AreCounts}
+use Rattle.model.specs.Demand3.{Left, recoverySteps, recovering}
 use Rattle.model.specs.Device.{Outcome, fresh, off, boot, cut, post, step}
 use Rattle.model.specs.Store.{view, settled, format, formatCheck}
-use Rattle.model.specs.declared.Answer.{Answer}
 use Rattle.model.specs.declared.Checked.{Checked}
 use Rattle.model.specs.declared.Device.{Device}
 use Rattle.model.specs.declared.Handler.{Handler}
 use Rattle.model.specs.declared.Handler.the-variants.{Resting, Storing}
-use Rattle.model.specs.declared.Ended.{Ended}
-use Rattle.model.specs.declared.Refusal.{Refusal}
 use Rattle.model.specs.declared.Totals.{Totals}
 use Rattle.words.proofs.Words.{back}
-use Rattle.words.specs.Words.{flag, placeWords, handlerWords, StoreLeft, HasWords, deviceOf, known, deviceWords, endedWords, refusedWords, checkedWords}
+use Rattle.words.specs.Words.{flag, placeWords, handlerWords, StoreLeft, HasWords, deviceOf, known, deviceWords, refusedWords, checkedWords}
 
 -- ---- what a host holds after the calls cs on the fresh store s is what the definitions have
 
@@ -82,20 +78,11 @@ module _ (p : List ℕ) (ps : TypedWords p) (l q : ℕ) (before : List ℕ) (e :
 
     -- ---- a call of its own
 
-    did : (c : Call) (a : List ℕ) (g : HostState) (z : List ℕ) → PerformsInWords c p (h .store) (call p (h .store) D c) a (g .device) z → g .store ≡ z
+    did : (c : Call) (a : List ℕ) (g : HostState) (z : List ℕ) → TellsCall c (h .store) (call p (h .store) D c) a (g .device) z → g .store ≡ z
         → g .totals ≡ totalsWords (counted T (call p S D c)) → Did p s cs c a g
-    did c a g z told stays totals =
-        let (r, performs, said, device) =
-        subst (λ (u : List ℕ). PerformsInWords c p u (call p u D c) a (g .device) z) (at .store) told in
-        record {
-          answered =
-              said
-              ∙ ap (λ (x : Answer). wordsOf c x (r .stored)) (performs .answer .same (λ w f. no-control c w _ (demand3 p l q before e cs .refusals c) f))
-              ∙ ap (wordsOf c (call p S D c .answer)) (performs .stored);
-          store = stays ∙ performs .store;
-          device = device ∙ ap deviceWords (performs .device);
-          totals = totals;
-        }
+    did c a g z tells stays totals =
+        let t = subst (λ (u : List ℕ). TellsCall c u (call p u D c) a (g .device) z) (at .store) tells in
+        record { answered = t .answer; store = stays ∙ t .store; device = t .device; totals = totals }
 
     unread : (g : HostState) (o : Outcome) → g .totals ≡ h .totals → counted T o ≡ T → g .totals ≡ totalsWords (counted T o)
     unread g o stays same = stays ∙ at .totals ∙ ap totalsWords (sym same)
@@ -149,37 +136,24 @@ module _ (p : List ℕ) (ps : TypedWords p) (l q : ℕ) (before : List ℕ) (e :
           after-append p s off cs (steps (ran .steps))
           ∙ (λ i. record { store = sym (ran-is .store) i; device = sym (ran-is .device) i })
 
-      no-control-in : (w : ℕ) → ran .ended ≡ Ended.Refused (Refusal.Control w) → ⊥
-      unfolding call
-      no-control-in w f =
-          let (less, answered) = subst (EndedSo p b ran) f (ran-is .ended) in
-          let met = demand3 p l q before e (cs ++ steps (ran .steps)) .refusals Step in
-          no-control Step w _ (subst (λ (x : Now). Expected Step (call p (x .store) (x .device) Step .answer)) ran-now met) answered
-
-      did-run : (n : ℕ) (a : List ℕ) (g : HostState) → RunPerformsInWords p ran n a g
-          → Answered p s cs (run-of b n a) × At p s (cs ++ steps n) g
-      did-run n a g (r, performs, count, said, device, totals) =
-          let count-is : n ≡ ran .steps = count ∙ performs .steps in
+      did-run : (n : ℕ) (a : List ℕ) (g : HostState) → TellsRun ran n a g → Answered p s cs (run-of b n a) × At p s (cs ++ steps n) g
+      did-run n a g t =
           let ws = steps-words p ps (ran .steps) S D (at .words) (at .device-words) in
           let now-is = after-append p s off cs (steps (ran .steps)) in
           let left : At p s (cs ++ steps (ran .steps)) g =
           record {
-            store = performs .store ∙ sym (ap (λ (x : Now). x .store) ran-now);
-            device = device ∙ ap deviceWords (performs .device) ∙ sym (ap (λ (x : Now). deviceWords (x .device)) ran-now);
-            totals =
-                totals
-                ∙ ap totalsWords (performs .totals ∙ ran-is .totals ∙ sym (totals-append p s off cs (steps (ran .steps)) noTotals));
+            store = t .store ∙ sym (ap (λ (x : Now). x .store) ran-now);
+            device = t .device ∙ sym (ap (λ (x : Now). deviceWords (x .device)) ran-now);
+            totals = t .totals ∙ ap totalsWords (ran-is .totals ∙ sym (totals-append p s off cs (steps (ran .steps)) noTotals));
             words = subst (λ (x : Now). TypedWords (x .store)) (sym now-is) (ws .0);
             device-words = subst (λ (x : Now). TypedDevice (x .device)) (sym now-is) (ws .1);
-          } in (
-            (count-is, said ∙ ap endedWords (performs .ended .same no-control-in)),
-            subst (λ (k : ℕ). At p s (cs ++ steps k) g) (sym count-is) left,
-          )
+          } in
+          ((t .steps, t .answer), subst (λ (k : ℕ). At p s (cs ++ steps k) g) (sym (t .steps)) left)
 
-    run-read : (b n : ℕ) (a : List ℕ) (g : HostState) → Makes p h (run-of b n a) g → RunPerformsInWords p (ran b) n a g
+    run-read : (b n : ℕ) (a : List ℕ) (g : HostState) → Makes p h (run-of b n a) g → TellsRun (ran b) n a g
     run-read b n a g m =
-        let read-store = subst (λ (u : List ℕ). RunPerformsInWords p (run p b u D (totalsOf (h .totals))) n a g) (at .store) (m .state D read) in
-        subst (λ (t : Totals). RunPerformsInWords p (run p b S D t) n a g) (ap totalsOf (at .totals) ∙ totals-read T) read-store
+        let read-store = subst (λ (u : List ℕ). TellsRun (run p b u D (totalsOf (h .totals))) n a g) (at .store) (m .state D read) in
+        subst (λ (t : Totals). TellsRun (run p b S D t) n a g) (ap totalsOf (at .totals) ∙ totals-read T) read-store
 
     -- ---- an exported call
 

@@ -1,2 +1,3 @@
 pub mod OnDevice
+pub mod Told
 pub mod Demand3

@@ -1,24 +1,19 @@
 -- What an exported call promises of the words that it is lent. Device states and answers are words as crates/words has them; totals are
 -- three numbers; a step's answer tells which word it stored, too. A call reads its device words first: where they stand for a device
--- state, some result that performs the call is told in words; where they stand for none, the answer says so and nothing is changed.
+-- state, what is defined for the call is told in words; where they stand for none, the answer says so and nothing is changed.
 -- Assumes nothing.
 use Prim.Native.Nat.{ℕ}
 use mathlib.Core.List.{List, [], _∷_}
 use mathlib.Core.Path.{_≡_}
-use Rattle.device.specs.Agree.{Performs}
-use Rattle.device.specs.Result.{ofCall}
-use Rattle.device.specs.declared.CallResult.{CallResult}
 use Rattle.model.specs.Calls.{Call, Boot, Step, Cut, Post, RunOutcome as Defined, counted, run}
 use Rattle.model.specs.Check.{check}
 use Rattle.model.specs.Device.{Outcome, boot, post, step, off}
 use Rattle.model.specs.Program.{word}
-use Rattle.model.specs.Store.{formatCheck, format}
+use Rattle.model.specs.Store.{settled, storedWord, formatCheck, format}
 use Rattle.model.specs.declared.Answer.{Answer}
 use Rattle.model.specs.declared.Device.{Device}
 use Rattle.model.specs.declared.Stored.{Stored}
 use Rattle.model.specs.declared.Totals.{Totals}
-use Rattle.runtime.specs.RunResult.{RunPerforms}
-use Rattle.runtime.specs.declared.RunResult.{RunResult}
 use Rattle.words.specs.Words.{deviceOf, known, unknown, deviceWords, answerWords, endedWords, checkedWords, unknownWords, stepWords, unknownStepWords}
 
 -- what a host holds: the store's words, the device's 18 words and the totals' three numbers
@@ -49,21 +44,19 @@ wordsOf Step a w = stepWords a w
 wordsOf Cut a w = answerWords a
 wordsOf (Post e v) a w = answerWords a
 
--- Call c of program p on the words s, for which o is defined, left the answer a, the device words x and the words z: some result performs
--- it, and these are its words.
-abbrev pub PerformsInWords : Call → List ℕ → List ℕ → Outcome → List ℕ → List ℕ → List ℕ → Type 0
-PerformsInWords c p s o a x z =
-    (r : CallResult) × Performs p s o (ofCall r z) × (a ≡ wordsOf c (r .answer) (r .stored)) × (x ≡ deviceWords (r .device))
+-- Call c on the words s, for which o is defined, left the answer a, the device words x and the words z.
+pub record TellsCall (c : Call) (s : List ℕ) (o : Outcome) (a x z : List ℕ) : Type 0 where
+  pub answer : a ≡ wordsOf c (o .answer) (storedWord s (o .write))
+  pub device : x ≡ deviceWords (o .device)
+  pub store : z ≡ settled s (o .write)
 
--- A run of program p, for which o is defined, returned n and left the answer a and g, likewise.
-abbrev pub RunPerformsInWords : List ℕ → Defined → ℕ → List ℕ → HostState → Type 0
-RunPerformsInWords p o n a g =
-    (r : RunResult)
-    × RunPerforms p o r (g .store)
-    × (n ≡ r .steps)
-    × (a ≡ endedWords (r .ended))
-    × (g .device ≡ deviceWords (r .device))
-    × (g .totals ≡ totalsWords (r .totals))
+-- A run for which o is defined returned n and left the answer a and g.
+pub record TellsRun (o : Defined) (n : ℕ) (a : List ℕ) (g : HostState) : Type 0 where
+  pub steps : n ≡ o .steps
+  pub answer : a ≡ endedWords (o .ended)
+  pub device : g .device ≡ deviceWords (o .device)
+  pub store : g .store ≡ o .store
+  pub totals : g .totals ≡ totalsWords (o .totals)
 
 -- ---- What each function promises, of program p: the answer a. Boot, post and cut: of store s and device words x as they were, and y, the
 -- device words as they are. Step and run: of what the host held, h, and holds, g.
@@ -78,11 +71,11 @@ Formats p l q s a z = (a ≡ checkedWords (formatCheck p l q s)) × (z ≡ forma
 
 -- runtime_boot
 abbrev pub Boots : List ℕ → List ℕ → List ℕ → List ℕ → List ℕ → Type 0
-Boots p s x a y = OnDevice x (λ d. PerformsInWords Boot p s (boot p s d) a y s) ((a ≡ unknownWords) × (y ≡ x))
+Boots p s x a y = OnDevice x (λ d. TellsCall Boot s (boot p s d) a y s) ((a ≡ unknownWords) × (y ≡ x))
 
 -- runtime_post of event e with data v
 abbrev pub Posts : List ℕ → List ℕ → List ℕ → ℕ → ℕ → List ℕ → List ℕ → Type 0
-Posts p s x e v a y = OnDevice x (λ d. PerformsInWords (Post e v) p s (post p s d e v) a y s) ((a ≡ unknownWords) × (y ≡ x))
+Posts p s x e v a y = OnDevice x (λ d. TellsCall (Post e v) s (post p s d e v) a y s) ((a ≡ unknownWords) × (y ≡ x))
 
 -- runtime_cut
 abbrev pub Cuts : List ℕ → List ℕ → Type 0
@@ -97,12 +90,12 @@ abbrev pub Steps : List ℕ → HostState → List ℕ → HostState → Type 0
 Steps p h a g =
     OnDevice (h .device)
     (λ d.
-    PerformsInWords Step p (h .store) (step p (h .store) d) a (g .device) (g .store)
+    TellsCall Step (h .store) (step p (h .store) d) a (g .device) (g .store)
     × (g .totals ≡ totalsWords (counted (totalsOf (h .totals)) (step p (h .store) d))))
     ((a ≡ unknownStepWords) × Unchanged h g)
 
 -- runtime_run with a budget of b, which returned n
 abbrev pub Runs : List ℕ → HostState → ℕ → ℕ → List ℕ → HostState → Type 0
 Runs p h b n a g =
-    OnDevice (h .device) (λ d. RunPerformsInWords p (run p b (h .store) d (totalsOf (h .totals))) n a g)
+    OnDevice (h .device) (λ d. TellsRun (run p b (h .store) d (totalsOf (h .totals))) n a g)
     ((n ≡ 0) × (a ≡ unknownWords) × Unchanged h g)

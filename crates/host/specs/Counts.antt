@@ -4,7 +4,7 @@
 use Prim.Native.Nat.{ℕ}
 use mathlib.Core.List.{List}
 use mathlib.Core.Path.{_≡_}
-use Rattle.device.specs.Agree.{StepPerforms}
+use Rattle.device.specs.Result.{StepPerforms}
 use Rattle.device.specs.declared.CallResult.{CallResult}
 use Rattle.model.specs.Calls.{counted}
 use Rattle.model.specs.Device.{step}

@@ -1,6 +1,7 @@
--- All that is claimed of the definitions (specs/Demand3.antt, specs/Claims.antt), with the theorems. Demand 3 stands first, then the rows:
--- the prover begins with this file, the first by name, and goes through the others in this order, so a wrong definition is refused at
--- demand 3's own fact or at a row, and not at a law that repeats the definitions (DeviceLaws, Passed). Assumes nothing.
+-- All that is claimed of the definitions (specs/Demand3.antt, specs/Claims.antt), with the theorems. The order of 7's rules stands first, then
+-- demand 3, then the rows: the prover begins with this file, the first by name, and goes through the others in this order, so a wrong
+-- definition is refused there at its own fact, and not at a law that repeats the definitions (DeviceLaws, Passed). Assumes nothing.
+use Rattle.model.proofs.Lowest.{first-is-lowest, lowest-is-one}
 use Rattle.model.proofs.Demand3.{demand3}
 use Rattle.model.proofs.Observed.{observed}
 use Rattle.model.proofs.Starred.{starred}
@@ -9,15 +10,19 @@ use Rattle.model.proofs.RingLaws.{full-is-no-room}
 use Rattle.model.proofs.SerialLaws.{serial-determined, tasks-follow}
 use Rattle.model.proofs.CallLaws.{run-is-steps, totals-are-counts, recovery-by-calls}
 use Rattle.model.proofs.Refused.{refused-changes-nothing}
-use Rattle.model.proofs.Blamed.{place-is-broken}
+use Rattle.model.proofs.LowestCalls.{place-is-lowest}
 use Rattle.model.proofs.Stores.{store-is-told}
 use Rattle.model.proofs.Repeats.{refusal-stays}
 use Rattle.model.proofs.Words.{words-stay-words, format-stays-words}
 use Rattle.model.proofs.LookStays.{look-stays}
-use Rattle.model.specs.Claims.{RefusedChangesNothing, WordsStayWords, FormatStaysWords, RefusalStays, PlaceIsBroken, RunIsSteps, TotalsAreCounts, RecoveryByCalls, LookStays, StoreIsTold, FullIsNoRoom}
+use Rattle.model.specs.Claims.{RefusedChangesNothing, WordsStayWords, FormatStaysWords, RefusalStays, FirstIsLowest, LowestIsOne, PlaceIsLowest, RunIsSteps, TotalsAreCounts, RecoveryByCalls, LookStays, StoreIsTold, FullIsNoRoom}
 use Rattle.model.specs.Demand3.{Demand3, SerialDetermined, TasksFollow, ObservedByCalls}
 use Rattle.model.specs.Rows.{Rows}
 use Rattle.model.specs.Starred.{Starred}
+
+-- of 7's rules
+pub of-rules : FirstIsLowest × LowestIsOne
+of-rules = (first-is-lowest, lowest-is-one)
 
 -- of a list of calls on a fresh store
 pub of-lists : Demand3 × ObservedByCalls × SerialDetermined × TasksFollow
@@ -32,5 +37,5 @@ pub of-runs : RunIsSteps × TotalsAreCounts × RecoveryByCalls
 of-runs = (run-is-steps, totals-are-counts, recovery-by-calls)
 
 -- of one call, for all words and device states
-pub of-calls : RefusedChangesNothing × StoreIsTold × FullIsNoRoom × PlaceIsBroken × RefusalStays × WordsStayWords × FormatStaysWords × LookStays
-of-calls = (refused-changes-nothing, store-is-told, full-is-no-room, place-is-broken, refusal-stays, words-stay-words, format-stays-words, look-stays)
+pub of-calls : RefusedChangesNothing × StoreIsTold × FullIsNoRoom × PlaceIsLowest × RefusalStays × WordsStayWords × FormatStaysWords × LookStays
+of-calls = (refused-changes-nothing, store-is-told, full-is-no-room, place-is-lowest, refusal-stays, words-stay-words, format-stays-words, look-stays)

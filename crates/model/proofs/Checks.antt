@@ -15,7 +15,7 @@ use Rattle.model.proofs.LogLaws.{addr}
 use Rattle.model.proofs.RingLaws.{Between, between-is, between-first, known-passes}
 use Rattle.model.proofs.TestLaws.{pick-case, pick-true, pick-false, below-or, and-true, or-true-left, or-true-right, not-false, must-true, then-passed, and-false}
 use Rattle.model.specs.Accepted.{LegalEffect, Sound}
-use Rattle.model.specs.Control.{obey, obeyAll, upTo, phaseRule, taskRule, openRule, openServing, countRule, pendingTaskRule, headRule, tailRule, pendingHeadRule, pendingOpenRule, addressRule, between, recordRule, controlRules, rules, earlyRules}
+use Rattle.model.specs.Control.{obey, obeyAll, upTo, phaseRule, taskRule, openRule, openServing, countRule, pendingTaskRule, headRule, tailRule, pendingHeadRule, pendingMoveRule, pendingOpenRule, addressRule, between, recordRule, controlRules, rules, earlyRules}
 use Rattle.model.specs.Device.{taskStores, eventStores, mayRun, endStores, placeSound, recordsSound, handlerSound, deviceSound, recordSound, headSound, namedRow, openSound, headIs, ends, saves, placeFits, bodySound}
 use Rattle.model.proofs.RuleLaws.{obey-kept, obey-unasked, obey-append, obey-upTo, obey-early}
 use Rattle.model.specs.Program.{tasks, events, memoryWords, instructions, transaction, bodyNumber, effectAt}
@@ -117,10 +117,15 @@ module _ (p : List ℕ) (v : Store) where
   unfolding pendingHeadRule _and_
   pendingHead-obeyed (runs e o) = obey-unasked (pendingHeadRule v) (rw (in-phase 0 2 e refl))
   pendingHead-obeyed (ends-task e c t o) = obey-unasked (pendingHeadRule v) (rw (in-phase 1 2 e refl))
-  pendingHead-obeyed (ends-event e c o l (inl h)) =
-      obey-kept (pendingHeadRule v) (and-true (le-leb _ _ l) (or-true-left _ _ (eq-eqb _ _ h)))
-  pendingHead-obeyed (ends-event e c o l (inr (h, ne))) =
-      obey-kept (pendingHeadRule v) (and-true (le-leb _ _ l) (or-true-right _ _ (and-true (eq-eqb _ _ h) (not-false (ne-eqb _ _ ne)))))
+  pendingHead-obeyed (ends-event e c o l h) = obey-kept (pendingHeadRule v) (le-leb _ _ l)
+
+  pendingMove-obeyed : Phases p v → obey (pendingMoveRule v) ≡ Checked.Accepted
+  unfolding pendingMoveRule _and_
+  pendingMove-obeyed (runs e o) = obey-unasked (pendingMoveRule v) (rw (in-phase 0 2 e refl))
+  pendingMove-obeyed (ends-task e c t o) = obey-unasked (pendingMoveRule v) (rw (in-phase 1 2 e refl))
+  pendingMove-obeyed (ends-event e c o l (inl h)) = obey-kept (pendingMoveRule v) (or-true-left _ _ (eq-eqb _ _ h))
+  pendingMove-obeyed (ends-event e c o l (inr (h, ne))) =
+      obey-kept (pendingMoveRule v) (or-true-right _ _ (and-true (eq-eqb _ _ h) (not-false (ne-eqb _ _ ne))))
 
   address-in : Copies p v → (j : ℕ) → obey (addressRule p v j) ≡ Checked.Accepted
   unfolding addressRule
@@ -161,8 +166,9 @@ module _ (p : List ℕ) (v : Store) (z : Serial) (held : HeldAt p v z) (resumes 
       (then-passed (count-obeyed p v ph)
       (then-passed (pending-obeyed p v ph)
       (then-passed (pendingHead-obeyed p v ph)
+      (then-passed (pendingMove-obeyed p v ph)
       (then-passed (pendingOpen-obeyed p v ph)
-      (then-passed (head-obeyed p v (held .head-in)) (then-passed (tail-obeyed p v (held .waits .tail-in)) refl)))))))))
+      (then-passed (head-obeyed p v (held .head-in)) (then-passed (tail-obeyed p v (held .waits .tail-in)) refl))))))))))
 
   pub rules-obeyed : obeyAll (rules p v) ≡ Checked.Accepted
   unfolding rules

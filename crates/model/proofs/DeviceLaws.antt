@@ -269,6 +269,11 @@ pub data Made (p : List ℕ) (v : Store) (d : Device) : Outcome → Type 0 where
 
 -- ---- why a step is refused
 
+-- a place with body b, at an instruction or half way through a SAVE
+pub data BodyIn : Place → Body → Type 0 where
+  running : {b : Body} {j c : ℕ} → BodyIn (Run b j c) b
+  half-way : {b : Body} {j : ℕ} → BodyIn (Half b j) b
+
 -- what a step meets past the early checks, its handler at rest
 pub data Meets (p : List ℕ) (v : Store) (d : Device) : Refusal → Type 0 where
   -- the event of the record to be chosen isn't below E, the address of the pair to be copied not below M
@@ -276,7 +281,7 @@ pub data Meets (p : List ℕ) (v : Store) (d : Device) : Refusal → Type 0 wher
       → Meets p v d (Refusal.Control (queueAt (memoryWords p) (v .logPairs) + 2 * v .head))
   by-pair : {c : ℕ} → Commits v d c → c < v .count → memoryWords p ≤ address v c → Meets p v d (Refusal.Control (logAt (memoryWords p) + 2 * c))
   -- the checks of a body at place x
-  by-body : (x : Place) (b : Body) (j : ℕ) (f : Effect) {r : Refusal} → d .place ≡ x → v .phase ≡ 0 → MayRun p v b
+  by-body : (x : Place) (b : Body) (j : ℕ) (f : Effect) {r : Refusal} → d .place ≡ x → BodyIn x b → v .phase ≡ 0 → MayRun p v b
       → bodySound p v x b j f ≡ Checked.Refused r → Meets p v d r
   -- "23: address k + b not below M", of a LOAD and of a SAVE
   load-above : {b : Body} {j c a x : ℕ} → RunsAt p v d b j c (Effect.Load a x) → memoryWords p ≤ x → Meets p v d Refusal.Address
@@ -405,9 +410,9 @@ module _ (p s : List ℕ) (d : Device) (early : Looked p s d) where
         pick-case Is (λ z. let e = eqb-true _ _ z in choose-outcome (record { rests = rests; place = q ∙ ap Free (h .0 e); phase = e }))
         (λ z. let ne = eqb-false _ _ z in copy-outcome c (record { rests = rests; place = q; phase = ne; left = h .1 ne }))
     place-outcome (Run b j c) q h =
-        judged-case Is _ (λ r e. refused (met early rests (by-body (Run b j c) b j _ q (h .0) (h .1) e))) (λ e. act-outcome b j c _ (acts (Run b j c) b j q h e))
+        judged-case Is _ (λ r e. refused (met early rests (by-body (Run b j c) b j _ q running (h .0) (h .1) e))) (λ e. act-outcome b j c _ (acts (Run b j c) b j q h e))
     place-outcome (Half b j) q h =
-        judged-case Is _ (λ r e. refused (met early rests (by-body (Half b j) b j _ q (h .0) (h .1) e)))
+        judged-case Is _ (λ r e. refused (met early rests (by-body (Half b j) b j _ q half-way (h .0) (h .1) e)))
         (λ e. rest-outcome b j _ (acts (Half b j) b j q h e) (body-passed p v (Half b j) b j _ e .fits))
 
   next-outcome : (x : Handler) → d .handler ≡ x → Is (nextStep p v d x)

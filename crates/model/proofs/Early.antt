@@ -14,7 +14,7 @@ use Rattle.model.proofs.RuleLaws.{obey-if}
 use Rattle.model.proofs.TestLaws.{pick-case, pick-true, clash, and-true, and-left, or-true-left, or-true-right, not-false, must-true, then-passed, then-first, then-rest}
 use Rattle.model.specs.Accepted.{ControlledBy, Controlled, MayRun, Stands, Attends, Looked}
 use Rattle.model.specs.Check.{contentsRule}
-use Rattle.model.specs.Control.{obeyAll, phaseRule, taskRule, openServing, countRule, pendingTaskRule, headRule, tailRule, pendingHeadRule, earlyRules}
+use Rattle.model.specs.Control.{obeyAll, phaseRule, taskRule, openServing, countRule, pendingTaskRule, headRule, tailRule, pendingHeadRule, pendingMoveRule, earlyRules}
 use Rattle.model.specs.Device.{withHandler, mayRun, placeSound, recordsSound, handlerSound, deviceSound, look}
 use Rattle.model.specs.Program.{tasks}
 use Rattle.model.specs.Store.{Store, view, carried, room, storeRule}
@@ -29,7 +29,7 @@ commits zero e z = clash e refl
 commits (suc n) e z = omega arith
 
 pub control-passes : (p : List ℕ) (v : Store) → Controlled p v → obeyAll (earlyRules p v) ≡ Checked.Accepted
-unfolding obeyAll phaseRule taskRule openServing countRule pendingTaskRule pendingHeadRule headRule tailRule
+unfolding obeyAll phaseRule taskRule openServing countRule pendingTaskRule pendingHeadRule pendingMoveRule headRule tailRule
 control-passes p v h =
     ap obeyAll (early-are p v)
     ∙ then-passed (obey-if _ (λ _. le-leb _ _ (h .phase-in)))
@@ -37,14 +37,14 @@ control-passes p v h =
     (then-passed (obey-if _ (λ e. eq-eqb _ _ (h .open-none (eqb-true _ _ e))))
     (then-passed (obey-if _ (λ e. le-leb _ _ (h .count-in (commits (v .phase) e))))
     (then-passed (obey-if _ (λ e. lt-ltb _ _ (h .pending-task (eqb-true _ _ e))))
+    (then-passed (obey-if _ (λ e. le-leb _ _ (h .pending-head (eqb-true _ _ e))))
     (then-passed (obey-if _ (λ e. moves (eqb-true _ _ (and-left _ _ e))))
-    (then-passed (obey-if _ (λ _. le-leb _ _ (h .head-in))) (then-passed (obey-if _ (λ _. le-leb _ _ (h .tail-in))) refl)))))))
+    (then-passed (obey-if _ (λ _. le-leb _ _ (h .head-in))) (then-passed (obey-if _ (λ _. le-leb _ _ (h .tail-in))) refl))))))))
   where
-    moves : v .phase ≡ 2 → pendingHeadRule v .kept ≡ true
+    moves : v .phase ≡ 2 → pendingMoveRule v .kept ≡ true
     moves q =
-        and-true (le-leb _ _ (h .pending-head q))
-        (⊎-elim (λ a. or-true-left _ _ (eq-eqb _ _ a))
-        (λ a. or-true-right _ _ (and-true (eq-eqb _ _ (a .0)) (not-false (ne-eqb _ _ (a .1))))) (h .pending-is q))
+        ⊎-elim (λ a. or-true-left _ _ (eq-eqb _ _ a))
+        (λ a. or-true-right _ _ (and-true (eq-eqb _ _ (a .0)) (not-false (ne-eqb _ _ (a .1))))) (h .pending-is q)
 
 -- in phase 0 the words 11 to 13 are free
 pub control-still : (p : List ℕ) (l q phase task open′ n pending h t : ℕ) → phase ≡ 0 → task < tasks p → h ≤ q → t ≤ q

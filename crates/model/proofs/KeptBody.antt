@@ -23,7 +23,7 @@ use Rattle.model.specs.Demand3.{isIn, mayMeet}
 use Rattle.model.specs.Device.{Outcome, out, judged, fresh, withPlace, begun, storing, taskStores, eventStores, taskLastStores, eventLastStores, recordSound, chooseStep, shown, saveStep, act, saveRest}
 use Rattle.model.specs.Program.{word, tasks, events, memoryWords, instructions, transaction, bodyNumber, effectAt, newOpen}
 use Rattle.model.specs.Serial.{Serial, went, advance, walk, walkBody, afterTask, afterEvent, serveOldest, runBody, tell}
-use Rattle.model.specs.Store.{Store, event, datum, slotAfter, firstWaiting, slot, recordsFrom, distance, find, Word, Phase, Count, Pending, PendingOpen, Address, Value, Write, none, to}
+use Rattle.model.specs.Store.{Store, event, datum, slotAfter, firstWaiting, slot, recordsFrom, distance, find, Word, Phase, Count, Pending, PendingOpen, Address, Value, none, to}
 use Rattle.model.specs.Test.{pick, _or_}
 use Rattle.model.specs.Types.{Answer, Body, Checked, Device, Effect, Found, Half, Refusal, Run}
 

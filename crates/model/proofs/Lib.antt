@@ -26,7 +26,8 @@ pub mod Refused
 pub mod Words
 pub mod Numbers
 pub mod Repeats
-pub mod Blamed
+pub mod Lowest
+pub mod LowestCalls
 pub mod Definitions
 pub mod Starred
 pub mod Rows

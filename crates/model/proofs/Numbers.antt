@@ -1,5 +1,5 @@
 -- The checks of the program and of the store's contents refuse with a number from 1 to 6 alone: `Low`. So what meets 7, 23 or 24 is
--- none of them, which is all that Blamed and Repeats ask of these checks. Each law is named after the check that it speaks of.
+-- none of them, which is all that LowestCalls and Repeats ask of these checks. Each law is named after the check that it speaks of.
 -- Assumes nothing.
 use Prim.Native.Nat.{ℕ}
 use mathlib.Core.Path.{_≡_, refl}

@@ -7,27 +7,13 @@ use lib.ListN.{length}
 use Rattle.model.proofs.CallLaws.{after-append, recovery-by-calls}
 use Rattle.model.proofs.Demand3.{demand3}
 use Rattle.model.proofs.SerialLaws.{tasks-follow}
-use Rattle.model.proofs.TestLaws.{impossible}
-use Rattle.model.specs.Answer.{refusal}
-use Rattle.model.specs.Calls.{Call, Boot, Step, Cut, Post, Now, call, history, afterCalls, steps}
+use Rattle.model.specs.Calls.{Call, Boot, Step, Cut, Now, call, history, afterCalls, steps}
 use Rattle.model.specs.Claims.{ByCalls}
-use Rattle.model.specs.Demand3.{isIn, mayMeet, Expected, recoverySteps, AsSerialRun, AllExpected, recovering, Observed, ObservedByCalls}
+use Rattle.model.specs.Demand3.{recoverySteps, AsSerialRun, AllExpected, recovering, Observed, ObservedByCalls}
 use Rattle.model.specs.Device.{off, cut}
 use Rattle.model.specs.Serial.{given}
 use Rattle.model.specs.Store.{Record, view, settled, waiting, formatCheck, format}
-use Rattle.model.specs.Test.{_or_}
-use Rattle.model.specs.Types.{Answer, Body, Checked, Refusal}
-
--- 7 doesn't come up
-pub no-control : (c : Call) (w : ℕ) (a : Answer) → Expected c a → a ≡ Answer.Refused (Refusal.Control w) → ⊥
-unfolding isIn mayMeet refusal _or_
-no-control c w a h e = by-call c (subst (Expected c) e h)
-  where
-    by-call : (c : Call) → Expected c (Answer.Refused (Refusal.Control w)) → ⊥
-    by-call Boot h = impossible (cc)
-    by-call Step h = impossible (cc)
-    by-call Cut h = impossible (cc)
-    by-call (Post e x) h = impossible (cc)
+use Rattle.model.specs.Types.{Answer, Body, Checked}
 
 module _ (p : List ℕ) (l q : ℕ) (s : List ℕ) (e : formatCheck p l q s ≡ Checked.Accepted) where
   abbrev fresh-store : List ℕ

@@ -16,7 +16,7 @@ use Rattle.model.proofs.StoreLaws.{Sized}
 use Rattle.model.proofs.TestLaws.{pick-true, pick-false, same-or, and-true, and-left, and-right, or-true-left, or-true-right, must-passed, must-then, then-first, then-rest}
 use Rattle.model.specs.Accepted.{Contents, Registers, Legal, Sizes, ShapedFor, Controlled, MayRun, Stands, Attends, Looked, BodyIs}
 use Rattle.model.specs.Check.{fieldsFit, instructionRule}
-use Rattle.model.specs.Control.{obeyAll, phaseRule, taskRule, openServing, countRule, pendingTaskRule, headRule, tailRule, pendingHeadRule, earlyRules, Rule, upTo, openRule, pendingOpenRule, addressRule, recordRule, controlRules, rules, earlyOf}
+use Rattle.model.specs.Control.{obeyAll, phaseRule, taskRule, openServing, countRule, pendingTaskRule, headRule, tailRule, pendingHeadRule, pendingMoveRule, earlyRules, Rule, upTo, openRule, pendingOpenRule, addressRule, recordRule, controlRules, rules, earlyOf}
 use Rattle.model.specs.Device.{mayRun, placeSound, recordsSound, handlerSound, deviceSound, look, bodySound}
 use Rattle.model.specs.Program.{word, tasks, memoryWords, instructions, bodyNumber, opcode, fieldA, fieldB, code, operand, bounds, decode}
 use Rattle.model.specs.Store.{Store, view, carried, room, logAt, queueAt, storeLength, storeRule, sizesRule}
@@ -122,15 +122,15 @@ early-upTo f late zero = refl
 early-upTo f late (suc n) = early-left (upTo f n) (f n ∷ []) (pick-false _ _ (late n)) ∙ early-upTo f late n
 
 -- which the early rules are
-pub early-are : (p : List ℕ) (v : Store) → earlyRules p v ≡ phaseRule v ∷ taskRule p v ∷ openServing v ∷ countRule v ∷ pendingTaskRule p v ∷ pendingHeadRule v ∷ headRule v ∷ tailRule v ∷ []
-unfolding earlyRules earlyOf rules controlRules phaseRule taskRule openRule openServing countRule pendingTaskRule pendingHeadRule pendingOpenRule headRule tailRule addressRule recordRule pick
+pub early-are : (p : List ℕ) (v : Store) → earlyRules p v ≡ phaseRule v ∷ taskRule p v ∷ openServing v ∷ countRule v ∷ pendingTaskRule p v ∷ pendingHeadRule v ∷ pendingMoveRule v ∷ headRule v ∷ tailRule v ∷ []
+unfolding earlyRules earlyOf rules controlRules phaseRule taskRule openRule openServing countRule pendingTaskRule pendingHeadRule pendingMoveRule pendingOpenRule headRule tailRule addressRule recordRule pick
 early-are p v =
     early-left (controlRules p v ++ upTo (addressRule p v) (v .logPairs)) (upTo (recordRule p v) (v .queueRecords + 1))
     (early-upTo (recordRule p v) (λ x. refl) (v .queueRecords + 1))
     ∙ early-left (controlRules p v) (upTo (addressRule p v) (v .logPairs)) (early-upTo (addressRule p v) (λ j. refl) (v .logPairs))
 
 pub control-passed : (p : List ℕ) (v : Store) → obeyAll (earlyRules p v) ≡ Checked.Accepted → Controlled p v
-unfolding obeyAll phaseRule taskRule openServing countRule pendingTaskRule pendingHeadRule headRule tailRule
+unfolding obeyAll phaseRule taskRule openServing countRule pendingTaskRule pendingHeadRule pendingMoveRule headRule tailRule
 control-passed p v e =
     let e0 = rw (early-are p v) at e in
     let e1 = then-rest _ _ e0 in
@@ -140,10 +140,10 @@ control-passed p v e =
     let e5 = then-rest _ _ e4 in
     let e6 = then-rest _ _ e5 in
     let e7 = then-rest _ _ e6 in
+    let e8 = then-rest _ _ e7 in
     let phase : v .phase ≤ 2 = leb-true _ _ (obeyed _ (then-first _ _ e0) refl) in
-    let head = obeyed _ (then-first _ _ e6) refl in
-    let tail = obeyed _ (then-first _ _ e7) refl in
-    let moves : v .phase ≡ 2 → _ = λ q. obeyed _ (then-first _ _ e5) (and-true (eq-eqb _ _ q) (and-true head tail)) in
+    let head = obeyed _ (then-first _ _ e7) refl in
+    let tail = obeyed _ (then-first _ _ e8) refl in
     record {
       phase-in = phase;
       task-in = ltb-true _ _ (obeyed _ (then-first _ _ e1) refl);
@@ -155,11 +155,11 @@ control-passed p v e =
           (obeyed _ (then-first _ _ e3)
           (same-or (v .phase) 1 (λ q. or-true-left _ _ (eq-eqb _ _ q)) (λ n. or-true-right _ _ (eq-eqb (v .phase) 2 (omega arith)))));
       pending-task = λ q. ltb-true _ _ (obeyed _ (then-first _ _ e4) (eq-eqb _ _ q));
-      pending-head = λ q. leb-true _ _ (and-left _ _ (moves q));
+      pending-head = λ q. leb-true _ _ (obeyed _ (then-first _ _ e5) (eq-eqb _ _ q));
       pending-is =
           λ q.
           ⊎-elim (λ a. inl (eqb-true _ _ a)) (λ a. inr (eqb-true _ _ (and-left _ _ a), eqb-false _ _ (not-true _ (and-right _ _ a))))
-          (or-cases _ _ (and-right _ _ (moves q)));
+          (or-cases _ _ (obeyed _ (then-first _ _ e6) (and-true (eq-eqb _ _ q) (and-true head tail))));
       open-none = λ q. eqb-true _ _ (obeyed _ (then-first _ _ e2) (eq-eqb _ _ q));
     }
 

@@ -104,7 +104,7 @@ module _ (p : List ℕ) (v : Store) (queue : List ℕ) (t : ℕ) (same : v .head
     unfolding late refusal _or_
     again r w (by-record h o ne l) = clash (stays-late _ w) refl
     again r w (by-pair h l m) = clash (stays-late _ w) refl
-    again r w (by-body x b j f q z m e) = absurd (other-body p v x b j f .with-such r e w)
+    again r w (by-body x b j f q at-body z m e) = absurd (other-body p v x b j f .with-such r e w)
     again r w (load-above h l) = acts-again h (load-refused p _ d _ _ _ _ _ l)
     again r w (save-above h l) = acts-again h (save-refused p _ d _ _ _ _ _ l)
     again r w (log-full h l e k) = acts-again h (save-full p _ d _ _ _ _ _ l e k)

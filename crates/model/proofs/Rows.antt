@@ -6,10 +6,10 @@ use Rattle.model.specs.ProgramRows.{meanings, fields, ifAccepted, accept
 use Rattle.model.specs.Rows.{Rows}
 use Rattle.model.specs.Sample.{computed, expected, sample, controls}
 use Rattle.model.specs.Starred.{counting}
-use Rattle.model.specs.StateRows.{contents, brokenWords, controlWords, states, uses}
+use Rattle.model.specs.StateRows.{contents, brokenWords, controlWords, orders, states, uses}
 
 pub rows : Rows
-unfolding definitions counting computed expected sample controls meanings fields ifAccepted acceptedOf opcodes programs formats formattedStores contents brokenWords controlWords states uses outcomes placesOfWords rooms schedules storesAfter openNumbers memories waitingRecords countings runRows recoveries numbers summary serialRuns counts tests
+unfolding definitions counting computed expected sample controls meanings fields ifAccepted acceptedOf opcodes programs formats formattedStores contents brokenWords controlWords orders states uses outcomes placesOfWords rooms schedules storesAfter openNumbers memories waitingRecords countings runRows recoveries numbers summary serialRuns counts tests
 rows =
     record {
       instructions-do = refl;
@@ -20,6 +20,7 @@ rows =
       formatting-sets = refl;
       contents-met = refl;
       control-met = refl;
+      control-ordered = refl;
       state-met = refl;
       step-uses = refl;
       calls-do = refl;

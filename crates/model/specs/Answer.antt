@@ -23,7 +23,7 @@ refusal (Refusal.Row b) = numbered 4 b 0
 refusal (Refusal.Instruction b i) = numbered 5 b i
 -- store contents or length wrong, or M unlike the program's
 refusal Refusal.StoreContents = numbered 6 0 0
--- control; place: the word of any broken rule
+-- control; place: the lowest word of any broken rule
 refusal (Refusal.Control w) = numbered 7 w 0
 -- posted event not below E
 refusal Refusal.NoEvent = numbered 8 0 0

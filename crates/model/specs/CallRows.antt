@@ -7,7 +7,6 @@ use lib.ListN.{replicate, set}
 use Rattle.model.specs.Answer.{RefusalNumber, refusal}
 use Rattle.model.specs.Calls.{Call, Boot, Step, Cut, Post, Line, Now, history, afterCalls, isAccept, counted, RunOutcome, run, Recovery, recovered, unfinished, recovery, countBy, steps}
 use Rattle.model.specs.Claims.{uncut}
-use Rattle.model.specs.Control.{rules, blames}
 use Rattle.model.specs.Demand3.{isIn, mayMeet, recoverySteps, isCompletion}
 use Rattle.model.specs.Device.{Outcome, out, refuse, boot, cut, post, step}
 use Rattle.model.specs.Program.{newOpen}
@@ -463,10 +462,6 @@ unfoldable pub tests : List (Row Bool)
 tests =
     isIn 23 (22 ∷ 23 ∷ []) ⇒ true
     ∷ isIn 25 (22 ∷ 23 ∷ []) ⇒ false
-    -- "Place: the word of any broken rule"
-    ∷ blames (rules sample (view (controls 0 1 0 0 0 0 4 4))) 14 ⇒ true
-    ∷ blames (rules sample (view (controls 0 1 0 0 0 0 4 4))) 15 ⇒ true
-    ∷ blames (rules sample (view (controls 0 1 0 0 0 0 4 4))) 9 ⇒ false
     ∷ uncut (Boot ∷ Step ∷ Post 0 9 ∷ []) ⇒ true
     ∷ uncut (Step ∷ Cut ∷ []) ⇒ false
     ∷ []

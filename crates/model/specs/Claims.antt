@@ -2,15 +2,16 @@
 -- of a list of calls on a fresh store. docs/CLAIMS.md says which sentence is which.
 use Prim.Native.Nat.{ℕ, _-_, _^_, _≤_, _<_, min}
 use mathlib.Core.Path.{_≡_}
-use mathlib.Core.Logic.{_≢_}
+use mathlib.Core.Logic.{_⊎_, _≢_}
 use mathlib.Core.Bool.{Bool, true, false}
 use mathlib.Core.List.{List, [], _∷_}
 use lib.ListN.{length}
 use Rattle.model.specs.Calls.{Call, Boot, Step, Cut, Post, call, history, afterCalls, steps, countBy, isRefusal, isCommit, isAccept, isStore, noTotals, counted, totalsAfter, storesMade, RunOutcome, run, recovered, recovery}
-use Rattle.model.specs.Control.{rules, blames}
+use Rattle.model.specs.Control.{Rule, broken, obeyAll, inPhase, openRule, addressRule, recordRule, rules, earlyRules}
 use Rattle.model.specs.Device.{off, look, step}
 use Rattle.model.specs.Program.{word}
 use Rattle.model.specs.Store.{Store, view, Word, index, to, settled, slotAfter, room, format}
+use Rattle.model.specs.Test.{pick}
 use Rattle.model.specs.Types.{Answer, Body, Checked, Device, Ended, Free, Half, Handler, Place, Refusal, Resting, Run, Storing, Totals}
 
 -- "A refusal .. changes no word, state or total."
@@ -92,10 +93,62 @@ RefusalStays =
     → afterCalls p s d cs .device .handler ≡ Resting
     → call p (afterCalls p s d cs .store) (afterCalls p s d cs .device) Step .answer ≡ Answer.Refused r
 
--- "Place: the word of any broken rule": the words that a refusal 7 of the definitions names
-abbrev pub PlaceIsBroken : Type 0
-PlaceIsBroken =
-    (p s : List ℕ) (d : Device) (c : Call) (i : ℕ) → call p s d c .answer ≡ Answer.Refused (Refusal.Control i) → blames (rules p (view s)) i ≡ true
+-- ---- N2: "The place in refusal 7 becomes the lowest word of any broken rule, and for a step or post the lowest at that place of the
+-- order." A rule's word is "the first word it names".
+
+abbrev pub Among : Rule → List Rule → Type 0
+Among rule [] = ⊥
+Among rule (first ∷ rest) = (rule ≡ first) ⊎ Among rule rest
+
+-- place is the word of a broken rule of rs, and no broken rule of rs has a lower one
+pub record LowestBroken (rs : List Rule) (place : ℕ) : Type 0 where
+  pub rule : Rule
+  pub among : Among rule rs
+  pub is-broken : broken rule ≡ true
+  pub word-is : rule .word ≡ place
+  pub lowest : (other : Rule) → Among other rs → broken other ≡ true → place ≤ other .word
+
+abbrev pub NoneBroken : List Rule → Type 0
+NoneBroken rs = (rule : Rule) → Among rule rs → broken rule ≡ false
+
+-- The rule of what a step uses behind its early look: "a chosen record", that at head; "a log pair", the next to be copied; for a running task
+-- word 10's, for a running event that of the record at head.
+unfoldable pub runningRule : List ℕ → Store → Body → Rule
+runningRule p v (Body.Task task) = openRule p v
+runningRule p v (Body.Event e) = recordRule p v (v .head)
+
+unfoldable pub usedRule : List ℕ → Store → Place → Rule
+usedRule p v (Free made) = pick (inPhase v 0) (recordRule p v (v .head)) (addressRule p v made)
+usedRule p v (Run b j made) = runningRule p v b
+usedRule p v (Half b j) = runningRule p v b
+
+-- the rules of 7 that a call looks at, those at one place of the order together
+unfoldable pub inOrder : List ℕ → Store → Device → Call → List (List Rule)
+inOrder p v d Boot = rules p v ∷ []
+inOrder p v d Step = earlyRules p v ∷ (usedRule p v (d .place) ∷ []) ∷ []
+inOrder p v d Cut = []
+inOrder p v d (Post e x) = earlyRules p v ∷ []
+
+-- place is the lowest at the first place of the order that has a broken rule
+unfoldable pub FirstLowest : List (List Rule) → ℕ → Type 0
+FirstLowest [] place = ⊥
+FirstLowest (rs ∷ later) place = LowestBroken rs place ⊎ (NoneBroken rs × FirstLowest later place)
+
+abbrev pub PlaceIsLowest : Type 0
+PlaceIsLowest =
+    (p s : List ℕ) (d : Device) (c : Call) (place : ℕ) → call p s d c .answer ≡ Answer.Refused (Refusal.Control place)
+    → FirstLowest (inOrder p (view s) d c) place
+
+-- so two benches name the same word
+abbrev pub LowestIsOne : Type 0
+LowestIsOne = (order : List (List Rule)) (place other : ℕ) → FirstLowest order place → FirstLowest order other → place ≡ other
+
+-- The definitions find the place as the first broken rule of a list: that is the lowest.
+abbrev pub NamesLowest : List Rule → Type 0
+NamesLowest rs = (place : ℕ) → obeyAll rs ≡ Checked.Refused (Refusal.Control place) → LowestBroken rs place
+
+abbrev pub FirstIsLowest : Type 0
+FirstIsLowest = (p : List ℕ) (v : Store) → NamesLowest (rules p v) × NamesLowest (earlyRules p v)
 
 -- "A step answers: chosen, worked, stored, committed (the commit store), accepted, or refused": these made a store
 unfoldable pub tellsStore : Answer → Bool

@@ -1,5 +1,6 @@
 -- Document 01, refusal 7: the rules of the control words, of the log's addresses and of the waiting records, each with the word
--- that it names first and with what it needs. "A rule that needs a broken word is passed over."
+-- that it names first and with what it needs. "A rule that needs a broken word is passed over." A check names the first broken rule of a
+-- row, and that this is N2's "lowest word of any broken rule" is claimed in Claims.antt, `PlaceIsLowest`.
 use Prim.Native.Nat.{ℕ, zero, suc, _+_, _*_}
 use mathlib.Core.Bool.{Bool, true, false, not}
 use mathlib.Core.List.{List, [], _∷_, _++_}
@@ -79,12 +80,15 @@ headRule v = earlyRule 14 true (leb (v .head) (v .queueRecords))
 unfoldable pub tailRule : Store → Rule
 tailRule v = earlyRule 15 true (leb (v .tail) (v .queueRecords))
 
--- "In phase 2, 12 at most Q and equals 14, or is the slot after it with the queue not empty."
+-- "In phase 2, 12 at most Q", which "needs no other word"
 unfoldable pub pendingHeadRule : Store → Rule
-pendingHeadRule v =
+pendingHeadRule v = earlyRule 12 (inPhase v 2) (leb (v .pending) (v .queueRecords))
+
+-- "and equals 14, or is the slot after it with the queue not empty": "the rest needs 14 and 15"
+unfoldable pub pendingMoveRule : Store → Rule
+pendingMoveRule v =
     earlyRule 12 (inPhase v 2 and headRule v .kept and tailRule v .kept)
-    (leb (v .pending) (v .queueRecords)
-    and (eqb (v .pending) (v .head) or (eqb (v .pending) (slotAfter (v .queueRecords) (v .head)) and not (empty v))))
+    (eqb (v .pending) (v .head) or (eqb (v .pending) (slotAfter (v .queueRecords) (v .head)) and not (empty v)))
 
 -- "and 13 is 0 or task 12's number"
 unfoldable pub pendingOpenRule : List ℕ → Store → Rule
@@ -96,6 +100,10 @@ unfoldable pub addressRule : List ℕ → Store → ℕ → Rule
 addressRule p v i =
     lateRule (logAt (memoryWords p) + 2 * i) (committing v and countRule v .kept and ltb i (v .count)) (ltb (address v i) (memoryWords p))
 
+-- "in phase 2 from word 12": then the rules of word 12 must be kept for it to be known where the waiting records start
+unfoldable pub startKept : Store → Bool
+startKept v = not (inPhase v 2) or (pendingHeadRule v .kept and pendingMoveRule v .kept)
+
 -- does a record wait in slot u, of records from slot h up to slot t?
 unfoldable pub between : ℕ → ℕ → ℕ → Bool
 between h t u = pick (leb h t) (leb h u and ltb u t) (leb h u or ltb u t)
@@ -104,11 +112,8 @@ between h t u = pick (leb h t) (leb h u and ltb u t) (leb h u or ltb u t)
 unfoldable pub recordRule : List ℕ → Store → ℕ → Rule
 recordRule p v u =
     lateRule (queueAt (memoryWords p) (v .logPairs) + 2 * u)
-    (phaseRule v .kept
-    and headRule v .kept
-    and tailRule v .kept
-    and (not (inPhase v 2) or pendingHeadRule v .kept)
-    and between (firstWaiting v) (v .tail) u) (ltb (event v u) (events p))
+    (phaseRule v .kept and headRule v .kept and tailRule v .kept and startKept v and between (firstWaiting v) (v .tail) u)
+    (ltb (event v u) (events p))
 
 -- ---- 7 whole, as boot has it, and its early part: "without the parts of 7 .. that need a row, .. a log pair or a record"
 
@@ -121,6 +126,7 @@ controlRules p v =
     ∷ countRule v
     ∷ pendingTaskRule p v
     ∷ pendingHeadRule v
+    ∷ pendingMoveRule v
     ∷ pendingOpenRule p v
     ∷ headRule v
     ∷ tailRule v
@@ -135,8 +141,3 @@ earlyOf (r ∷ rs) = pick (r .early) (r ∷ earlyOf rs) (earlyOf rs)
 
 unfoldable pub earlyRules : List ℕ → Store → List Rule
 earlyRules p v = earlyOf (rules p v)
-
--- "Place: the word of any broken rule, that is the first word it names": w is such a word
-unfoldable pub blames : List Rule → ℕ → Bool
-blames [] w = false
-blames (r ∷ rs) w = (broken r and eqb (r .word) w) or blames rs w

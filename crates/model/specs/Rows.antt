@@ -4,7 +4,7 @@
 use Rattle.model.specs.CallRows.{countings, counts, memories, numbers, openNumbers, outcomes, placesOfWords, recoveries, rooms, runRows, schedules, serialRuns, tests, waitingRecords}
 use Rattle.model.specs.ProgramRows.{fields, formats, formattedStores, meanings, opcodes, programs}
 use Rattle.model.specs.Sample.{Holds}
-use Rattle.model.specs.StateRows.{contents, controlWords, states, uses}
+use Rattle.model.specs.StateRows.{contents, controlWords, orders, states, uses}
 
 pub record Rows : Type 0 where
   -- "opcode .. uses .. meaning"
@@ -21,8 +21,10 @@ pub record Rows : Type 0 where
   pub formatting-sets : Holds formattedStores
   -- "6: store contents or length wrong, or M unlike the program's."
   pub contents-met : Holds contents
-  -- "7: control .. Place: the word of any broken rule"
+  -- "7: control .. Place"; N2: "the lowest word of any broken rule"
   pub control-met : Holds controlWords
+  -- "for a step or post the lowest at that place of the order"
+  pub control-ordered : Holds orders
   -- "25: state unlike program or store"
   pub state-met : Holds states
   -- "a step then checks what it uses"

@@ -1,8 +1,10 @@
 -- Worked rows of what is refused: in the store's contents (6), in its control words (7), in the device state (25), and what a step checks of what it uses.
 use Prim.Native.Nat.{ℕ}
 use mathlib.Core.Bool.{true, false}
-use mathlib.Core.List.{List, [], _∷_, _++_}
+use mathlib.Core.List.{List, [], _∷_, _++_, map}
 use lib.ListN.{getD, set, take}
+use Rattle.model.specs.Calls.{Call, Boot, Step, Cut, Post}
+use Rattle.model.specs.Claims.{inOrder}
 use Rattle.model.specs.Control.{Rule, broken, rules}
 use Rattle.model.specs.Device.{boot, post, step}
 use Rattle.model.specs.Store.{view, formatted}
@@ -57,15 +59,16 @@ contents =
     ∷ meets sample (set (set opened 0 0) 8 3) ⇒ allRefused Refusal.StoreContents
     ∷ []
 
--- ---- 7: the words of the rules that a store breaks, all of which boot looks at
+-- ---- 7: the words of the rules that a store breaks, and what each call meets
 
 unfoldable pub brokenWords : List Rule → List ℕ
 brokenWords [] = []
 brokenWords (r ∷ rs) = pick (broken r) (r .word ∷ brokenWords rs) (brokenWords rs)
 
--- with the answers of a step and of a post
+-- with the answers of a boot, of a step and of a post
 pub record Findings : Type 0 where
   pub broken : List ℕ
+  pub booted : Answer
   pub stepped : Answer
   pub posted : Answer
 
@@ -73,22 +76,30 @@ abbrev finds : List ℕ → Findings
 finds s =
     record {
       broken = brokenWords (rules sample (view s));
+      booted = boot sample s offValue .answer;
       stepped = step sample s onValue .answer;
       posted = post sample s onValue 0 9 .answer;
     }
 
--- no rule is broken; these are, and step and post meet the first; these are, and a post meets none
-abbrev sound : Answer → Findings
-sound a = record { broken = []; stepped = a; posted = Answer.Done }
+abbrev meets7 : ℕ → Answer
+meets7 w = Answer.Refused (Refusal.Control w)
 
-abbrev meetsFirst : List ℕ → Answer
-meetsFirst ws = Answer.Refused (Refusal.Control (getD ws 0 0))
+-- no rule is broken; those of these words are, and boot meets the lowest of them, which stands first here: step and post meet it, too; they meet
+-- another, the lowest of their early look; a post meets none
+abbrev sound : Answer → Findings
+sound a = record { broken = []; booted = Answer.Done; stepped = a; posted = Answer.Done }
+
+abbrev breaks : List ℕ → Answer → Answer → Findings
+breaks ws stepped posted = record { broken = ws; booted = meets7 (getD ws 0 0); stepped = stepped; posted = posted }
 
 abbrev early : List ℕ → Findings
-early ws = record { broken = ws; stepped = meetsFirst ws; posted = meetsFirst ws }
+early ws = breaks ws (meets7 (getD ws 0 0)) (meets7 (getD ws 0 0))
+
+abbrev earlyAt : ℕ → List ℕ → Findings
+earlyAt w ws = breaks ws (meets7 w) (meets7 w)
 
 abbrev late : List ℕ → Answer → Findings
-late ws a = record { broken = ws; stepped = a; posted = Answer.Done }
+late ws a = breaks ws a Answer.Done
 
 unfoldable pub controlWords : List (Row Findings)
 controlWords =
@@ -137,9 +148,13 @@ controlWords =
     ∷ finds (controls 2 1 8 2 1 0 0 2) ⇒ early (10 ∷ [])
     ∷ finds (controls 2 1 0 2 2 0 0 2) ⇒ early (12 ∷ [])
     ∷ finds (controls 2 1 0 2 1 0 0 0) ⇒ early (12 ∷ [])
-    ∷ finds (controls 2 1 0 2 4 0 3 1) ⇒ early (12 ∷ [])
-    ∷ finds (controls 2 1 0 2 9 0 4 1) ⇒ early (14 ∷ [])
-    ∷ finds (controls 2 1 0 2 9 0 0 4) ⇒ early (15 ∷ [])
+    -- "at most Q needs no other word, the rest needs 14 and 15": two rules of word 12 are broken, one is, none is
+    ∷ finds (controls 2 1 0 2 4 0 3 1) ⇒ early (12 ∷ 12 ∷ [])
+    ∷ finds (controls 2 1 0 2 9 0 4 1) ⇒ early (12 ∷ 14 ∷ [])
+    ∷ finds (controls 2 1 0 2 9 0 0 4) ⇒ early (12 ∷ 15 ∷ [])
+    ∷ finds (controls 2 1 0 2 9 0 4 4) ⇒ early (12 ∷ 14 ∷ 15 ∷ [])
+    ∷ finds (controls 2 1 0 2 2 0 4 1) ⇒ early (14 ∷ [])
+    ∷ finds (controls 2 1 0 2 2 0 0 4) ⇒ early (15 ∷ [])
     ∷ finds (set (controls 2 1 0 3 1 0 0 2) 22 6) ⇒ early (11 ∷ [])
     ∷ finds (set (controls 2 1 0 2 1 0 0 2) 22 6) ⇒ late (22 ∷ []) (Answer.Refused (Refusal.Control 22))
     ∷ finds (set (controls 2 1 0 2 1 0 0 2) 24 6) ⇒ late (24 ∷ []) Answer.Stored
@@ -147,6 +162,39 @@ controlWords =
     ∷ finds (set (controls 2 1 0 2 1 0 0 2) 26 2) ⇒ sound Answer.Stored
     ∷ finds (set (controls 2 1 0 2 1 0 0 2) 28 2) ⇒ late (28 ∷ []) Answer.Stored
     ∷ finds (set (controls 2 1 0 2 2 0 0 3) 30 2) ⇒ early (12 ∷ [])
+    -- "the lowest word of any broken rule, and for a step or post the lowest at that place of the order"
+    ∷ finds (controls 2 5 8 3 9 0 4 4) ⇒ early (9 ∷ 10 ∷ 11 ∷ 12 ∷ 14 ∷ 15 ∷ [])
+    ∷ finds (controls 1 5 0 3 5 9 4 4) ⇒ early (9 ∷ 11 ∷ 12 ∷ 14 ∷ 15 ∷ [])
+    ∷ finds (controls 0 1 9 0 0 0 4 2) ⇒ earlyAt 14 (10 ∷ 14 ∷ [])
+    ∷ finds (controls 1 1 0 2 2 9 0 4) ⇒ earlyAt 15 (13 ∷ 15 ∷ [])
+    ∷ finds (set (set (controls 1 1 0 2 2 9 0 2) 24 6) 26 2) ⇒ late (13 ∷ 24 ∷ 26 ∷ []) Answer.Stored
+    ∷ finds (set (set (controls 1 1 0 2 2 8 0 2) 24 6) 22 6) ⇒ late (22 ∷ 24 ∷ []) (meets7 22)
+    ∷ finds (set (set (controls 1 1 0 2 2 8 0 2) 22 6) 26 2) ⇒ late (22 ∷ 26 ∷ []) (meets7 22)
+    ∷ finds (set (set (controls 0 1 0 0 0 0 3 1) 26 2) 32 2) ⇒ late (26 ∷ 32 ∷ []) (meets7 32)
+    ∷ []
+
+-- ---- The words of 7's rules that a call looks at, those at one place of the order together
+
+abbrev asksOf : List ℕ → Place → Call → List (List ℕ)
+asksOf s x c = map (map (λ (r : Rule). r .word)) (inOrder sample (view s) (at x) c)
+
+abbrev earlyWords : List ℕ
+earlyWords = 8 ∷ 9 ∷ 10 ∷ 11 ∷ 12 ∷ 12 ∷ 12 ∷ 14 ∷ 15 ∷ []
+
+unfoldable pub orders : List (Row (List (List ℕ)))
+orders =
+    -- "boot 1 to 7"
+    asksOf closed (Free 0) Boot ⇒ ((8 ∷ 9 ∷ 10 ∷ 10 ∷ 11 ∷ 12 ∷ 12 ∷ 12 ∷ 13 ∷ 14 ∷ 15 ∷ 22 ∷ 24 ∷ 26 ∷ 28 ∷ 30 ∷ 32 ∷ []) ∷ [])
+    -- "without the parts of 7 .. that need a row, .. a log pair or a record"
+    ∷ asksOf closed (Free 0) (Post 0 9) ⇒ (earlyWords ∷ [])
+    -- "a chosen record (7)", "the rest of 7 .. for these and a log pair"
+    ∷ asksOf closed (Free 0) Step ⇒ (earlyWords ∷ (32 ∷ []) ∷ [])
+    ∷ asksOf closed (event1 0) Step ⇒ (earlyWords ∷ (32 ∷ []) ∷ [])
+    ∷ asksOf opened (task1 0) Step ⇒ (earlyWords ∷ (10 ∷ []) ∷ [])
+    ∷ asksOf opened (Half (Body.Task 1) 1) Step ⇒ (earlyWords ∷ (10 ∷ []) ∷ [])
+    ∷ asksOf taskCommit (Free 1) Step ⇒ (earlyWords ∷ (24 ∷ []) ∷ [])
+    -- "A cut refuses nothing."
+    ∷ asksOf opened (task1 0) Cut ⇒ []
     ∷ []
 
 -- ---- "25: state unlike program or store": the answers of a step and of a post
@@ -288,6 +336,7 @@ uses =
     -- "and a log pair"
     ∷ asks sample (set taskCommit 22 6) (Free 1) ⇒ Answer.Stored
     ∷ asks sample (set taskCommit 24 6) (Free 1) ⇒ Answer.Refused (Refusal.Control 24)
+    ∷ asks sample (set (set taskCommit 22 6) 24 6) (Free 1) ⇒ Answer.Refused (Refusal.Control 24)
     -- "then 23, 24": L pairs are in the log, for addresses 2 and 3
     ∷ step (withInstruction 0x0930 3) opened (twoPairs (task1 2)) .answer ⇒ Answer.Stored
     ∷ step (withInstruction 0x0930 5) opened (twoPairs (task1 2)) .answer ⇒ Answer.Refused Refusal.LogFull

@@ -1,17 +1,11 @@
--- The laws of a run: a step that is refused ends it and changes nothing, one that isn't leaves the rest of the run, and the place in 7
--- is that of a rule that the store left breaks. Assumes nothing.
-use Prim.Native.Nat.{ℕ, zero, suc, _+_}
-use mathlib.Core.Bool.{true}
+-- The laws of a run: a step that is refused ends it and changes nothing, one that isn't leaves the rest of the run. Assumes nothing.
+use Prim.Native.Nat.{ℕ, suc, _+_}
 use mathlib.Core.List.{List}
 use mathlib.Core.Path.{_≡_, refl, sym, ap, _∙_}
-use Rattle.device.specs.Agree.{Agrees}
-use Rattle.model.proofs.Blamed.{place-is-broken}
-use Rattle.model.proofs.CallLaws.{answer-case}
 use Rattle.model.proofs.Refused.{refused-is}
-use Rattle.model.specs.Calls.{RunOutcome, Step, call, unlessRefused, counted, runFrom, run}
-use Rattle.model.specs.Control.{rules, blames}
+use Rattle.model.specs.Calls.{RunOutcome, Step, call, unlessRefused, counted, runFrom}
 use Rattle.model.specs.Device.{Outcome, refuse, step}
-use Rattle.model.specs.Store.{view, settled, storedWord}
+use Rattle.model.specs.Store.{settled, storedWord}
 use Rattle.model.specs.declared.Answer.{Answer}
 use Rattle.model.specs.declared.Checked.{Checked}
 use Rattle.model.specs.declared.Device.{Device}
@@ -72,24 +66,3 @@ module _ (p : List ℕ) (k j n : ℕ) (s : List ℕ) (d : Device) (t : Totals) (
       rw left
       (goes (o .answer) (λ f. ended n (Ended.Refused f) s d t) _ e
       ∙ ap (λ (x : Totals). runFrom p j (n + 1) (settled s (o .write)) (o .device) x) (counted-is s t o))
-
--- ---- the place in 7
-
-abbrev Blames : List ℕ → RunOutcome → Type 0
-Blames p x = (w : ℕ) → x .ended ≡ Ended.Refused (Refusal.Control w) → blames (rules p (view (x .store))) w ≡ true
-
-same-refusal : {a b : Refusal} → Ended.Refused a ≡ Ended.Refused b → a ≡ b
-same-refusal e = cc
-
-run-blames : (p : List ℕ) (k n : ℕ) (s : List ℕ) (d : Device) (t : Totals) → Blames p (runFrom p k n s d t)
-unfolding runFrom call
-run-blames p zero n s d t = λ w e. cc
-run-blames p (suc k) n s d t =
-    answer-case (Blames p) (step p s d .answer) _ _
-    (λ f e w q. place-is-broken p s d Step w (e ∙ ap Answer.Refused (same-refusal q)))
-    (λ _. run-blames p k (n + 1) (settled s (step p s d .write)) (step p s d .device) (counted t (step p s d)))
-
--- a defined end agrees with itself
-pub run-agrees : (p : List ℕ) (k : ℕ) (s : List ℕ) (d : Device) (t : Totals) → Agrees (rules p (view (run p k s d t .store))) Ended.Refused (run p k s d t .ended) (run p k s d t .ended)
-unfolding run
-run-agrees p k s d t = record { same = λ _. refl; placed = λ w e. (w, e, run-blames p k 0 s d t w e) }

@@ -1,16 +1,12 @@
--- What a run leaves, from the code's result, and what it promises: steps, device, store and totals as defined, and the end as defined up
--- to the place in 7. The rules that blame it are those of the store before the refused step, which is the store that the run leaves.
--- Assumes nothing.
+-- What a run leaves, from the code's result, as the value that is defined for it; what it promises is that the two are equal. Assumes
+-- nothing.
 use Prim.Native.Nat.{ℕ}
 use mathlib.Core.List.{List}
 use mathlib.Core.Path.{_≡_}
-use Rattle.device.specs.Agree.{Agrees}
 use Rattle.device.specs.Result.{Result, device, ofOutcome}
 use Rattle.device.specs.declared.Core.{Core}
 use Rattle.model.specs.Calls.{RunOutcome as Defined, run}
-use Rattle.model.specs.Control.{rules}
 use Rattle.model.specs.Device.{step}
-use Rattle.model.specs.Store.{view}
 use Rattle.model.specs.declared.Answer.{Answer}
 use Rattle.model.specs.declared.Device.{Device}
 use Rattle.model.specs.declared.Ended.{Ended}
@@ -36,10 +32,12 @@ pub record CoreRuns (p : List ℕ) (b : ℕ) (s : List ℕ) (d : Device) (t : To
   pub run : ofCoreRun x r z ≡ run p b s d t
   pub single : b ≡ 1 → ofLast x r z ≡ ofOutcome s (step p s d)
 
--- A run of program p left x and the words s, where o is defined.
-pub record RunPerforms (p : List ℕ) (o : Defined) (x : RunResult) (s : List ℕ) : Type 0 where
-  pub steps : x .steps ≡ o .steps
-  pub ended : Agrees (rules p (view (o .store))) Ended.Refused (o .ended) (x .ended)
-  pub device : x .device ≡ o .device
-  pub store : s ≡ o .store
-  pub totals : x .totals ≡ o .totals
+-- ---- What a host is promised
+
+-- with the words s
+abbrev pub ofRun : RunResult → List ℕ → Defined
+ofRun x s = record { steps = x .steps; ended = x .ended; store = s; device = x .device; totals = x .totals }
+
+-- A run of program p up to budget b, on the words s, device d and totals t, left x and the words z.
+abbrev pub RunPerforms : List ℕ → ℕ → List ℕ → Device → Totals → RunResult → List ℕ → Type 0
+RunPerforms p b s d t x z = ofRun x z ≡ run p b s d t

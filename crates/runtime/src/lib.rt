@@ -6,11 +6,10 @@ ghost use Prim.Native.Nat.{ℕ};
 ghost use mathlib.Core.Bool.{true};
 ghost use mathlib.Core.List.{List};
 ghost use mathlib.Core.Path.{_≡_};
-ghost use Rattle.model.specs.Calls.{unlessRefused, run};
+ghost use Rattle.model.specs.Calls.{unlessRefused};
 ghost use Rattle.model.specs.Claims.{soundAfter};
 ghost use Rattle.model.specs.Device.{look, step};
-ghost use Rattle.device.specs.Agree.{StepPerforms};
-ghost use Rattle.device.specs.Result.{device, ofCore, ofCall, ofOutcome};
+ghost use Rattle.device.specs.Result.{device, ofCore, ofCall, ofOutcome, StepPerforms};
 ghost use Rattle.runtime.specs.RunResult.{coreRunResult, ofLast, CoreRuns, RunPerforms};
 use device::CallResult;
 use device::Core;
@@ -216,8 +215,7 @@ pub fn run(
     totals: Totals,
     budget: u32,
 ) -> RunResult
-    ensures { λ r. ⌜ RunPerforms (now (program .entry))
-        (run (now (program .entry)) budget (now (store .entry)) device totals) r (now (store .exit)) ⌝ }
+    ensures { λ r. ⌜ RunPerforms (now (program .entry)) budget (now (store .entry)) device totals r (now (store .exit)) ⌝ }
 {
     let mut registers = device.registers;
     let core = core_of(device);

@@ -1,5 +1,5 @@
--- What holds of a store and a device that a list of calls on the fresh store has reached, from demand 3: one call more reaches again, its
--- answer is the defined one (7 doesn't come up), recovery isn't refused and ends, and the contents are sound. Assumes nothing.
+-- What holds of a store and a device that a list of calls on the fresh store has reached, from demand 3: one call more reaches again,
+-- recovery isn't refused and ends, and the contents are sound. Assumes nothing.
 use Prim.Native.Nat.{ℕ, suc, _-_, _+_, _≤_}
 use mathlib.Core.List.{List, [], _∷_, _++_}
 use mathlib.Core.Path.{_≡_, refl, sym, ap, _∙_, subst}
@@ -7,13 +7,11 @@ use native.Mathlib.Nat.{sub-zero, le-refl}
 use native.Mathlib.Omega.{arith}
 use borrow.Author.Tests.{eq-eqb}
 use lib.ListN.{length, replicate, length-replicate}
-use Rattle.device.specs.Agree.{Performs, StepPerforms}
-use Rattle.device.specs.Result.{Result}
+use Rattle.device.specs.Result.{Result, StepPerforms}
 use Rattle.device.specs.declared.CallResult.{CallResult}
 use Rattle.model.proofs.CallLaws.{after-append, recovery-by-calls}
 use Rattle.model.proofs.Demand3.{demand3}
 use Rattle.model.proofs.Fresh.{contents, format-passed}
-use Rattle.model.proofs.Observed.{no-control}
 use Rattle.model.proofs.Passed.{store-passed}
 use Rattle.model.proofs.ProgramLaws.{check-passed}
 use Rattle.model.proofs.StoreLaws.{rule-kept}
@@ -21,8 +19,8 @@ use Rattle.model.proofs.TestLaws.{must-true, then-passed}
 use Rattle.model.specs.Accepted.{Shaped}
 use Rattle.model.specs.Calls.{Call, Boot, Now, call, afterCalls, steps, recovered, recovery}
 use Rattle.model.specs.Check.{check}
-use Rattle.model.specs.Demand3.{AsSerialRun, Expected, recoverySteps}
-use Rattle.model.specs.Device.{off, step}
+use Rattle.model.specs.Demand3.{AsSerialRun, recoverySteps}
+use Rattle.model.specs.Device.{off}
 use Rattle.model.specs.Program.{word, memoryWords}
 use Rattle.model.specs.Store.{Write, none, to, memoryAt, view, settled, formatted, formatCheck, format, sizesRule, storeLength, storeContents, storeRule}
 use Rattle.model.specs.Test.{_and_}
@@ -89,15 +87,7 @@ module _ (p s : List ℕ) (d : Device) (h : Reached p s d) where
   abbrev reached-now : Now
   reached-now = afterCalls p (formatted p 1 1) off (h .calls)
 
-  -- the answer of one call more
-  reached-expected : (c : Call) → Expected c (call p s d c .answer)
-  reached-expected c =
-      subst (λ (x : List ℕ). Expected c (call p x d c .answer)) (h .store)
-      (subst (λ (x : Device). Expected c (call p (reached-now .store) x c .answer)) (h .device) (as-serial p (h .accepted) (h .calls) .refusals c))
-
-  pub reached-answer : (c : Call) {r : Result} → Performs p s (call p s d c) r → r .answer ≡ call p s d c .answer
-  reached-answer c performs = performs .answer .same (λ w f. no-control c w _ (reached-expected c) f)
-
+  -- one call more
   pub reached-next : (c : Call) → Reached p (settled s (call p s d c .write)) (call p s d c .device)
   unfolding afterCalls
   reached-next c =
@@ -150,6 +140,4 @@ pub steps-left : (p s : List ℕ) (d : Device) (n k : ℕ) {r : CallResult} {z :
     → afterCalls p z (r .device) (steps k) ≡ afterCalls p s d (steps n)
 unfolding afterCalls steps call
 steps-left p s d n k {r} {z} e h =
-    ap (λ (x : Device). afterCalls p z x (steps k)) (h .device)
-    ∙ ap (λ (x : List ℕ). afterCalls p x (step p s d .device) (steps k)) (h .store)
-    ∙ ap (λ (m : ℕ). afterCalls p s d (steps m)) (sym e)
+    ap (λ (x : Result). afterCalls p (x .store) (x .device) (steps k)) h ∙ ap (λ (m : ℕ). afterCalls p s d (steps m)) (sym e)

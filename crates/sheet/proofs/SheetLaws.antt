@@ -11,8 +11,7 @@ use native.Mathlib.Omega.{arith}
 use borrow.Author.Tests.{eq-eqb, ne-eqb}
 use lib.ListN.{length, take, length-append}
 use lib.Seq.{take-suc}
-use Rattle.device.specs.Agree.{Performs}
-use Rattle.device.specs.Result.{ofCall}
+use Rattle.device.specs.Result.{Result, ofCall, ofOutcome}
 use Rattle.device.specs.declared.CallResult.{CallResult}
 use Rattle.image.proofs.ImageLaws.{image-accepted}
 use Rattle.image.specs.Image.{programOf}
@@ -24,11 +23,10 @@ use Rattle.model.specs.Device.{off, cut}
 use Rattle.model.specs.Program.{word}
 use Rattle.model.specs.Store.{settled, formatted, format}
 use Rattle.model.specs.Test.{pick}
-use Rattle.model.specs.declared.Answer.{Answer}
 use Rattle.model.specs.declared.Checked.{Checked}
 use Rattle.model.specs.declared.Device.{Device}
 use Rattle.model.specs.declared.Refusal.{Refusal}
-use Rattle.sheet.proofs.ReachedLaws.{fresh-reached, fresh-length, fresh-format, reached-answer, reached-next}
+use Rattle.sheet.proofs.ReachedLaws.{fresh-reached, fresh-length, fresh-format, reached-next}
 use Rattle.sheet.specs.Inside.{TakesByte, EndsLine, HoldsByte, nextNumber, stateAt, afterCall}
 use Rattle.sheet.specs.Printed.{SheetState, holding, linesLeft, left, Reached, Ready, Fits, Begins, Feeds, Piece, allFed, allText, FeedsAll, TextsAreTheSheet}
 use Rattle.sheet.specs.Sheet.{scheduled, lineFeed, lastLine, linesFrom, header, memoryLine, recoveredMemory, refusedLine, unreadLine, otherLine, callLine, ifRead, sheetLines, ifChecked, sheet}
@@ -237,14 +235,14 @@ module _ (p : List ℕ) (size : ℕ) (h : SheetState) (going : h .ended ≡ fals
         ends-call (h .store) off xs next (line ∙ ap (callLine p (h .store) (h .device) (h .number)) (sym is))
         (ap (λ (x : Call). settled (h .store) (call p (h .store) (h .device) x .write)) (sym is)) (ap (λ (x : Call). call p (h .store) (h .device) x .device) (sym is)) refl
 
-    pub ends-other : (z : List ℕ) (r : CallResult) → Performs p (h .store) (call p (h .store) (h .device) c) (ofCall r z) → callLine p (h .store) (h .device) (h .number) c ≡ otherLine p (h .store) (h .device) (h .number) c
+    pub ends-other : (z : List ℕ) (r : CallResult) → ofCall r z ≡ ofOutcome (h .store) (call p (h .store) (h .device) c) → callLine p (h .store) (h .device) (h .number) c ≡ otherLine p (h .store) (h .device) (h .number) c
         → length z ≡ length (h .store) → state ≡ afterCall (r .device) (h .number) false
         → EndsLine p size h (unlessRefused (r .answer) (λ why. refusedLine (h .number) (refusal why)) []) (holding state z)
     unfolding otherLine
     ends-other z r performs other long next =
         ends-call z (r .device) _ next
-        (ap (λ (a : Answer). unlessRefused a (λ why. refusedLine (h .number) (refusal why)) []) (reached-answer p (h .store) (h .device) reached c performs) ∙ sym other)
-        (performs .store) (performs .device) long
+        (ap (λ (x : Result). unlessRefused (x .answer) (λ why. refusedLine (h .number) (refusal why)) []) performs ∙ sym other)
+        (ap (λ (x : Result). x .store) performs) (ap (λ (x : Result). x .device) performs) long
 
 -- ---- the beginning
 

@@ -1,15 +1,10 @@
 -- `cut_in` meets its contract, by those of the calls. Assumes nothing.
-use Prim.Native.Nat.{ℕ}
-use mathlib.Core.List.{List, []}
-use mathlib.Core.Path.{_≡_, ap, _∙_}
+use mathlib.Core.List.{[]}
+use mathlib.Core.Path.{ap, _∙_}
 use denote.Ref.{now}
-use Rattle.cases.proofs.Shown.{cut-seen}
-use Rattle.cases.specs.Seen.{none}
+use Rattle.cases.proofs.Shown.{device-of, store-of, from-none, cut-seen}
 use Rattle.device.specs.Result.{Result}
-use Rattle.model.specs.Calls.{run}
 use Rattle.model.specs.Device.{fresh, boot, cut}
-use Rattle.model.specs.declared.Device.{Device}
-use Rattle.model.specs.declared.Totals.{Totals}
 use borrow.Author.Needs.{needs}
 use Rattle.cases.proofs.cut_in.Statement.{statement}
 use Rattle.cases.proofs.cut_in.Tie as tie
@@ -44,13 +39,14 @@ same-length c = c .before .before .run2 .kept .1 .0 ∙ c .before .before .befor
 returns : tie.Need-returns
 unfolding fresh cut
 returns c =
-    let p = now (c .before .before .before .before .before .before .before .before .before .before .before .before .before .before .before .before .before .before .before .before .before .args .program) in
-    let ran : (n : ℕ) (s : List ℕ) (d : Device) (t : Totals) → t ≡ none → run p n s d t .store ≡ run p n s d none .store = λ n s d t e. ap (λ (t : Totals). run p n s d t .store) e in
-    let again = c .before .before .before .before .before .boot2 .ensures .device ∙ ap (λ (x : Result). boot p (c .before .before .before .before .before .before .before .before .before .before .run .last .1 .0) (x .device) .device) (c .before .before .before .before .before .before .before .cut .ensures []) in
-    cut-seen p _ (c .before .before .before .before .before .before .before .before .before .before .before .before .before .before .before .before .before .format .ensures .1) (c .before .before .before .before .before .before .before .before .before .before .before .before .before .boot .ensures .device) (c .before .before .before .before .before .before .before .before .before .before .before .before .before .before .before .before .before .before .before .before .before .args .steps) (c .before .before .before .before .before .before .before .before .before .before .before .before .before .before .before .before .before .before .before .before .before .args .recovery)
-    (c .before .before .before .before .before .before .before .before .before .before .run .ensures .store ∙ ran _ _ _ _ (c .before .before .before .before .before .before .before .before .before .before .before .none .ensures))
-    again
-    (c .before .before .run2 .ensures .store ∙ ran _ _ _ _ (c .before .before .before .none2 .ensures))
+    let a = c .before .before .before .before .before .before .before .before .before .before .before .before .before .before .before .before .before .before .before .before .before .args in
+    let p = now (a .program) in
+    let c5 = c .before .before .before .before .before in
+    let c10 = c5 .before .before .before .before .before in
+    let again = ap device-of (c5 .boot2 .ensures) ∙ ap (λ (x : Result). boot p (c10 .run .last .1 .0) (x .device) .device) (c5 .before .before .cut .ensures []) in
+    cut-seen p _ (c10 .before .before .before .before .before .before .before .format .ensures .1) (ap device-of (c10 .before .before .before .boot .ensures)) (a .steps) (a .recovery)
+    (ap store-of (from-none p (a .steps) _ _ (c10 .run .ensures) (c10 .before .none .ensures))) again
+    (ap store-of (from-none p (a .recovery) _ _ (c .before .before .run2 .ensures) (c .before .before .before .none2 .ensures)))
 
 pub cut-in-spec : {M : Type 1} → statement M
 cut-in-spec =

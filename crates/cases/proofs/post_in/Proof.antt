@@ -1,14 +1,10 @@
--- `post_in` meets its contract, by those of the calls: 21 isn't 7, so the answer is the defined one. Assumes nothing.
-use Prim.Native.Nat.{ℕ}
-use mathlib.Core.List.{List}
-use mathlib.Core.Path.{_≡_, sym, ap, _∙_}
+-- `post_in` meets its contract, by those of the calls. Assumes nothing.
+use mathlib.Core.Path.{ap, _∙_}
 use denote.Ref.{now}
-use Rattle.cases.proofs.Shown.{post-seen, queue-full-is-not-7}
-use Rattle.cases.specs.Seen.{none}
-use Rattle.model.specs.Calls.{RunOutcome, run}
+use Rattle.cases.proofs.Shown.{device-of, store-of, from-none, post-seen}
+use Rattle.device.specs.Result.{Result}
+use Rattle.model.specs.Calls.{RunOutcome}
 use Rattle.model.specs.Device.{fresh}
-use Rattle.model.specs.declared.Device.{Device}
-use Rattle.model.specs.declared.Totals.{Totals}
 use borrow.Author.Needs.{needs}
 use Rattle.cases.proofs.post_in.Statement.{statement}
 use Rattle.cases.proofs.post_in.Tie as tie
@@ -37,12 +33,14 @@ same-length c = c .before .before .before .before .run .kept .1 .0 ∙ c .before
 returns : tie.Need-returns
 unfolding fresh
 returns c =
-    let p = now (c .before .before .before .before .before .before .before .before .before .before .before .before .before .before .before .before .before .args .program) in
-    let ran : (s : List ℕ) (d : Device) (t : Totals) → t ≡ none → run p (c .before .before .before .before .before .before .before .before .before .before .before .before .before .before .before .before .before .args .steps) s d t ≡ run p (c .before .before .before .before .before .before .before .before .before .before .before .before .before .before .before .before .before .args .steps) s d none = λ s d t e. ap (λ (t : Totals). run p (c .before .before .before .before .before .before .before .before .before .before .before .before .before .before .before .before .before .args .steps) s d t) e in
-    λ full.
-    let q = ran _ _ _ (c .before .before .before .before .before .none .ensures) in
-    let e = post-seen p _ (c .before .before .before .before .before .before .before .before .before .before .before .before .before .format .ensures .1) (c .before .before .before .before .before .before .before .before .before .boot .ensures .device) (c .before .before .before .before .before .before .before .before .before .before .before .before .before .before .before .before .before .args .steps) (c .before .before .before .before .before .before .before .post .ensures .device) (c .before .before .before .before .run .ensures .store ∙ ap (λ (x : RunOutcome). x .store) q) (c .before .before .before .before .run .ensures .device ∙ ap (λ (x : RunOutcome). x .device) q) ∙ full in
-    c .post2 .ensures .answer .same (λ w x. queue-full-is-not-7 (sym e ∙ x)) ∙ e
+    let a = c .before .before .before .before .before .before .before .before .before .before .before .before .before .before .before .before .before .args in
+    let p = now (a .program) in
+    let c4 = c .before .before .before .before in
+    let c9 = c4 .before .before .before .before .before in
+    let ran = from-none p (a .steps) _ _ (c4 .run .ensures) (c4 .before .none .ensures) in
+    ap (λ (x : Result). x .answer) (c .post2 .ensures)
+    ∙ post-seen p _ (c9 .before .before .before .before .format .ensures .1) (ap device-of (c9 .boot .ensures)) (a .steps) (ap device-of (c .before .before .before .before .before .before .before .post .ensures))
+    (ap store-of ran) (ap (λ (x : RunOutcome). x .device) ran)
 
 pub post-in-spec : {M : Type 1} → statement M
 post-in-spec =

@@ -1,7 +1,7 @@
 -- `commit_rules` meets its contract: in phase 0 no rule of them is asked, else their answers are joined. Assumes nothing.
 use mathlib.Core.Path.{sym, _∙_}
 use borrow.Author.Needs.{needs}
-use Rattle.model.specs.Control.{obey, obeyAll, openServing, countRule, pendingTaskRule, pendingHeadRule}
+use Rattle.model.specs.Control.{obey, obeyAll, openServing, countRule, pendingTaskRule, pendingHeadRule, pendingMoveRule}
 use Rattle.model.specs.Test.{must, _and_, _or_, _then_}
 use Rattle.model.proofs.TestLaws.{then-accepted, last, next, begin}
 use Rattle.control.proofs.commit_rules.Statement.{statement}
@@ -11,7 +11,7 @@ shared-slice-read-if1 : tie.Need-shared-slice-read-if1
 shared-slice-read-if1 c = search needs
 
 returns : tie.Need-returns
-unfolding obey obeyAll openServing countRule pendingTaskRule pendingHeadRule must _and_ _or_ _then_
+unfolding obey obeyAll openServing countRule pendingTaskRule pendingHeadRule pendingMoveRule must _and_ _or_ _then_
 returns c = rw (c .if1 .taken)
 
 open-serving-requires : tie.Need-open-serving-requires
@@ -35,13 +35,20 @@ pending-head-rule-requires c κs = search needs
 first-requires-3 : tie.Need-first-requires-3
 first-requires-3 c κs = search needs
 
+pending-move-rule-requires : tie.Need-pending-move-rule-requires
+pending-move-rule-requires c κs = search needs
+
+first-requires-4 : tie.Need-first-requires-4
+first-requires-4 c κs = search needs
+
 returns-2 : tie.Need-returns-2
 unfolding obeyAll
 returns-2 c =
-    last _ (c .first3 .ensures) (c .before .pending-head-rule .ensures ∙ sym (then-accepted _))
-    (next _ _ (c .before .before .first2 .ensures) (c .before .before .before .pending-task-rule .ensures)
-    (next _ _ (c .before .before .before .before .first .ensures) (c .before .before .before .before .before .count-rule .ensures)
-    (begin _ (c .before .before .before .before .before .before .open-serving .ensures))))
+    last _ (c .first4 .ensures) (c .before .pending-move-rule .ensures ∙ sym (then-accepted _))
+    (next _ _ (c .before .before .first3 .ensures) (c .before .before .before .pending-head-rule .ensures)
+    (next _ _ (c .before .before .before .before .first2 .ensures) (c .before .before .before .before .before .pending-task-rule .ensures)
+    (next _ _ (c .before .before .before .before .before .before .first .ensures) (c .before .before .before .before .before .before .before .count-rule .ensures)
+    (begin _ (c .before .before .before .before .before .before .before .before .open-serving .ensures)))))
 
 pub commit-rules-spec : {M : Type 1} → statement M
 commit-rules-spec =
@@ -56,4 +63,6 @@ commit-rules-spec =
     first-requires-2
     pending-head-rule-requires
     first-requires-3
+    pending-move-rule-requires
+    first-requires-4
     returns-2)

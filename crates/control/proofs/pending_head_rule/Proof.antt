@@ -1,9 +1,8 @@
 -- `control::pending_head_rule` meets its contract: its tests are the rule's. Assumes nothing.
 use borrow.Author.Needs.{needs}
-use borrow.Author.Tests.{le-leb, eq-eqb}
-use Rattle.model.specs.Control.{obey, pendingHeadRule, headRule, tailRule}
+use Rattle.model.specs.Control.{obey, pendingHeadRule}
 use Rattle.model.specs.Test.{must, _and_}
-use Rattle.model.proofs.TestLaws.{tests, passed, failed}
+use Rattle.model.proofs.TestLaws.{tests}
 use Rattle.control.proofs.pending_head_rule.Statement.{statement}
 use Rattle.control.proofs.pending_head_rule.Tie as tie
 
@@ -11,7 +10,7 @@ shared-slice-read-if1 : tie.Need-shared-slice-read-if1
 shared-slice-read-if1 c = search needs
 
 returns : tie.Need-returns
-unfolding obey pendingHeadRule headRule tailRule must _and_
+unfolding obey pendingHeadRule must _and_
 returns c = search tests
 
 shared-slice-read-if2 : tie.Need-shared-slice-read-if2
@@ -21,49 +20,12 @@ shared-slice-read-if2-2 : tie.Need-shared-slice-read-if2-2
 shared-slice-read-if2-2 c = search needs
 
 returns-2 : tie.Need-returns-2
-unfolding obey pendingHeadRule headRule tailRule must _and_
+unfolding obey pendingHeadRule must _and_
 returns-2 c = search tests
 
-shared-slice-read-if3 : tie.Need-shared-slice-read-if3
-shared-slice-read-if3 c = search needs
-
-shared-slice-read-if3-2 : tie.Need-shared-slice-read-if3-2
-shared-slice-read-if3-2 c = search needs
-
 returns-3 : tie.Need-returns-3
-unfolding obey pendingHeadRule headRule tailRule must _and_
+unfolding obey pendingHeadRule must _and_
 returns-3 c = search tests
-
-pending-head-kept-requires : tie.Need-pending-head-kept-requires
-pending-head-kept-requires c κs = search needs
-
-returns-4 : tie.Need-returns-4
-unfolding obey pendingHeadRule headRule tailRule must _and_
-returns-4 c =
-    let c2 = c .before .before in
-    let c5 = c2 .before .before .before in
-    let c8 = c5 .before .before .before in
-    simp (
-      eq-eqb _ _ (c8 .if1 .left),
-      le-leb _ _ (c5 .if2 .left),
-      le-leb _ _ (c2 .if3 .left),
-      failed
-          (c .before .pending-head-kept .ensures) (c .if4 .taken),
-    )
-
-returns-5 : tie.Need-returns-5
-unfolding obey pendingHeadRule headRule tailRule must _and_
-returns-5 c =
-    let c2 = c .before .before in
-    let c5 = c2 .before .before .before in
-    let c8 = c5 .before .before .before in
-    simp (
-      eq-eqb _ _ (c8 .if1 .left),
-      le-leb _ _ (c5 .if2 .left),
-      le-leb _ _ (c2 .if3 .left),
-      passed
-          (c .before .pending-head-kept .ensures) (c .if4 .left),
-    )
 
 pub pending-head-rule-spec : {M : Type 1} → statement M
 pending-head-rule-spec =
@@ -74,9 +36,4 @@ pending-head-rule-spec =
     shared-slice-read-if2
     shared-slice-read-if2-2
     returns-2
-    shared-slice-read-if3
-    shared-slice-read-if3-2
-    returns-3
-    pending-head-kept-requires
-    returns-4
-    returns-5)
+    returns-3)

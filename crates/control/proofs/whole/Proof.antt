@@ -1,15 +1,33 @@
--- `control::whole` meets its contract: the answers of the rules, joined in their order, then those of the
--- addresses and of the records. Assumes nothing.
-use Prim.Native.Nat.{_+_}
-use native.Mathlib.Omega.{arith}
+-- `control::whole` meets its contract: the answers of the rules, joined in their order, some of them in groups. Assumes nothing.
+use Prim.Native.Nat.{ℕ}
+use mathlib.Core.List.{List, _∷_, _++_}
+use mathlib.Core.Path.{_≡_, sym, ap, _∙_}
 use borrow.Author.Needs.{needs}
-use Rattle.model.specs.Control.{controlRules, obeyAll, upTo, addressRule, recordRule, rules}
-use Rattle.model.specs.Program.{word}
-use Rattle.model.specs.Store.{view}
+use Rattle.model.specs.Control.{obey, obeyAll, phaseRule, taskRule, openRule, pendingOpenRule, headRule, tailRule, controlRules, rules}
+use Rattle.model.specs.Store.{Store}
+use Rattle.model.specs.Test.{_then_}
+use Rattle.model.specs.declared.Checked.{Checked}
 use Rattle.model.proofs.TestLaws.{last, next, begin}
 use Rattle.model.proofs.RuleLaws.{obeyAll-append}
+use Rattle.control.specs.Groups.{commitRules, addressRules, recordRules}
 use Rattle.control.proofs.whole.Statement.{statement}
 use Rattle.control.proofs.whole.Tie as tie
+
+-- the rules in the groups of the code
+in-groups : (p : List ℕ) (v : Store)
+    → (obey (phaseRule v)
+    then (obey (taskRule p v)
+    then (obey (openRule p v)
+    then (obeyAll (commitRules p v)
+    then (obey (pendingOpenRule p v)
+    then (obey (headRule v) then (obey (tailRule v) then (obeyAll (addressRules p v) then obeyAll (recordRules p v)))))))))
+    ≡ obeyAll (rules p v)
+unfolding obeyAll rules controlRules
+in-groups p v =
+    ap (λ (c : Checked). obey (phaseRule v) then obey (taskRule p v) then obey (openRule p v) then c)
+    (ap (λ (c : Checked). obeyAll (commitRules p v) then obey (pendingOpenRule p v) then obey (headRule v) then obey (tailRule v) then c)
+    (sym (obeyAll-append (addressRules p v) (recordRules p v)))
+    ∙ sym (obeyAll-append (commitRules p v) (pendingOpenRule p v ∷ headRule v ∷ tailRule v ∷ addressRules p v ++ recordRules p v)))
 
 phase-rule-requires : tie.Need-phase-rule-requires
 phase-rule-requires c κs = search needs
@@ -26,108 +44,61 @@ open-rule-requires c κs = search needs
 first-requires-2 : tie.Need-first-requires-2
 first-requires-2 c κs = search needs
 
-open-serving-requires : tie.Need-open-serving-requires
-open-serving-requires c κs = search needs
+commit-rules-requires : tie.Need-commit-rules-requires
+commit-rules-requires c κs = search needs
 
 first-requires-3 : tie.Need-first-requires-3
 first-requires-3 c κs = search needs
 
-count-rule-requires : tie.Need-count-rule-requires
-count-rule-requires c κs = search needs
+pending-open-rule-requires : tie.Need-pending-open-rule-requires
+pending-open-rule-requires c κs = search needs
 
 first-requires-4 : tie.Need-first-requires-4
 first-requires-4 c κs = search needs
 
-pending-task-rule-requires : tie.Need-pending-task-rule-requires
-pending-task-rule-requires c κs = search needs
+head-rule-requires : tie.Need-head-rule-requires
+head-rule-requires c κs = search needs
 
 first-requires-5 : tie.Need-first-requires-5
 first-requires-5 c κs = search needs
 
-pending-head-rule-requires : tie.Need-pending-head-rule-requires
-pending-head-rule-requires c κs = search needs
+tail-rule-requires : tie.Need-tail-rule-requires
+tail-rule-requires c κs = search needs
 
 first-requires-6 : tie.Need-first-requires-6
 first-requires-6 c κs = search needs
 
-pending-open-rule-requires : tie.Need-pending-open-rule-requires
-pending-open-rule-requires c κs = search needs
+addresses-requires : tie.Need-addresses-requires
+addresses-requires c κs = search needs
 
 first-requires-7 : tie.Need-first-requires-7
 first-requires-7 c κs = search needs
 
-head-rule-requires : tie.Need-head-rule-requires
-head-rule-requires c κs =
+records-requires : tie.Need-records-requires
+records-requires c κs =
     let c17 = c .before .before .before .before .before .before .before .before .before .before .before .before .before .before .before .before .before in
-    omega (arith, c17 .pre .1)
+    (c17 .pre .0 .contents, c17 .pre .1)
 
 first-requires-8 : tie.Need-first-requires-8
 first-requires-8 c κs = search needs
 
-tail-rule-requires : tie.Need-tail-rule-requires
-tail-rule-requires c κs =
-    let c19 = c .before .before .before .before .before .before .before .before .before .before .before .before .before .before .before .before .before .before .before in
-    omega (arith, c19 .pre .1)
-
-first-requires-9 : tie.Need-first-requires-9
-first-requires-9 c κs = search needs
-
-addresses-requires : tie.Need-addresses-requires
-addresses-requires c κs =
-    let c21 = c .before .before .before .before .before .before .before .before .before .before .before .before .before .before .before .before .before .before .before .before .before in
-    (omega (arith, c21 .pre .0), c21 .pre .1)
-
-first-requires-10 : tie.Need-first-requires-10
-first-requires-10 c κs = search needs
-
-records-requires : tie.Need-records-requires
-records-requires c κs =
-    let c23 = c .before .before .before .before .before .before .before .before .before .before .before .before .before .before .before .before .before .before .before .before .before .before .before in
-    (omega (arith, c23 .pre .0), c23 .pre .1)
-
-first-requires-11 : tie.Need-first-requires-11
-first-requires-11 c κs = search needs
-
 returns : tie.Need-returns
-unfolding rules controlRules obeyAll
 returns c =
     let c2 = c .before .before in
-    let c3 = c2 .before in
-    let c4 = c3 .before in
-    let c5 = c4 .before in
-    let c6 = c5 .before in
-    let c7 = c6 .before in
-    let c8 = c7 .before in
-    let c9 = c8 .before in
-    let c10 = c9 .before in
-    let c11 = c10 .before in
-    let c12 = c11 .before in
-    let c13 = c12 .before in
-    let c14 = c13 .before in
-    let c15 = c14 .before in
-    let c16 = c15 .before in
-    let c17 = c16 .before in
-    let c18 = c17 .before in
-    let c19 = c18 .before in
-    let c20 = c19 .before in
-    let c21 = c20 .before in
-    let c22 = c21 .before in
-    let c25 = c22 .before .before .before in
-    rw (obeyAll-append (upTo (addressRule (c25 .args .program .now) (view (c25 .args .store .now)))
-    (word (c25 .args .store .now) 2))
-    (upTo (recordRule (c25 .args .program .now) (view (c25 .args .store .now))) (word (c25 .args .store .now) 3 + 1)))
-    (last _ (c .first11 .ensures) (c .before .records .ensures)
-    (next _ _ (c2 .first10 .ensures) (c3 .addresses .ensures)
-    (next _ _ (c4 .first9 .ensures) (c5 .tail-rule .ensures)
-    (next _ _ (c6 .first8 .ensures) (c7 .head-rule .ensures)
-    (next _ _ (c8 .first7 .ensures) (c9 .pending-open-rule .ensures)
-    (next _ _ (c10 .first6 .ensures) (c11 .pending-head-rule .ensures)
-    (next _ _ (c12 .first5 .ensures) (c13 .pending-task-rule .ensures)
-    (next _ _ (c14 .first4 .ensures) (c15 .count-rule .ensures)
-    (next _ _ (c16 .first3 .ensures) (c17 .open-serving .ensures)
-    (next _ _ (c18 .first2 .ensures) (c19 .open-rule .ensures)
-    (next _ _ (c20 .first .ensures) (c21 .task-rule .ensures)
-    (begin _ (c22 .phase-rule .ensures)))))))))))))
+    let c4 = c2 .before .before in
+    let c6 = c4 .before .before in
+    let c8 = c6 .before .before in
+    let c10 = c8 .before .before in
+    let c12 = c10 .before .before in
+    let c14 = c12 .before .before in
+    last _ (c .first8 .ensures) (c .before .records .ensures)
+    (next _ _ (c2 .first7 .ensures) (c2 .before .addresses .ensures)
+    (next _ _ (c4 .first6 .ensures) (c4 .before .tail-rule .ensures)
+    (next _ _ (c6 .first5 .ensures) (c6 .before .head-rule .ensures)
+    (next _ _ (c8 .first4 .ensures) (c8 .before .pending-open-rule .ensures)
+    (next _ _ (c10 .first3 .ensures) (c10 .before .commit-rules .ensures)
+    (next _ _ (c12 .first2 .ensures) (c12 .before .open-rule .ensures)
+    (next _ _ (c14 .first .ensures) (c14 .before .task-rule .ensures) (begin _ (c14 .before .before .phase-rule .ensures))))))))) ∙ in-groups _ _
 
 pub whole-spec : {M : Type 1} → statement M
 whole-spec =
@@ -138,22 +109,16 @@ whole-spec =
     first-requires
     open-rule-requires
     first-requires-2
-    open-serving-requires
+    commit-rules-requires
     first-requires-3
-    count-rule-requires
-    first-requires-4
-    pending-task-rule-requires
-    first-requires-5
-    pending-head-rule-requires
-    first-requires-6
     pending-open-rule-requires
-    first-requires-7
+    first-requires-4
     head-rule-requires
-    first-requires-8
+    first-requires-5
     tail-rule-requires
-    first-requires-9
+    first-requires-6
     addresses-requires
-    first-requires-10
+    first-requires-7
     records-requires
-    first-requires-11
+    first-requires-8
     returns)

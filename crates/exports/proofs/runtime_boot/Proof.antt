@@ -2,6 +2,8 @@
 use mathlib.Core.Path.{refl}
 use denote.Ref.{now}
 use Rattle.exports.proofs.OnDevice.{state-read, none-read}
+use Rattle.exports.proofs.Told.{told}
+use Rattle.model.specs.Calls.{Boot}
 use borrow.Author.Needs.{needs}
 use Rattle.exports.proofs.runtime_boot.Statement.{statement}
 use Rattle.exports.proofs.runtime_boot.Tie as tie
@@ -27,7 +29,7 @@ tell-requires c κs = search needs
 returns-2 : tie.Need-returns-2
 returns-2 c =
     state-read (now (c .before .before .before .before .before .before .before .before .before .before .before .args .device)) _ _ (c .before .before .before .before .before .before .before .is-state .ensures) (c .before .before .before .before .before .before .if1 .left) (c .before .before .before .before .state-of .ensures)
-    (c .before .before .before .boot .result, c .before .before .before .boot .ensures, c .tell .ensures .0, c .tell .ensures .1)
+    (told Boot _ _ (c .before .before .before .boot .result) (c .before .before .before .boot .ensures) (c .tell .ensures .0) (c .tell .ensures .1))
 
 pub runtime-boot-spec : {M : Type 1} → statement M
 runtime-boot-spec =

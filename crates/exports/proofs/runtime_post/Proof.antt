@@ -2,6 +2,8 @@
 use mathlib.Core.Path.{refl}
 use denote.Ref.{now}
 use Rattle.exports.proofs.OnDevice.{state-read, none-read}
+use Rattle.exports.proofs.Told.{told}
+use Rattle.model.specs.Calls.{Post}
 use borrow.Author.Needs.{needs}
 use Rattle.exports.proofs.runtime_post.Statement.{statement}
 use Rattle.exports.proofs.runtime_post.Tie as tie
@@ -27,7 +29,7 @@ tell-requires c κs = search needs
 returns-2 : tie.Need-returns-2
 returns-2 c =
     state-read (now (c .before .before .before .before .before .before .before .before .before .before .before .args .device)) _ _ (c .before .before .before .before .before .before .before .is-state .ensures) (c .before .before .before .before .before .before .if1 .left) (c .before .before .before .before .state-of .ensures)
-    (c .before .before .before .post .result, c .before .before .before .post .ensures, c .tell .ensures .0, c .tell .ensures .1)
+    (told (Post _ _) _ _ (c .before .before .before .post .result) (c .before .before .before .post .ensures) (c .tell .ensures .0) (c .tell .ensures .1))
 
 pub runtime-post-spec : {M : Type 1} → statement M
 runtime-post-spec =

@@ -1,10 +1,9 @@
 -- `runtime_run` meets its contract, by whether the device words are those of a device state. Assumes nothing.
-use mathlib.Core.Path.{refl, subst}
+use mathlib.Core.Path.{refl, ap, _∙_}
 use denote.Ref.{now}
 use Rattle.exports.proofs.OnDevice.{state-read, none-read}
+use Rattle.exports.proofs.Told.{told-run}
 use Rattle.model.specs.Calls.{run}
-use Rattle.model.specs.declared.Totals.{Totals}
-use Rattle.runtime.specs.RunResult.{RunPerforms}
 use borrow.Author.Needs.{needs}
 use Rattle.exports.proofs.runtime_run.Statement.{statement}
 use Rattle.exports.proofs.runtime_run.Tie as tie
@@ -41,17 +40,13 @@ same-length c = search needs
 
 returns-2 : tie.Need-returns-2
 returns-2 c =
-    let p = now (c .before .before .before .before .before .before .before .before .before .before .before .before .before .before .before .before .before .before .before .before .before .args .program) in
-    let s = now (c .before .before .before .before .before .before .before .before .before .before .before .before .before .before .before .before .before .before .before .before .before .args .store) in
+    let a = c .before .before .before .before .before .before .before .before .before .before .before .before .before .before .before .before .before .before .before .before .before .args in
     let d = c .before .before .before .before .before .before .before .before .before .before .before .before .before .before .state-of .result in
-    state-read (now (c .before .before .before .before .before .before .before .before .before .before .before .before .before .before .before .before .before .before .before .before .before .args .device)) _ _ (c .before .before .before .before .before .before .before .before .before .before .before .before .before .before .before .before .before .is-state .ensures) (c .before .before .before .before .before .before .before .before .before .before .before .before .before .before .before .before .if1 .left) (c .before .before .before .before .before .before .before .before .before .before .before .before .before .before .state-of .ensures) (
-      c .before .before .before .before .before .before .before .before .before .before .run .result,
-      subst (λ (t : Totals). RunPerforms p (run p (c .before .before .before .before .before .before .before .before .before .before .before .before .before .before .before .before .before .before .before .before .before .args .budget) s d t) (c .before .before .before .before .before .before .before .before .before .before .run .result) (c .before .before .before .before .before .before .before .before .before .before .run .last .1 .0)) (c .before .before .before .before .before .before .before .before .before .before .before .totals-of .ensures) (c .before .before .before .before .before .before .before .before .before .before .run .ensures),
-      refl,
-      c .before .before .before .before .write-ended .ensures,
-      c .before .before .write-device .ensures,
-      c .write-totals .ensures,
-    )
+    let ran = c .before .before .before .before .before .before .before .before .before .before .run in
+    state-read (now (a .device)) _ _ (c .before .before .before .before .before .before .before .before .before .before .before .before .before .before .before .before .before .is-state .ensures) (c .before .before .before .before .before .before .before .before .before .before .before .before .before .before .before .before .if1 .left) (c .before .before .before .before .before .before .before .before .before .before .before .before .before .before .state-of .ensures)
+    (told-run _ (ran .result)
+    (ran .ensures ∙ ap (run (now (a .program)) (a .budget) (now (a .store)) d) (c .before .before .before .before .before .before .before .before .before .before .before .totals-of .ensures))
+    (c .before .before .before .before .write-ended .ensures) (c .before .before .write-device .ensures) (c .write-totals .ensures))
 
 pub runtime-run-spec : {M : Type 1} → statement M
 runtime-run-spec =

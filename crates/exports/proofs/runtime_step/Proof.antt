@@ -2,7 +2,9 @@
 use mathlib.Core.Path.{refl, ap, _∙_}
 use denote.Ref.{now}
 use Rattle.exports.proofs.OnDevice.{state-read, none-read}
+use Rattle.exports.proofs.Told.{told}
 use Rattle.exports.specs.Exported.{totalsOf, totalsWords}
+use Rattle.model.specs.Calls.{Step}
 use Rattle.model.specs.declared.Totals.{Totals}
 use Rattle.runtime.proofs.Counted.{counted-as-told}
 use Rattle.totals.specs.Counted.{countedFrom}
@@ -48,12 +50,12 @@ returns-2 c =
     let r = c .before .before .before .before .before .before .before .before .before .before .before .before .step .result in
     let t = totalsOf (now (c .before .before .before .before .before .before .before .before .before .before .before .before .before .before .before .before .before .before .before .before .before .args .totals)) in
     state-read (now (c .before .before .before .before .before .before .before .before .before .before .before .before .before .before .before .before .before .before .before .before .before .args .device)) _ _ (c .before .before .before .before .before .before .before .before .before .before .before .before .before .before .before .before .before .is-state .ensures) (c .before .before .before .before .before .before .before .before .before .before .before .before .before .before .before .before .if1 .left) (c .before .before .before .before .before .before .before .before .before .before .before .before .before .before .state-of .ensures) (
-      (r, c .before .before .before .before .before .before .before .before .before .before .before .before .step .ensures, c .before .before .write-step .ensures, c .write-device .ensures),
+      told Step _ _ r (c .before .before .before .before .before .before .before .before .before .before .before .before .step .ensures) (c .before .before .write-step .ensures) (c .write-device .ensures),
       c .before .before .before .before .write-totals .ensures
           ∙ ap totalsWords
           (c .before .before .before .before .before .before .counted .ensures
           ∙ ap (λ (x : Totals). countedFrom x (r .answer) (r .stored)) (c .before .before .before .before .before .before .before .totals-of .ensures)
-          ∙ counted-as-told _ _ _ _ t (c .before .before .before .before .before .before .before .before .before .before .before .before .step .ensures)),
+          ∙ counted-as-told _ _ _ t (c .before .before .before .before .before .before .before .before .before .before .before .before .step .ensures)),
     )
 
 pub runtime-step-spec : {M : Type 1} → statement M

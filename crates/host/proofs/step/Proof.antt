@@ -53,8 +53,7 @@ use Rattle.model.specs.declared.Stored.{Stored}
 use Rattle.model.specs.declared.Totals.{Totals}
 use Rattle.device.proofs.CallResult as result
 use Rattle.device.proofs.CallResult.Laws as result-laws
-use Rattle.device.specs.Agree.{StepPerforms}
-use Rattle.device.specs.Result.{ofCall}
+use Rattle.device.specs.Result.{ofCall, StepPerforms}
 use Rattle.device.specs.declared.CallResult.{CallResult}
 use Rattle.totals.proofs.count as count
 use Rattle.totals.proofs.count.Met as count-met
@@ -154,7 +153,7 @@ module _ {M : Type 1} (𝓤 : URA M) (H : Heap 𝓤) (A : Atoms 𝓤) (W : Given
     exits r z t′ e e′ l =
         qed W ((‵ (flft κp qp) ⊛ ‵ (flft κs qs) ⊛ ‵ ftrue) ∷ (‵ (flft κt qt) ⊛ ‵ ftrue) ∷ ‵ (finally u16 (s .name) z) ∷ ‵ (fres (t .name) (totals.the-row .coded .code t′)) ∷ ‵ (result.the-row .own r (resultVal r ∷ [])) ∷ []) ∵
         suffices ! _ (ends-at 𝓤 H A this.ended stayed (this.clauses 𝓤 H A at-mem run) W (((κp, (κs, (κt, tt))), (qp, (qs, (qt, tt))), tt, args, vals), tt) (resultVal r) r (tt, (z, (tt, (t′, tt)))) (tt, (l, (tt, (tt, tt))))) $
-        says ! (record { performs = e; totals = e′ ∙ counted-as-told (p .now) (s .now) (step (p .now) (s .now) d) (ofCall r z) (t .now) e }) $
+        says ! (record { performs = e; totals = e′ ∙ counted-as-told (s .now) (step (p .now) (s .now) d) (ofCall r z) (t .now) e }) $
         -- the tokens
         split ! $ move ! (1 ∷ []) $ split ! $ move ! (0 ∷ 3 ∷ []) $ join ! $ move ! (2 ∷ 0 ∷ []) $ join ! $ frame ! $
         -- [..; the last words; the last totals; the result]

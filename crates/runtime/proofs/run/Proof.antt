@@ -1,14 +1,11 @@
 -- `run` meets its contract: the device is taken apart and put together again. Assumes nothing.
-use mathlib.Core.Path.{sym, ap, subst, _∙_}
+use mathlib.Core.Path.{ap, _∙_}
 use denote.Ref.{now}
-use Rattle.device.specs.Agree.{Agrees}
 use Rattle.device.specs.Result.{device}
 use Rattle.device.specs.declared.Core.{Core}
-use Rattle.model.specs.Calls.{RunOutcome, run}
-use Rattle.model.specs.Control.{rules}
-use Rattle.model.specs.Store.{view}
-use Rattle.model.specs.declared.Ended.{Ended}
-use Rattle.runtime.proofs.Runs.{run-agrees}
+use Rattle.model.specs.Calls.{run}
+use Rattle.model.specs.declared.Device.{Device}
+use Rattle.runtime.proofs.Runs.{ended}
 use borrow.Author.Needs.{needs}
 use Rattle.runtime.proofs.run.Statement.{statement}
 use Rattle.runtime.proofs.run.Tie as tie
@@ -27,19 +24,12 @@ same-length c = search needs
 
 returns : tie.Need-returns
 returns c =
-    let p = now (c .before .before .before .before .before .before .before .before .before .before .before .before .args .program) in
-    let s = now (c .before .before .before .before .before .before .before .before .before .before .before .before .args .store) in
-    let o = run p (c .before .before .before .before .before .before .before .before .before .before .before .before .args .budget) s (c .before .before .before .before .before .before .before .before .before .before .before .before .args .device) (c .before .before .before .before .before .before .before .before .before .before .before .before .args .totals) in
-    let q = c .before .before .before .before .before .run-in .ensures .run ∙ ap (λ (x : Core). run p (c .before .before .before .before .before .before .before .before .before .before .before .before .args .budget) s (device x (c .before .before .before .before .before .before .before .before .before .before .before .before .args .device .registers)) (c .before .before .before .before .before .before .before .before .before .before .before .before .args .totals)) (c .before .before .before .before .before .before .before .before .core-of .ensures) in
-    record {
-      steps = ap (λ (x : RunOutcome). x .steps) q;
-      ended =
-          subst (λ (x : RunOutcome). Agrees (rules p (view (o .store))) Ended.Refused (o .ended) (x .ended)) (sym q)
-          (run-agrees p (c .before .before .before .before .before .before .before .before .before .before .before .before .args .budget) s (c .before .before .before .before .before .before .before .before .before .before .before .before .args .device) (c .before .before .before .before .before .before .before .before .before .before .before .before .args .totals));
-      device = c .whole .ensures ∙ ap (λ (x : RunOutcome). x .device) q;
-      store = ap (λ (x : RunOutcome). x .store) q;
-      totals = ap (λ (x : RunOutcome). x .totals) q;
-    }
+    let a = c .before .before .before .before .before .before .before .before .before .before .before .before .args in
+    let c5 = c .before .before .before .before .before in
+    let r = c5 .run-in .result in
+    ap (λ (d : Device). ended (r .steps) (r .ended) (c5 .run-in .last .1 .0) d (r .totals)) (c .whole .ensures)
+    ∙ c5 .run-in .ensures .run
+    ∙ ap (λ (x : Core). run (now (a .program)) (a .budget) (now (a .store)) (device x (a .device .registers)) (a .totals)) (c5 .before .before .before .core-of .ensures)
 
 pub run-spec : {M : Type 1} → statement M
 run-spec =

@@ -1,10 +1,8 @@
 -- `step` meets its contract: a run with a budget of 1, between which the device is taken apart and put together again. Assumes nothing.
 use mathlib.Core.Path.{refl, ap, _∙_}
 use denote.Ref.{now}
-use Rattle.device.proofs.Agree.{performs}
 use Rattle.device.specs.Result.{device, ofOutcome}
 use Rattle.device.specs.declared.Core.{Core}
-use Rattle.model.specs.Calls.{Step, call}
 use Rattle.model.specs.Device.{step}
 use borrow.Author.Needs.{needs}
 use Rattle.runtime.proofs.step.Statement.{statement}
@@ -23,11 +21,12 @@ same-length : tie.Need-same-length
 same-length c = search needs
 
 returns : tie.Need-returns
-unfolding call step
+unfolding step
 returns c =
-    let s = now (c .before .before .before .before .before .before .before .before .before .before .args .store) in
-    let p = now (c .before .before .before .before .before .before .before .before .before .before .args .program) in
-    performs p s (c .before .before .before .before .before .before .before .before .before .before .args .device) Step (c .packed .ensures _ ∙ c .before .before .before .run-in .ensures .single refl ∙ ap (λ (x : Core). ofOutcome s (step p s (device x (c .before .before .before .before .before .before .before .before .before .before .args .device .registers)))) (c .before .before .before .before .before .before .core-of .ensures))
+    let a = c .before .before .before .before .before .before .before .before .before .before .args in
+    c .packed .ensures _
+    ∙ c .before .before .before .run-in .ensures .single refl
+    ∙ ap (λ (x : Core). ofOutcome (now (a .store)) (step (now (a .program)) (now (a .store)) (device x (a .device .registers)))) (c .before .before .before .before .before .before .core-of .ensures)
 
 pub step-spec : {M : Type 1} → statement M
 step-spec =

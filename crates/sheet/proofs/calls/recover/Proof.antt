@@ -4,6 +4,7 @@ use mathlib.Core.Path.{_≡_, refl, sym, ap, _∙_}
 use native.Mathlib.Omega.{arith}
 use denote.Ref.{now}
 use lib.ListN.{length}
+use Rattle.device.specs.Result.{Result}
 use Rattle.model.proofs.CallLaws.{booted}
 use Rattle.model.specs.Calls.{Now, afterCalls}
 use Rattle.model.specs.Calls.{steps as stepsOf}
@@ -59,7 +60,7 @@ returns c =
     let s = now (c .before .before .before .before .before .before .before .before .before .args .store) in
     let none-left : c .before .before .before .before .before .recovery-steps .result - c .before .loop .made ≡ 0 = omega arith in
     ap (λ (x : Now). x .store) (steps-none p _ _ _ none-left ∙ c .before .loop .inv .2)
-    ∙ ap (λ (d : Device). afterCalls p s d (stepsOf (c .before .before .before .before .before .recovery-steps .result)) .store) (c .before .before .before .boot .ensures .device)
+    ∙ ap (λ (d : Device). afterCalls p s d (stepsOf (c .before .before .before .before .before .recovery-steps .result)) .store) (ap (λ (x : Result). x .device) (c .before .before .before .boot .ensures))
     ∙ ap (λ (n : ℕ). afterCalls p s (boot p s off .device) (stepsOf n) .store) (c .before .before .before .before .before .recovery-steps .ensures)
     ∙ sym (ap (λ (x : Now). x .store) (booted p s off _))
 
