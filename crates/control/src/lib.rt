@@ -331,8 +331,21 @@ fn first(earlier: Checked, later: Checked) -> Checked
     later
 }
 
-// The early rules that speak in phases 1 and 2 alone: in phase 0 each of them is passed over.
+// The rules of words 10 to 12 that speak in phases 1 and 2 alone.
 fn commit_rules(program: &[u16], store: &[u16]) -> Checked
+    requires { ⌜ Contents (now program) ⌝ }
+    requires { ⌜ Shaped (now store) ⌝ }
+    ensures { λ r. ⌜ r ≡ obeyAll (commitRules (now (program .entry)) (view (now (store .entry)))) ⌝ }
+{
+    let found = open_serving(store);
+    let found = first(found, count_rule(store));
+    let found = first(found, pending_task_rule(program, store));
+    let found = first(found, pending_head_rule(store));
+    first(found, pending_move_rule(store))
+}
+
+// The same without a call in phase 0, where each of them is passed over: most steps are of phase 0.
+fn early_commit_rules(program: &[u16], store: &[u16]) -> Checked
     requires { ⌜ Contents (now program) ⌝ }
     requires { ⌜ Shaped (now store) ⌝ }
     ensures { λ r. ⌜ r ≡ obeyAll (commitRules (now (program .entry)) (view (now (store .entry)))) ⌝ }
@@ -340,11 +353,7 @@ fn commit_rules(program: &[u16], store: &[u16]) -> Checked
     if store[8] == 0 {
         return Checked::Accepted;
     }
-    let found = open_serving(store);
-    let found = first(found, count_rule(store));
-    let found = first(found, pending_task_rule(program, store));
-    let found = first(found, pending_head_rule(store));
-    first(found, pending_move_rule(store))
+    commit_rules(program, store)
 }
 
 // 7 without the rules that need a row, a log pair or a record.
@@ -357,7 +366,7 @@ pub fn early(program: &[u16], store: &[u16]) -> Checked
     let Checked::Accepted = found else {
         return found;
     };
-    let found = commit_rules(program, store);
+    let found = early_commit_rules(program, store);
     let Checked::Accepted = found else {
         return found;
     };

@@ -1,18 +1,10 @@
--- `commit_rules` meets its contract: in phase 0 no rule of them is asked, else their answers are joined. Assumes nothing.
+-- `commit_rules` meets its contract: the answers of its rules are joined. Assumes nothing.
 use mathlib.Core.Path.{sym, _∙_}
 use borrow.Author.Needs.{needs}
-use Rattle.model.specs.Control.{obey, obeyAll, openServing, countRule, pendingTaskRule, pendingHeadRule, pendingMoveRule}
-use Rattle.model.specs.Test.{must, _and_, _or_, _then_}
+use Rattle.model.specs.Control.{obeyAll}
 use Rattle.model.proofs.TestLaws.{then-accepted, last, next, begin}
 use Rattle.control.proofs.commit_rules.Statement.{statement}
 use Rattle.control.proofs.commit_rules.Tie as tie
-
-shared-slice-read-if1 : tie.Need-shared-slice-read-if1
-shared-slice-read-if1 c = search needs
-
-returns : tie.Need-returns
-unfolding obey obeyAll openServing countRule pendingTaskRule pendingHeadRule pendingMoveRule must _and_ _or_ _then_
-returns c = rw (c .if1 .taken)
 
 open-serving-requires : tie.Need-open-serving-requires
 open-serving-requires c κs = search needs
@@ -41,9 +33,9 @@ pending-move-rule-requires c κs = search needs
 first-requires-4 : tie.Need-first-requires-4
 first-requires-4 c κs = search needs
 
-returns-2 : tie.Need-returns-2
+returns : tie.Need-returns
 unfolding obeyAll
-returns-2 c =
+returns c =
     last _ (c .first4 .ensures) (c .before .pending-move-rule .ensures ∙ sym (then-accepted _))
     (next _ _ (c .before .before .first3 .ensures) (c .before .before .before .pending-head-rule .ensures)
     (next _ _ (c .before .before .before .before .first2 .ensures) (c .before .before .before .before .before .pending-task-rule .ensures)
@@ -54,8 +46,6 @@ pub commit-rules-spec : {M : Type 1} → statement M
 commit-rules-spec =
     tie.close
     (tie.spec
-    shared-slice-read-if1
-    returns
     open-serving-requires
     count-rule-requires
     first-requires
@@ -65,4 +55,4 @@ commit-rules-spec =
     first-requires-3
     pending-move-rule-requires
     first-requires-4
-    returns-2)
+    returns)

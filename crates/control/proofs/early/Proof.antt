@@ -44,8 +44,8 @@ enum-told-2 c = search needs
 returns : tie.Need-returns
 returns c = then-stop _ _ (last _ (c .before .before .first .ensures) (c .before .before .before .task-rule .ensures) (begin _ (c .before .before .before .before .phase-rule .ensures))) (c .enum-told2 .given .1) ∙ in-groups _ _
 
-commit-rules-requires : tie.Need-commit-rules-requires
-commit-rules-requires c κs = search needs
+early-commit-rules-requires : tie.Need-early-commit-rules-requires
+early-commit-rules-requires c κs = search needs
 
 enum-told-3 : tie.Need-enum-told-3
 enum-told-3 c = search needs
@@ -54,7 +54,7 @@ enum-told-4 : tie.Need-enum-told-4
 enum-told-4 c = search needs
 
 returns-2 : tie.Need-returns-2
-returns-2 c = then-stop _ _ (c .before .before .commit-rules .ensures) (c .enum-told4 .given .1) ∙ then-go _ _ (last _ (c .before .before .before .before .before .first .ensures) (c .before .before .before .before .before .before .task-rule .ensures) (begin _ (c .before .before .before .before .before .before .before .phase-rule .ensures))) (c .before .before .before .enum-told .given .1) ∙ in-groups _ _
+returns-2 c = then-stop _ _ (c .before .before .early-commit-rules .ensures) (c .enum-told4 .given .1) ∙ then-go _ _ (last _ (c .before .before .before .before .before .first .ensures) (c .before .before .before .before .before .before .task-rule .ensures) (begin _ (c .before .before .before .before .before .before .before .phase-rule .ensures))) (c .before .before .before .enum-told .given .1) ∙ in-groups _ _
 
 head-rule-requires : tie.Need-head-rule-requires
 head-rule-requires c κs = search needs
@@ -68,7 +68,7 @@ first-requires-2 c κs = search needs
 returns-3 : tie.Need-returns-3
 returns-3 c =
     last _ (c .first2 .ensures) (c .before .tail-rule .ensures) (begin _ (c .before .before .head-rule .ensures))
-    ∙ then-go _ _ (c .before .before .before .before .before .commit-rules .ensures) (c .before .before .before .enum-told3 .given .1)
+    ∙ then-go _ _ (c .before .before .before .before .before .early-commit-rules .ensures) (c .before .before .before .enum-told3 .given .1)
     ∙ then-go _ _ (last _ (c .before .before .before .before .before .before .before .before .first .ensures) (c .before .before .before .before .before .before .before .before .before .task-rule .ensures) (begin _ (c .before .before .before .before .before .before .before .before .before .before .phase-rule .ensures))) (c .before .before .before .before .before .before .enum-told .given .1)
     ∙ in-groups _ _
 
@@ -82,7 +82,7 @@ early-spec =
     enum-told
     enum-told-2
     returns
-    commit-rules-requires
+    early-commit-rules-requires
     enum-told-3
     enum-told-4
     returns-2

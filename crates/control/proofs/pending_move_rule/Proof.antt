@@ -1,6 +1,5 @@
 -- `control::pending_move_rule` meets its contract: its tests are the rule's. Assumes nothing.
 use borrow.Author.Needs.{needs}
-use borrow.Author.Tests.{le-leb, eq-eqb}
 use Rattle.model.specs.Control.{obey, pendingMoveRule, headRule, tailRule}
 use Rattle.model.specs.Test.{must, _and_}
 use Rattle.model.proofs.TestLaws.{tests, passed, failed}
@@ -39,31 +38,11 @@ pending-move-kept-requires c κs = search needs
 
 returns-4 : tie.Need-returns-4
 unfolding obey pendingMoveRule headRule tailRule must _and_
-returns-4 c =
-    let c2 = c .before .before in
-    let c5 = c2 .before .before .before in
-    let c8 = c5 .before .before .before in
-    simp (
-      eq-eqb _ _ (c8 .if1 .left),
-      le-leb _ _ (c5 .if2 .left),
-      le-leb _ _ (c2 .if3 .left),
-      failed
-          (c .before .pending-move-kept .ensures) (c .if4 .taken),
-    )
+returns-4 c = search (tests, failed (c .before .pending-move-kept .ensures) (c .if4 .taken))
 
 returns-5 : tie.Need-returns-5
 unfolding obey pendingMoveRule headRule tailRule must _and_
-returns-5 c =
-    let c2 = c .before .before in
-    let c5 = c2 .before .before .before in
-    let c8 = c5 .before .before .before in
-    simp (
-      eq-eqb _ _ (c8 .if1 .left),
-      le-leb _ _ (c5 .if2 .left),
-      le-leb _ _ (c2 .if3 .left),
-      passed
-          (c .before .pending-move-kept .ensures) (c .if4 .left),
-    )
+returns-5 c = search (tests, passed (c .before .pending-move-kept .ensures) (c .if4 .left))
 
 pub pending-move-rule-spec : {M : Type 1} → statement M
 pending-move-rule-spec =
