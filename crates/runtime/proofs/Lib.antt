@@ -1,4 +1,3 @@
 -- The laws that belong to no one function.
-pub mod Cases
 pub mod Runs
 pub mod Counted

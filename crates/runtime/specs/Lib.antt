@@ -1,3 +1,2 @@
--- What a run promises, and a commit's last stores as cases of a step.
+-- What a run promises.
 pub mod RunResult
-pub mod Steps

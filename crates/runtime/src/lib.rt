@@ -24,9 +24,7 @@ use model::Ended;
 use model::Refusal;
 use model::Stored;
 use model::Totals;
-
-mod copying;
-mod steps;
+use steps;
 
 // What steps leave: the answer of the last one, refused or not, and which word it stored; how many were made and how they ended; the
 // device, apart from its registers, and the totals.

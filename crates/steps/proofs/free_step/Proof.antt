@@ -6,8 +6,8 @@ use Rattle.model.proofs.DeviceLaws.{free-chooses, free-copies}
 use Rattle.model.specs.Device.{Outcome}
 use Rattle.model.specs.Store.{view}
 use borrow.Author.Needs.{needs}
-use Rattle.runtime.proofs.steps.free_step.Statement.{statement}
-use Rattle.runtime.proofs.steps.free_step.Tie as tie
+use Rattle.steps.proofs.free_step.Statement.{statement}
+use Rattle.steps.proofs.free_step.Tie as tie
 
 slice-read-if1 : tie.Need-slice-read-if1
 slice-read-if1 c = search needs

@@ -10,8 +10,8 @@ use Rattle.model.specs.Test.{pick}
 use Rattle.model.specs.declared.Answer.{Answer}
 use Rattle.model.specs.declared.Device.{Device}
 use Rattle.model.specs.declared.Handler.the-variants.{Resting, Storing}
-use Rattle.runtime.proofs.steps.handler_step.Statement.{statement}
-use Rattle.runtime.proofs.steps.handler_step.Tie as tie
+use Rattle.steps.proofs.handler_step.Statement.{statement}
+use Rattle.steps.proofs.handler_step.Tie as tie
 
 module _ (v : Store) (d : Device) (c e x : ℕ) where
   event-store : c ≡ 0 → handlerStep v d c e x ≡ out (to (Event (v .tail)) e) (withHandler d (Storing 1 e x)) Answer.Stored

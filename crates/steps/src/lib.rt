@@ -6,7 +6,6 @@ ghost use Rattle.model.specs.Device.{handlerStep, chooseStep, placeStep};
 ghost use Rattle.model.specs.Program.{word};
 ghost use Rattle.model.specs.Accepted.{Shaped, Looked};
 ghost use Rattle.device.specs.Result.{device, coreResult, ofCore, leaves, placeStepOf, nextStepOf, OnAnyRegisters};
-use super::copying;
 use body;
 use control::single;
 use device::Core;
@@ -20,8 +19,10 @@ use model::Place;
 use model::Stored;
 use store::queue;
 
+mod copying;
+
 // "A handler at work makes its next store: event, data, then tail. The tail store accepts the event": so many of them are made.
-pub fn handler_step(store: &mut [u16], core: Core, made: u16, event: u16, datum: u16) -> CoreResult
+fn handler_step(store: &mut [u16], core: Core, made: u16, event: u16, datum: u16) -> CoreResult
     requires { ⌜ Shaped (now store) ⌝ }
     requires { ⌜ (word (now store) 15 ≤ word (now store) 3) × (made < 3) ⌝ }
     ensures { λ r. ⌜ OnAnyRegisters core r (now (store .exit))
@@ -69,12 +70,7 @@ fn handler_result(core: Core, handler: Handler, answer: Answer, stored: Stored) 
 }
 
 // "if word 10 is 0 and the queue isn't empty, the event at head; otherwise the current task"
-pub fn choose_step(
-    program: &[u16],
-    store: &[u16],
-    registers: &mut [u16; 8],
-    core: Core,
-) -> CoreResult
+fn choose_step(program: &[u16], store: &[u16], registers: &mut [u16; 8], core: Core) -> CoreResult
     requires { ⌜ Looked (now program) (now store) (device core (now registers)) ⌝ }
     ensures { λ r. ⌜ ofCore r (now (registers .exit)) (now (store .entry))
         ≡ leaves (chooseStep (now (program .entry))) (now (store .entry)) (device core (now (registers .entry))) ⌝ }

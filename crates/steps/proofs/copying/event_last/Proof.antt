@@ -5,8 +5,8 @@ use Rattle.model.specs.Device.{fresh, storing, eventLastStores, withPlace}
 use Rattle.model.specs.Store.{settled, storedWord, index}
 use Rattle.model.specs.Test.{pick}
 use borrow.Author.Needs.{needs}
-use Rattle.runtime.proofs.copying.event_last.Statement.{statement}
-use Rattle.runtime.proofs.copying.event_last.Tie as tie
+use Rattle.steps.proofs.copying.event_last.Statement.{statement}
+use Rattle.steps.proofs.copying.event_last.Tie as tie
 
 slice-read-store : tie.Need-slice-read-store
 slice-read-store c = search needs

@@ -11,8 +11,8 @@ use Rattle.model.specs.Program.{memoryWords}
 use Rattle.model.specs.Store.{settled, storedWord, view, address}
 use Rattle.model.specs.Test.{pick}
 use borrow.Author.Needs.{needs}
-use Rattle.runtime.proofs.copying.copy.Statement.{statement}
-use Rattle.runtime.proofs.copying.copy.Tie as tie
+use Rattle.steps.proofs.copying.copy.Statement.{statement}
+use Rattle.steps.proofs.copying.copy.Tie as tie
 
 pair-address-requires : tie.Need-pair-address-requires
 pair-address-requires c κs = search needs

@@ -8,8 +8,8 @@ use Rattle.model.specs.Device.{placeStep}
 use Rattle.model.specs.Store.{view}
 use Rattle.model.specs.declared.Place.{Place}
 use borrow.Author.Needs.{needs}
-use Rattle.runtime.proofs.steps.place_step.Statement.{statement}
-use Rattle.runtime.proofs.steps.place_step.Tie as tie
+use Rattle.steps.proofs.place_step.Statement.{statement}
+use Rattle.steps.proofs.place_step.Tie as tie
 
 enum-known-place : tie.Need-enum-known-place
 enum-known-place c = search needs

@@ -8,8 +8,8 @@ use Rattle.model.specs.Store.{settled, storedWord, view}
 use Rattle.model.specs.Test.{pick, _and_}
 use Rattle.device.specs.Result.{device, ofOutcome}
 use borrow.Author.Needs.{needs}
-use Rattle.runtime.proofs.steps.choose_step.Statement.{statement}
-use Rattle.runtime.proofs.steps.choose_step.Tie as tie
+use Rattle.steps.proofs.choose_step.Statement.{statement}
+use Rattle.steps.proofs.choose_step.Tie as tie
 
 shared-slice-read-if1 : tie.Need-shared-slice-read-if1
 shared-slice-read-if1 c = search needs

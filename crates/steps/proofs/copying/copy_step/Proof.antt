@@ -6,10 +6,10 @@ use Rattle.device.specs.Result.{device, ofOutcome}
 use Rattle.model.proofs.DeviceLaws.{task-last, event-last}
 use Rattle.model.specs.Device.{Outcome}
 use Rattle.model.specs.Store.{view}
-use Rattle.runtime.proofs.Cases.{copies-fit, task-left, event-left}
+use Rattle.steps.proofs.Cases.{copies-fit, task-left, event-left}
 use borrow.Author.Needs.{needs}
-use Rattle.runtime.proofs.copying.copy_step.Statement.{statement}
-use Rattle.runtime.proofs.copying.copy_step.Tie as tie
+use Rattle.steps.proofs.copying.copy_step.Statement.{statement}
+use Rattle.steps.proofs.copying.copy_step.Tie as tie
 
 slice-read-copies : tie.Need-slice-read-copies
 slice-read-copies c = search needs

@@ -6,7 +6,7 @@ ghost use Rattle.model.specs.Device.{copyStep, taskLastStores, eventLastStores}
 ghost use Rattle.model.specs.Program.{word};
 ghost use Rattle.model.specs.Accepted.{Contents, ShapedFor, Looked};
 ghost use Rattle.device.specs.Result.{device, ofCore, leaves, OnAnyRegisters};
-ghost use Rattle.runtime.specs.Steps.{lastStore};
+ghost use Rattle.steps.specs.Steps.{lastStore};
 use control::single;
 use device::Core;
 use device::CoreResult;

@@ -6,8 +6,8 @@ use Rattle.model.specs.Device.{recordStores, nextStep}
 use Rattle.model.specs.Store.{view, carried}
 use Rattle.model.specs.declared.Handler.{Handler}
 use borrow.Author.Needs.{needs}
-use Rattle.runtime.proofs.steps.next_step.Statement.{statement}
-use Rattle.runtime.proofs.steps.next_step.Tie as tie
+use Rattle.steps.proofs.next_step.Statement.{statement}
+use Rattle.steps.proofs.next_step.Tie as tie
 
 enum-told : tie.Need-enum-told
 enum-told c = search needs
