@@ -17,12 +17,13 @@
 #define RUNTIME_STEP_ANSWER_WORDS 6 /* a step's answer tells the word stored, too */
 #define RUNTIME_TOTALS_NUMBERS 3
 #define RUNTIME_REGISTERS 8
+#define RUNTIME_LINES_ROW_WORDS 4   /* a line table's rows */
 
 /* The length of a store of M memory words, L log pairs and Q queue records. */
 #define RUNTIME_STORE_WORDS(memory_words, log_pairs, queue_records) \
     (18 + (memory_words) + 2 * (log_pairs) + 2 * (queue_records))
 
-/* ---- The largest values. The least is 1; of events and transaction numbers 0. */
+/* ---- The largest values. The least is 1; of events, transaction numbers, lines and a line table's rows 0. */
 
 #define RUNTIME_MAX_TASKS 32
 #define RUNTIME_MAX_EVENTS 16
@@ -33,6 +34,8 @@
 #define RUNTIME_MAX_TRANSACTION 255
 #define RUNTIME_MAX_PROGRAM_WORDS 24726
 #define RUNTIME_MAX_STORE_WORDS 1234
+#define RUNTIME_MAX_LINE 15
+#define RUNTIME_MAX_LINES_ROWS 64
 
 /* ---- An answer's words. Every call writes them; what a case doesn't have is 0. */
 
@@ -44,15 +47,16 @@
 #define RUNTIME_ANSWER_STORED 5       /* of a step alone: the index of the store's word that it stored, even where
                                        * the value stayed the same, or RUNTIME_NO_STORE */
 
-#define RUNTIME_CASE_DONE 0      /* check, format, boot, post, cut */
-#define RUNTIME_CASE_CHOSEN 1    /* step: a body, with its kind and number */
-#define RUNTIME_CASE_WORKED 2    /* step */
-#define RUNTIME_CASE_STORED 3    /* step */
-#define RUNTIME_CASE_COMMITTED 4 /* step: a body, with its kind and number */
-#define RUNTIME_CASE_ACCEPTED 5  /* step */
-#define RUNTIME_CASE_REFUSED 6   /* all but cut: the refusal's number and place */
-#define RUNTIME_CASE_SPENT 7     /* run */
-#define RUNTIME_CASE_NO_DEVICE 8 /* boot, step, post, run: the device's words stand for no device state */
+#define RUNTIME_CASE_DONE 0           /* check, format, boot, post, cut; lines_check; raise: the event was posted */
+#define RUNTIME_CASE_CHOSEN 1         /* step: a body, with its kind and number */
+#define RUNTIME_CASE_WORKED 2         /* step */
+#define RUNTIME_CASE_STORED 3         /* step */
+#define RUNTIME_CASE_COMMITTED 4      /* step: a body, with its kind and number */
+#define RUNTIME_CASE_ACCEPTED 5       /* step */
+#define RUNTIME_CASE_REFUSED 6        /* all but cut: the refusal's number and place */
+#define RUNTIME_CASE_SPENT 7          /* run */
+#define RUNTIME_CASE_NO_DEVICE 8      /* boot, step, post, run, raise: the device's words stand for no device state */
+#define RUNTIME_CASE_NOTHING_POSTED 9 /* raise: the line has no rows, or its row has no event */
 
 #define RUNTIME_KIND_TASK 0
 #define RUNTIME_KIND_EVENT 1
@@ -60,7 +64,8 @@
 #define RUNTIME_NO_STORE 65535
 
 /* ---- Refusals. A refusal changes no word of store, device and totals; in a run this holds for the refused step, and
- * the steps before it stand. Nor does a call with no device change any; a run then has made 0 steps. */
+ * the steps before it stand. Nor does a call with no device change any; a run then has made 0 steps. Nor does a raise
+ * that posts nothing. */
 
 #define RUNTIME_REFUSAL_PROGRAM_LENGTH 1 /* under 6 words, or unlike word RUNTIME_PROGRAM_TOTAL_WORDS */
 #define RUNTIME_REFUSAL_PROGRAM_MARK 2
@@ -73,11 +78,14 @@
 #define RUNTIME_REFUSAL_STORE_SIZE 9     /* log pairs or queue records, when formatting */
 #define RUNTIME_REFUSAL_HANDLER_BUSY 20  /* a handler is at work */
 #define RUNTIME_REFUSAL_QUEUE_FULL 21
-#define RUNTIME_REFUSAL_POWER_OFF 22     /* step or post while off */
+#define RUNTIME_REFUSAL_POWER_OFF 22     /* step, post or raise while off */
 #define RUNTIME_REFUSAL_ADDRESS 23       /* past the memory words */
 #define RUNTIME_REFUSAL_LOG_FULL 24      /* SAVE to an address not in the log, with all pairs used */
 #define RUNTIME_REFUSAL_STATE 25         /* device state unlike program or store */
 #define RUNTIME_REFUSAL_POWER_ON 26      /* boot while on */
+#define RUNTIME_REFUSAL_LINES_ROW 30     /* a row that is one too many, incomplete or wrong; place: row */
+#define RUNTIME_REFUSAL_LINES_GAP 31     /* no row has a level of a line that has rows; place: line, lowest such level */
+#define RUNTIME_REFUSAL_LINES_OVERLAP 32 /* two rows have a level of a line; place: line, lowest such level */
 
 /* ---- The program's first words */
 
@@ -148,8 +156,17 @@
 #define RUNTIME_TOTALS_ACCEPTED 1  /* events */
 #define RUNTIME_TOTALS_STORES 2
 
-/* ---- The functions. A program and a store are words with their number. No pointer is null. Store, device, totals and
- * answer don't overlap each other or the program. */
+/* ---- A line table: a row's words. A level from the low one to the high one, both included, is the row's. */
+
+#define RUNTIME_LINES_LINE 0
+#define RUNTIME_LINES_LOW 1
+#define RUNTIME_LINES_HIGH 2
+#define RUNTIME_LINES_EVENT 3
+
+#define RUNTIME_LINES_NO_EVENT 65535 /* in the event's place: raising posts nothing */
+
+/* ---- The functions. A program, a store and a line table are words with their number. No pointer is null. Store, device,
+ * totals and answer don't overlap each other, the program or the table. */
 
 #ifdef __cplusplus
 extern "C" {
@@ -177,6 +194,13 @@ void runtime_cut(uint16_t device[RUNTIME_DEVICE_WORDS], uint16_t answer[RUNTIME_
 uint32_t runtime_run(const uint16_t *program, size_t program_length, uint16_t *store, size_t store_length,
                      uint16_t device[RUNTIME_DEVICE_WORDS], uint32_t totals[RUNTIME_TOTALS_NUMBERS], uint32_t budget,
                      uint16_t answer[RUNTIME_ANSWER_WORDS]);
+
+void runtime_lines_check(const uint16_t *table, size_t table_length, uint16_t answer[RUNTIME_ANSWER_WORDS]);
+
+/* The table is checked, and then the post of the event that it has for this level of the line, with the level as data. */
+void runtime_raise(const uint16_t *program, size_t program_length, const uint16_t *store, size_t store_length,
+                   uint16_t device[RUNTIME_DEVICE_WORDS], const uint16_t *table, size_t table_length, uint16_t line,
+                   uint16_t level, uint16_t answer[RUNTIME_ANSWER_WORDS]);
 
 #ifdef __cplusplus
 }

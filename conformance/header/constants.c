@@ -24,6 +24,9 @@ static uint16_t device_expected[64];
 static uint32_t totals[64];
 static uint16_t answer[64];
 static uint16_t answer_expected[64];
+static uint16_t line_words[512];
+static uint16_t *const table = line_words + 8; /* room for an index that is one less */
+static size_t table_length;
 
 static void holds(int condition, const char *text, int line)
 {
@@ -112,6 +115,19 @@ static uint32_t run(uint32_t budget)
     return runtime_run(program, program_length, store, store_length, device, totals, budget, answer);
 }
 
+static void lines_check(void)
+{
+    guard(answer, ALL(answer));
+    runtime_lines_check(table, table_length, answer);
+}
+
+static void raise_line(int line, int level)
+{
+    guard(answer, ALL(answer));
+    runtime_raise(program, program_length, store, store_length, device, table, table_length, (uint16_t)line,
+                  (uint16_t)level, answer);
+}
+
 /* Whether a step answers this case of no body, and this word as stored. */
 static int steps(int which, int stored)
 {
@@ -188,6 +204,7 @@ static void lengths(void)
     HOLDS(RUNTIME_ANSWER_STORED == RUNTIME_STEP_ANSWER_WORDS - 1);
     HOLDS(RUNTIME_DEVICE_DATUM == RUNTIME_DEVICE_WORDS - 1);
     HOLDS(RUNTIME_TOTALS_STORES == RUNTIME_TOTALS_NUMBERS - 1);
+    HOLDS(RUNTIME_LINES_EVENT == RUNTIME_LINES_ROW_WORDS - 1);
 }
 
 /* ---- Limits, and refusals of programs and sizes */
@@ -476,6 +493,86 @@ static void address_and_log(void)
     HOLDS(step_refuses(RUNTIME_REFUSAL_LOG_FULL));
 }
 
+/* ---- Line tables */
+
+static void no_rows(void)
+{
+    memset(line_words, 0, sizeof line_words);
+    table_length = 0;
+}
+
+static void row(int line, int low, int high, int event)
+{
+    uint16_t *words = table + table_length;
+
+    words[RUNTIME_LINES_LINE] = (uint16_t)line;
+    words[RUNTIME_LINES_LOW] = (uint16_t)low;
+    words[RUNTIME_LINES_HIGH] = (uint16_t)high;
+    words[RUNTIME_LINES_EVENT] = (uint16_t)event;
+    table_length += RUNTIME_LINES_ROW_WORDS;
+}
+
+/* As many rows as there may be, of 1024 levels each, on the last line; then one more, and a line past the last. */
+static void lines_limits(void)
+{
+    int number;
+
+    no_rows();
+    HOLDS((lines_check(), is(RUNTIME_CASE_DONE)));
+    for (number = 0; number < RUNTIME_MAX_LINES_ROWS; number++)
+        row(RUNTIME_MAX_LINE, 1024 * number, 1024 * number + 1023, number);
+    HOLDS((lines_check(), is(RUNTIME_CASE_DONE)));
+    row(0, 0, 65535, 0);
+    HOLDS((lines_check(), refuses(RUNTIME_REFUSAL_LINES_ROW, RUNTIME_MAX_LINES_ROWS, 0)));
+    no_rows();
+    row(RUNTIME_MAX_LINE, 0, 65535, 0);
+    row(RUNTIME_MAX_LINE + 1, 0, 65535, 0);
+    HOLDS((lines_check(), refuses(RUNTIME_REFUSAL_LINES_ROW, 1, 0)));
+}
+
+static void lines_refusals(void)
+{
+    no_rows();
+    row(3, 0, 65535, 0);
+    row(3, 9, 8, 0);
+    HOLDS((lines_check(), refuses(RUNTIME_REFUSAL_LINES_ROW, 1, 0)));
+    table_length = RUNTIME_LINES_ROW_WORDS + 1;
+    HOLDS((lines_check(), refuses(RUNTIME_REFUSAL_LINES_ROW, 1, 0)));
+    no_rows();
+    row(3, 0, 65535, 0);
+    row(5, 0, 99, 0);
+    row(5, 101, 65535, 0);
+    HOLDS((lines_check(), refuses(RUNTIME_REFUSAL_LINES_GAP, 5, 100)));
+    no_rows();
+    row(3, 0, 65535, 0);
+    row(5, 0, 100, 0);
+    row(5, 100, 65535, 0);
+    HOLDS((lines_check(), refuses(RUNTIME_REFUSAL_LINES_OVERLAP, 5, 100)));
+}
+
+static void lines_raised(void)
+{
+    guard(device, ALL(device));
+    life_program();
+    fresh(3, 2);
+    HOLDS((boot(), is(RUNTIME_CASE_DONE)));
+    no_rows();
+    row(4, 500, 65535, RUNTIME_LINES_NO_EVENT);
+    row(4, 0, 499, 1);
+    expect_on();
+    HOLDS((raise_line(4, 500), is(RUNTIME_CASE_NOTHING_POSTED)));
+    HOLDS((raise_line(5, 77), is(RUNTIME_CASE_NOTHING_POSTED)));
+    HOLDS(device_is_expected());
+    HOLDS((raise_line(4, 77), is(RUNTIME_CASE_DONE)));
+    device_expected[RUNTIME_DEVICE_HANDLER] = RUNTIME_HANDLER_EVENT;
+    device_expected[RUNTIME_DEVICE_EVENT] = 1;
+    device_expected[RUNTIME_DEVICE_DATUM] = 77;
+    HOLDS(device_is_expected());
+    HOLDS((raise_line(4, 499), refuses(RUNTIME_REFUSAL_HANDLER_BUSY, 0, 0)));
+    table_length -= RUNTIME_LINES_ROW_WORDS;
+    HOLDS((raise_line(4, 500), refuses(RUNTIME_REFUSAL_LINES_GAP, 4, 0)));
+}
+
 int main(void)
 {
     lengths();
@@ -487,5 +584,8 @@ int main(void)
     store_refusals();
     power_and_queue();
     address_and_log();
+    lines_limits();
+    lines_refusals();
+    lines_raised();
     return EXIT_SUCCESS;
 }

@@ -1,6 +1,7 @@
 //! The counting program of the paper and the cases under it, for any implementation. A case that fails panics
 //! with what differs; `all` catches that and prints the case's name.
 
+use crate::lines::cases as lines;
 use crate::reference::{DONE, GO, JLT, JUMP, LOADX, SAVE, SET, SHR};
 use crate::runtime::*;
 use crate::scenario::{Call, Outcome};
@@ -13,11 +14,11 @@ pub const COUNTING: [u16; 26] = [
     0x0900, 0x0001, 0x1000, 0x0000, // saves its data in word 1
 ];
 
-fn refused(number: u16) -> Answer {
+pub(crate) fn refused(number: u16) -> Answer {
     Answer::Refused(Refusal { number, place: (0, 0) })
 }
 
-fn refused_at(number: u16, first: u16, second: u16) -> Answer {
+pub(crate) fn refused_at(number: u16, first: u16, second: u16) -> Answer {
     Answer::Refused(Refusal { number, place: (first, second) })
 }
 
@@ -30,16 +31,16 @@ fn with(changes: &[(usize, u16)]) -> Vec<u16> {
 }
 
 /// A program, a formatted store, a device and totals.
-struct Bench<'a> {
+pub(crate) struct Bench<'a> {
     runtime: &'a dyn Runtime,
-    program: Vec<u16>,
-    store: Vec<u16>,
-    device: Device,
+    pub program: Vec<u16>,
+    pub store: Vec<u16>,
+    pub device: Device,
     totals: Totals,
 }
 
 impl<'a> Bench<'a> {
-    fn new(runtime: &'a dyn Runtime, program: &[u16], log_pairs: u16, queue_records: u16) -> Bench<'a> {
+    pub fn new(runtime: &'a dyn Runtime, program: &[u16], log_pairs: u16, queue_records: u16) -> Bench<'a> {
         let length = 18 + program[3] as usize + 2 * log_pairs as usize + 2 * queue_records as usize;
         let mut store = vec![0xAAAA; length];
         assert_eq!(runtime.format(program, log_pairs, queue_records, &mut store), Answer::Done);
@@ -53,7 +54,7 @@ impl<'a> Bench<'a> {
         bench
     }
 
-    fn counting(runtime: &'a dyn Runtime) -> Bench<'a> {
+    pub fn counting(runtime: &'a dyn Runtime) -> Bench<'a> {
         Bench::booted(runtime, &COUNTING, 1, 1)
     }
 
@@ -69,7 +70,7 @@ impl<'a> Bench<'a> {
         self.runtime.step(&self.program, &mut self.store, &mut self.device, &mut self.totals)
     }
 
-    fn steps(&mut self, count: usize) -> Answer {
+    pub fn steps(&mut self, count: usize) -> Answer {
         let mut answer = Answer::Done;
         for _ in 0..count {
             answer = self.step();
@@ -78,8 +79,12 @@ impl<'a> Bench<'a> {
         answer
     }
 
-    fn post(&mut self, event: u16, datum: u16) -> Answer {
+    pub fn post(&mut self, event: u16, datum: u16) -> Answer {
         self.runtime.post(&self.program, &mut self.store, &mut self.device, event, datum)
+    }
+
+    pub fn raise(&mut self, table: &[u16], line: u16, level: u16) -> Answer {
+        self.runtime.raise(&self.program, &mut self.store, &mut self.device, table, line, level)
     }
 
     fn cut(&mut self) {
@@ -100,7 +105,7 @@ impl<'a> Bench<'a> {
         steps
     }
 
-    fn memory(&self) -> &[u16] {
+    pub fn memory(&self) -> &[u16] {
         &self.store[16..16 + self.program[3] as usize]
     }
 }
@@ -529,7 +534,7 @@ fn an_event_ends_with_done_only(runtime: &dyn Runtime) {
 }
 
 /// The cases by name.
-pub const CASES: [(&str, fn(&dyn Runtime)); 22] = [
+pub const CASES: [(&str, fn(&dyn Runtime)); 31] = [
     ("accepted and lengths", accepted_and_lengths),
     ("tasks and last instruction", tasks_and_last_instruction),
     ("load address", load_address),
@@ -552,6 +557,15 @@ pub const CASES: [(&str, fn(&dyn Runtime)); 22] = [
     ("word 12 in phase 2", word_12_in_phase_2),
     ("the word that a step uses", the_word_that_a_step_uses),
     ("an event ends with done only", an_event_ends_with_done_only),
+    ("right line tables", lines::right_tables),
+    ("wrong rows of a line table", lines::wrong_rows),
+    ("the 65th row of a line table", lines::the_65th_row),
+    ("uncovered levels", lines::uncovered_levels),
+    ("levels covered twice", lines::levels_covered_twice),
+    ("gaps before overlaps", lines::gaps_before_overlaps),
+    ("what a raise posts", lines::what_a_raise_posts),
+    ("what a raise meets first", lines::what_a_raise_meets_first),
+    ("a raise without a device", lines::a_raise_without_a_device),
 ];
 
 /// Every case on an implementation. Whether all hold.

@@ -1,10 +1,11 @@
 //! The comparing driver: two implementations perform the same list of calls, and after every call the answer,
 //! the store, the device state and the totals must be equal, and after a step the word that it stored. A refused
-//! call, and one without a device, must have changed nothing. Also the counts of what came up.
+//! call, one without a device and a raise that posts nothing must have changed nothing. Also the counts of what came up.
 
+use crate::lines::situations::Lines;
 use crate::reference::PHASE;
 use crate::runtime::*;
-use crate::scenario::{outcome_text, Call, Machine, Outcome, Scenario, CALL_NAMES, LARGE_BUDGET};
+use crate::scenario::{outcome_text, Call, Machine, Outcome, Scenario, CALL_KINDS, CALL_NAMES, LARGE_BUDGET};
 use crate::seven::Several;
 
 /// Where and how two implementations differ, or one breaks a demand.
@@ -20,12 +21,14 @@ pub struct Difference {
 pub struct Counts {
     pub scenarios: u64,
     /// By `CALL_NAMES`.
-    pub calls: [u64; 7],
+    pub calls: [u64; CALL_KINDS],
     pub run_steps: u64,
     /// By `CALL_NAMES`, then by number.
-    pub refusals: [[u64; 32]; 7],
+    pub refusals: [ByNumber; CALL_KINDS],
     /// By `CALL_NAMES`: calls with words in the device's place that stand for no device state.
-    pub no_device: [u64; 7],
+    pub no_device: [u64; CALL_KINDS],
+    /// By `CALL_NAMES`: raises that posted nothing, and said so.
+    pub nothing_posted: [u64; CALL_KINDS],
     pub committed: u64,
     pub accepted: u64,
     /// Cuts while the phase is 1 or 2, and of these the ones after a boot into that phase.
@@ -43,6 +46,21 @@ pub struct Counts {
     pub at_largest: u64,
     /// Refusals 7 with several rules broken.
     pub several: Several,
+    /// Line tables and raises.
+    pub lines: Lines,
+}
+
+/// Above every number of the papers.
+const NUMBERS: usize = 34;
+
+/// Counts by number.
+#[derive(Clone, Copy, Debug)]
+pub struct ByNumber(pub [u64; NUMBERS]);
+
+impl Default for ByNumber {
+    fn default() -> ByNumber {
+        ByNumber([0; NUMBERS])
+    }
 }
 
 impl Counts {
@@ -55,9 +73,10 @@ impl Counts {
         let Some(kind) = call.kind() else { return };
         self.calls[kind] += 1;
         if let Some(refusal) = outcome.refusal() {
-            self.refusals[kind][(refusal.number as usize).min(31)] += 1;
+            self.refusals[kind].0[(refusal.number as usize).min(NUMBERS - 1)] += 1;
         }
         self.no_device[kind] += outcome.no_device() as u64;
+        self.nothing_posted[kind] += outcome.nothing_posted() as u64;
         if let (Outcome::Run(answer), Call::Run { budget }) = (outcome, call) {
             self.run_steps += answer.steps as u64;
             let refused = outcome.refusal().is_some();
@@ -91,14 +110,16 @@ impl Counts {
         for kind in 0..CALL_NAMES.len() {
             self.calls[kind] += other.calls[kind];
             self.no_device[kind] += other.no_device[kind];
-            for number in 0..32 {
-                self.refusals[kind][number] += other.refusals[kind][number];
+            self.nothing_posted[kind] += other.nothing_posted[kind];
+            for number in 0..NUMBERS {
+                self.refusals[kind].0[number] += other.refusals[kind].0[number];
             }
         }
         for (sum, more) in self.singles_mut().into_iter().zip(other.singles()) {
             *sum += more.1;
         }
         self.several.add_all(&other.several);
+        self.lines.add_all(&other.lines);
     }
 
     /// The counts that are one number each, with their names.
@@ -140,37 +161,37 @@ impl Counts {
 
     /// The table: for each call how often it was made, met words that are no device, and each refusal.
     pub fn table(&self) -> String {
-        let mut text = format!("{:>12}", "");
-        for name in CALL_NAMES.iter().chain(&["all"]) {
-            text.push_str(&format!("{name:>9}"));
+        let wide = |kind: usize| CALL_NAMES.get(kind).map_or(0, |name| name.len() + 1).max(9);
+        let mut text = format!("{:>15}", "");
+        for (kind, name) in CALL_NAMES.iter().chain(&["all"]).enumerate() {
+            text.push_str(&format!("{name:>0$}", wide(kind)));
         }
         text.push('\n');
-        let mut row = |name: String, counts: [u64; 7]| {
-            text.push_str(&format!("{name:>12}"));
-            for count in counts {
-                match count {
-                    0 => text.push_str(&format!("{:>9}", ".")),
-                    count => text.push_str(&format!("{count:>9}")),
-                }
+        let mut row = |name: String, counts: [u64; CALL_KINDS]| {
+            text.push_str(&format!("{name:>15}"));
+            for (kind, count) in counts.into_iter().enumerate() {
+                let count = if count == 0 { ".".into() } else { count.to_string() };
+                text.push_str(&format!("{count:>0$}", wide(kind)));
             }
             text.push_str(&format!("{:>9}\n", counts.iter().sum::<u64>()));
         };
         row("calls".into(), self.calls);
         row("no device".into(), self.no_device);
+        row("nothing posted".into(), self.nothing_posted);
         for number in refusal_numbers() {
-            row(format!("refused {number:>2}"), self.refusals.map(|by_number| by_number[number]));
+            row(format!("refused {number:>2}"), self.refusals.map(|by_number| by_number.0[number]));
         }
         text
     }
 }
 
-/// The numbers of the paper: 1 to 9, 20 to 26.
+/// The numbers of the papers: 1 to 9, 20 to 26, 30 to 32.
 pub fn refusal_numbers() -> Vec<usize> {
-    (1..=9).chain(20..=26).collect()
+    (1..=9).chain(20..=26).chain(30..=32).collect()
 }
 
 /// Which numbers a call may return, by `CALL_NAMES`.
-pub const POSSIBLE: [&[usize]; 7] = [
+pub const POSSIBLE: [&[usize]; CALL_KINDS] = [
     &[1, 2, 3, 4, 5],
     &[1, 2, 3, 4, 5, 6, 9],
     &[1, 2, 3, 4, 5, 6, 7, 26],
@@ -178,6 +199,8 @@ pub const POSSIBLE: [&[usize]; 7] = [
     &[1, 2, 3, 6, 7, 8, 20, 21, 22, 25],
     &[],
     &[1, 2, 3, 4, 5, 6, 7, 22, 23, 24, 25],
+    &[30, 31, 32],
+    &[1, 2, 3, 6, 7, 8, 20, 21, 22, 25, 30, 31, 32],
 ];
 
 /// The first index at which two slices differ, as text.
@@ -237,10 +260,12 @@ fn part(outcomes: [&Outcome; 2], left: &Machine, right: &Machine) -> Option<Stri
     None
 }
 
-/// A refusal, or a call without a device, must not have changed anything; in a run, the steps before it stand.
+/// A refusal, a call without a device, or a raise that posts nothing must not have changed anything; in a run, the steps
+/// before it stand.
 fn broken_refusal(side: &str, outcome: &Outcome, before: &Before, machine: &Machine) -> Option<String> {
     let some_steps = matches!(outcome, Outcome::Run(RunAnswer { steps, .. }) if *steps > 0);
-    let no_change = outcome.no_device() || (outcome.refusal().is_some() && !some_steps);
+    let no_change =
+        outcome.no_device() || outcome.nothing_posted() || (outcome.refusal().is_some() && !some_steps);
     (no_change && !before.equals(machine))
         .then(|| format!("{side} side: {}, but something has changed", outcome_text(outcome)))
 }
@@ -324,6 +349,7 @@ pub fn drive_telling(
         if let Some(Refusal { number: 7, place: (word, _) }) = outcome.refusal() {
             counts.several.add(call, left, word);
         }
+        counts.lines.add(call, left, &outcome);
         recovering = match (call, &outcome) {
             (Call::Boot, Outcome::Answer(Answer::Done)) => phase != 0,
             (Call::Cut, _) => false,

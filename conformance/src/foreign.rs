@@ -4,8 +4,8 @@
 //! The shapes are those of include/runtime.h. A device is 18 words (`Device::to_words`), totals are three 32-bit
 //! numbers (committed, accepted, stores). An answer is five words: case, kind of body (0 task, 1 event), number,
 //! and a place of two words. Cases: 0 done, 1 chosen, 2 worked, 3 stored, 4 committed, 5 accepted, 6 refused,
-//! 7 spent (of a run), 8 no device. Words that a case doesn't have are 0. A step's answer has a sixth word: the
-//! index of the word that it stored, or `NO_STORE`.
+//! 7 spent (of a run), 8 no device, 9 nothing posted (of a raise). Words that a case doesn't have are 0. A step's
+//! answer has a sixth word: the index of the word that it stored, or `NO_STORE`.
 
 use crate::runtime::*;
 use crate::scenario::{Call, Outcome};
@@ -33,10 +33,17 @@ pub struct Functions {
     pub cut: unsafe extern "C" fn(*mut u16, *mut u16),
     /// program, its length, store, its length, device, totals, budget, answer; the steps made
     pub run: unsafe extern "C" fn(*const u16, usize, *mut u16, usize, *mut u16, *mut u32, u32, *mut u16) -> u32,
+    /// table, its length, answer
+    pub lines_check: unsafe extern "C" fn(*const u16, usize, *mut u16),
+    /// program, its length, store, its length, device, table, its length, line, level, answer
+    pub raise: Raise,
 }
 
+pub type Raise =
+    unsafe extern "C" fn(*const u16, usize, *mut u16, usize, *mut u16, *const u16, usize, u16, u16, *mut u16);
+
 /// Numbers that no call returns. They stand for words that are no answer of the call, for words that come back
-/// and are no device, and for a word written outside device, totals or answer.
+/// and are no device, and for a word written outside device, totals or answer, or in the table.
 pub const NO_ANSWER: u16 = 65535;
 pub const BAD_DEVICE: u16 = 65534;
 pub const OUTSIDE: u16 = 65533;
@@ -62,6 +69,7 @@ pub fn answer_words(answer: &Answer) -> [u16; ANSWER_WORDS] {
         Answer::Accepted => [5, 0, 0, 0, 0],
         Answer::Refused(refusal) => [6, 0, refusal.number, refusal.place.0, refusal.place.1],
         Answer::NoDevice => [8, 0, 0, 0, 0],
+        Answer::NothingPosted => [9, 0, 0, 0, 0],
     }
 }
 
@@ -93,7 +101,8 @@ pub fn answer_from_words(words: &[u16; ANSWER_WORDS]) -> Option<Answer> {
         4 => Answer::Committed(body),
         5 => Answer::Accepted,
         6 => Answer::Refused(Refusal { number: words[2], place: (words[3], words[4]) }),
-        _ => Answer::NoDevice,
+        8 => Answer::NoDevice,
+        _ => Answer::NothingPosted,
     };
     (answer_words(&answer) == *words).then_some(answer)
 }
@@ -109,6 +118,69 @@ fn end_from_words(words: &[u16; ANSWER_WORDS]) -> Option<End> {
     }
 }
 
+/// A call's table with a guard before and behind it; nothing for a call without one.
+fn guarded(call: &Call) -> Vec<u16> {
+    call.table().map(|table| [&[GUARD], &table[..], &[GUARD]].concat()).unwrap_or_default()
+}
+
+/// What is lent to a call besides program and store, each with a guard before and behind it.
+struct Lent {
+    device: [u16; DEVICE_WORDS + 2],
+    totals: [u32; 5],
+    answer: [u16; STEP_WORDS + 2],
+    table: Vec<u16>,
+}
+
+impl Lent {
+    fn new(call: &Call, words: &[u16; DEVICE_WORDS], totals: &Totals) -> Lent {
+        let mut device = [GUARD; DEVICE_WORDS + 2];
+        device[1..=DEVICE_WORDS].copy_from_slice(words);
+        let Totals { committed, accepted, stores } = *totals;
+        let totals = [GUARD as u32, committed, accepted, stores, GUARD as u32];
+        Lent { device, totals, answer: [GUARD; STEP_WORDS + 2], table: guarded(call) }
+    }
+
+    /// Make the call; of a run, the steps made.
+    fn call(&mut self, functions: &Functions, call: &Call, program: &[u16], store: &mut [u16]) -> Option<u32> {
+        let Functions { check, format, boot, step, post, cut, run, lines_check, raise } = *functions;
+        let (code, length) = (program.as_ptr(), program.len());
+        let (words, many) = (store.as_mut_ptr(), store.len());
+        let (table, table_length) = (self.table.as_ptr().wrapping_add(1), self.table.len().saturating_sub(2));
+        // Safety: the pointers are those of slices and arrays that live through the call, with their lengths.
+        unsafe {
+            let d = self.device.as_mut_ptr().add(1);
+            let t = self.totals.as_mut_ptr().add(1);
+            let answer = self.answer.as_mut_ptr().add(1);
+            match call {
+                Call::Check => check(code, length, answer),
+                Call::Format { log_pairs, queue_records } => {
+                    format(code, length, *log_pairs, *queue_records, words, many, answer)
+                }
+                Call::Boot => boot(code, length, words, many, d, answer),
+                Call::Step => step(code, length, words, many, d, t, answer),
+                Call::Post { event, datum } => post(code, length, words, many, d, *event, *datum, answer),
+                Call::Cut => cut(d, answer),
+                Call::Run { budget } => return Some(run(code, length, words, many, d, t, *budget, answer)),
+                Call::LinesCheck { .. } => lines_check(table, table_length, answer),
+                Call::Raise { line, level, .. } => {
+                    raise(code, length, words, many, d, table, table_length, *line, *level, answer)
+                }
+                _ => unreachable!("a change isn't a call"),
+            }
+        }
+        None
+    }
+
+    /// Whether a word outside was written, or one of the table.
+    fn outside(&self, call: &Call) -> bool {
+        let told = if *call == Call::Step { STEP_WORDS } else { ANSWER_WORDS };
+        let guards = [self.device[0], self.device[DEVICE_WORDS + 1], self.answer[0], self.answer[told + 1]];
+        guards != [GUARD; 4]
+            || [self.totals[0], self.totals[4]] != [GUARD as u32; 2]
+            || (call.table().is_some() && self.table != guarded(call))
+    }
+}
+
 impl Foreign {
     /// A call on flat words, whatever they are.
     fn flat(
@@ -119,41 +191,14 @@ impl Foreign {
         device: &mut [u16; DEVICE_WORDS],
         totals: &mut Totals,
     ) -> Outcome {
-        let Functions { check, format, boot, step, post, cut, run } = self.functions;
-        let told = if *call == Call::Step { STEP_WORDS } else { ANSWER_WORDS };
-        let (code, length) = (program.as_ptr(), program.len());
-        let (words, many) = (store.as_mut_ptr(), store.len());
-        let mut lent_device = [GUARD; DEVICE_WORDS + 2];
-        lent_device[1..=DEVICE_WORDS].copy_from_slice(device);
-        let numbers = [totals.committed, totals.accepted, totals.stores];
-        let mut lent_totals = [GUARD as u32, numbers[0], numbers[1], numbers[2], GUARD as u32];
-        let mut lent_answer = [GUARD; STEP_WORDS + 2];
-        let mut steps = None;
-        // Safety: the pointers are those of slices and arrays that live through the call, with their lengths.
-        unsafe {
-            let d = lent_device.as_mut_ptr().add(1);
-            let t = lent_totals.as_mut_ptr().add(1);
-            let answer = lent_answer.as_mut_ptr().add(1);
-            match *call {
-                Call::Check => check(code, length, answer),
-                Call::Format { log_pairs, queue_records } => {
-                    format(code, length, log_pairs, queue_records, words, many, answer)
-                }
-                Call::Boot => boot(code, length, words, many, d, answer),
-                Call::Step => step(code, length, words, many, d, t, answer),
-                Call::Post { event, datum } => post(code, length, words, many, d, event, datum, answer),
-                Call::Cut => cut(d, answer),
-                Call::Run { budget } => steps = Some(run(code, length, words, many, d, t, budget, answer)),
-                _ => unreachable!("a change isn't a call"),
-            }
-        }
-        device.copy_from_slice(&lent_device[1..=DEVICE_WORDS]);
-        *totals = Totals { committed: lent_totals[1], accepted: lent_totals[2], stores: lent_totals[3] };
-        let guards = [lent_device[0], lent_device[DEVICE_WORDS + 1], lent_answer[0], lent_answer[told + 1]];
-        let outside = guards != [GUARD; 4] || [lent_totals[0], lent_totals[4]] != [GUARD as u32; 2];
+        let mut lent = Lent::new(call, device, totals);
+        let steps = lent.call(&self.functions, call, program, store);
+        device.copy_from_slice(&lent.device[1..=DEVICE_WORDS]);
+        *totals = Totals { committed: lent.totals[1], accepted: lent.totals[2], stores: lent.totals[3] };
+        let outside = lent.outside(call);
         let mut answer = [0; ANSWER_WORDS];
-        answer.copy_from_slice(&lent_answer[1..=ANSWER_WORDS]);
-        let stored = (lent_answer[STEP_WORDS] != NO_STORE).then_some(lent_answer[STEP_WORDS]);
+        answer.copy_from_slice(&lent.answer[1..=ANSWER_WORDS]);
+        let stored = (lent.answer[STEP_WORDS] != NO_STORE).then_some(lent.answer[STEP_WORDS]);
         let single = |answer: Answer| match call {
             Call::Step => Outcome::Step(StepAnswer { answer, stored }),
             _ => Outcome::Answer(answer),
@@ -247,6 +292,24 @@ impl Runtime for Foreign {
             Outcome::Run(answer) => answer,
             _ => unreachable!("a run answers as one"),
         }
+    }
+
+    fn lines_check(&self, table: &[u16]) -> Answer {
+        let call = Call::LinesCheck { table: table.into() };
+        self.answer(&call, &[], &mut [], &mut Device::OFF.clone(), &mut Totals::default())
+    }
+
+    fn raise(
+        &self,
+        program: &[u16],
+        store: &mut [u16],
+        device: &mut Device,
+        table: &[u16],
+        line: u16,
+        level: u16,
+    ) -> Answer {
+        let call = Call::Raise { table: table.into(), line, level };
+        self.answer(&call, program, store, device, &mut Totals::default())
     }
 
     fn stray(

@@ -2,9 +2,10 @@
 //! reference runs it, so that cuts, posts and damage can be aimed; the list that comes out is fixed and can
 //! be replayed and shortened without the generator.
 
+use crate::lines;
 use crate::reference::*;
 use crate::runtime::*;
-use crate::scenario::{Call, Machine, Scenario};
+use crate::scenario::{Call, Machine, Scenario, Table};
 
 /// Splitmix64.
 pub struct Random(u64);
@@ -36,8 +37,8 @@ impl Random {
         self.below(100) < chance
     }
 
-    pub fn pick<T: Copy>(&mut self, list: &[T]) -> T {
-        list[self.below(list.len())]
+    pub fn pick<T: Clone>(&mut self, list: &[T]) -> T {
+        list[self.below(list.len())].clone()
     }
 
     /// A word, the ends and small numbers more often than others.
@@ -469,6 +470,8 @@ struct Schedule {
     calls: Vec<Call>,
     /// The latest call was refused with 23 or 24.
     stuck: bool,
+    /// The line tables; without any, no line is raised.
+    tables: Vec<Table>,
 }
 
 impl Schedule {
@@ -507,6 +510,24 @@ impl Schedule {
         Call::Post { event, datum: self.random.word() }
     }
 
+    /// A raise in the place of a post, so often in a hundred.
+    fn post_or_raise(&mut self, chance: usize) -> Call {
+        if self.tables.is_empty() || !self.random.percent(chance) {
+            return self.post();
+        }
+        let table = self.random.pick(&self.tables);
+        lines::generate::raise(&mut self.random, &table)
+    }
+
+    /// The check of one of the tables, or of another.
+    fn lines_check(&mut self) -> Call {
+        let table = match self.random.below(3) {
+            0 => self.random.pick(&self.tables),
+            _ => lines::generate::any_table(&mut self.random, self.sizes.events).into(),
+        };
+        Call::LinesCheck { table }
+    }
+
     /// Whether a cut or damage is telling here: in a commit, half a SAVE, an ending or a handler at work.
     fn telling(&self) -> bool {
         let device = &self.machine.device;
@@ -522,10 +543,13 @@ impl Schedule {
             self.mood = self.random.pick(self.moods);
         }
         let device = self.machine.device;
+        if !self.tables.is_empty() && self.random.percent(2) {
+            return self.lines_check();
+        }
         if !device.on {
             return match self.random.below(100) {
                 0..=3 => Call::Step,
-                4..=7 => self.post(),
+                4..=7 => self.post_or_raise(50),
                 8..=10 => Call::Cut,
                 11..=13 => Call::Run { budget: self.budget() },
                 14 => Call::Check,
@@ -558,7 +582,7 @@ impl Schedule {
             if (full || device.handler.is_some()) && self.random.percent(70) {
                 return Call::Step;
             }
-            return self.post();
+            return self.post_or_raise(50);
         }
         Call::Cut
     }
@@ -589,7 +613,7 @@ impl Schedule {
                 Call::Format { log_pairs, queue_records }
             }
             10..=21 => Call::Boot,
-            22..=33 => self.post(),
+            22..=33 => self.post_or_raise(50),
             34..=39 => Call::Cut,
             40..=49 => Call::Run { budget: self.budget() },
             _ => Call::Step,
@@ -879,7 +903,7 @@ impl Schedule {
             self.make(Call::SetDevice(Device { place, ..Device::ON }));
             let call = match self.random.below(6) {
                 0 | 1 => Call::Boot,
-                2 => self.post(),
+                2 => self.post_or_raise(25),
                 3 => Call::Run { budget: self.budget() },
                 _ => Call::Step,
             };
@@ -1034,7 +1058,7 @@ impl Schedule {
             }
             let call = match self.random.below(6) {
                 0 => Call::Boot,
-                1 => self.post(),
+                1 => self.post_or_raise(70),
                 2 => Call::Cut,
                 3 => Call::Run { budget: self.random.pick(&[0, 1, 2, 50, u32::MAX]) },
                 _ => Call::Step,
@@ -1097,6 +1121,7 @@ pub fn scenario(seed: u64, damaged: bool) -> Scenario {
     } else {
         Totals::default()
     };
+    let tables = lines::generate::tables(&mut random, sizes.events);
     let mut scenario = Scenario {
         seed,
         program,
@@ -1112,7 +1137,8 @@ pub fn scenario(seed: u64, damaged: bool) -> Scenario {
     );
     let mood = random.pick(&MOODS);
     let kept = machine.clone();
-    let mut schedule = Schedule { random, sizes, moods: &MOODS, mood, machine, kept, calls: Vec::new(), stuck: false };
+    let (calls, stuck) = (Vec::new(), false);
+    let mut schedule = Schedule { random, sizes, moods: &MOODS, mood, machine, kept, calls, stuck, tables };
     // Large programs get short lists.
     let large = scenario.program.len() > 2000;
     let rounds = if damaged { schedule.random.from(1, 8) } else { 1 };
@@ -1164,7 +1190,8 @@ pub fn calls_with_cuts(mut random: Random, sizes: Sizes, machine: Machine, count
     let moods = &MOODS_WITH_CUTS;
     let mood = random.pick(moods);
     let kept = machine.clone();
-    let mut schedule = Schedule { random, sizes, moods, mood, machine, kept, calls: Vec::new(), stuck: false };
+    let (calls, stuck, tables) = (Vec::new(), false, Vec::new());
+    let mut schedule = Schedule { random, sizes, moods, mood, machine, kept, calls, stuck, tables };
     for _ in 0..count {
         match schedule.next() {
             Call::Run { budget } => schedule.steps(budget),

@@ -1,6 +1,6 @@
 //! A second, independent implementation of the split-phase task runtime, the serial run that its histories
-//! are held against, a generator of programs and schedules, and a driver that compares two implementations
-//! call by call. Above it, exam sheets and their comparison with another program's.
+//! are held against, a generator of programs, schedules and line tables, and a driver that compares two
+//! implementations call by call. Above it, exam sheets and their comparison with another program's.
 
 pub mod cases;
 pub mod compare;
@@ -8,6 +8,7 @@ pub mod foreign;
 pub mod generate;
 #[cfg(feature = "library")]
 pub mod library;
+pub mod lines;
 pub mod many;
 pub mod mutants;
 pub mod reference;

@@ -53,6 +53,45 @@ extern "C" {
     ) -> u32;
 }
 
+#[cfg(feature = "lines")]
+extern "C" {
+    fn runtime_lines_check(table: *const u16, table_length: usize, answer: *mut u16);
+    fn runtime_raise(
+        program: *const u16,
+        length: usize,
+        store: *mut u16,
+        store_length: usize,
+        device: *mut u16,
+        table: *const u16,
+        table_length: usize,
+        line: u16,
+        level: u16,
+        answer: *mut u16,
+    );
+}
+
+// For an archive from before request N3. They aren't called.
+#[cfg(not(feature = "lines"))]
+unsafe extern "C" fn runtime_lines_check(_: *const u16, _: usize, _: *mut u16) {
+    panic!("built without line tables");
+}
+
+#[cfg(not(feature = "lines"))]
+unsafe extern "C" fn runtime_raise(
+    _: *const u16,
+    _: usize,
+    _: *mut u16,
+    _: usize,
+    _: *mut u16,
+    _: *const u16,
+    _: usize,
+    _: u16,
+    _: u16,
+    _: *mut u16,
+) {
+    panic!("built without line tables");
+}
+
 pub const FUNCTIONS: Functions = Functions {
     check: runtime_check,
     format: runtime_format,
@@ -61,6 +100,8 @@ pub const FUNCTIONS: Functions = Functions {
     post: runtime_post,
     cut: runtime_cut,
     run: runtime_run,
+    lines_check: runtime_lines_check,
+    raise: runtime_raise,
 };
 
 pub const LIBRARY: Foreign = Foreign { functions: FUNCTIONS };

@@ -5,8 +5,8 @@
 
 use crate::compare::{self, Counts, Difference, POSSIBLE};
 use crate::runtime::{Answer, Runtime};
-use crate::scenario::{call_text, outcome_text, Call, Outcome, Scenario, CALL_NAMES};
-use crate::{cases, generate, selfrun, seven, shorten};
+use crate::scenario::{call_text, outcome_text, Call, Outcome, Scenario, Table, CALL_NAMES};
+use crate::{cases, generate, lines, selfrun, seven, shorten};
 use std::io::Read;
 use std::time::Instant;
 
@@ -88,16 +88,21 @@ fn print_counts(undamaged: &Counts, damaged: &Counts, all: &Counts) {
     println!();
     print!("{}", all.several.table());
     println!();
+    print!("{}", all.lines.table());
+    println!();
 }
 
 /// What never came up and should, a line for each call and one for what else is counted.
 pub fn missing(all: &Counts) -> Vec<String> {
     let mut lines = Vec::new();
+    let table: Table = Table::from([]);
     let post = Call::Post { event: 0, datum: 0 };
-    let log = Call::Format { log_pairs: 1, queue_records: 1 };
-    for call in [Call::Check, log, Call::Boot, Call::Step, post, Call::Cut, Call::Run { budget: 1 }] {
+    let format = Call::Format { log_pairs: 1, queue_records: 1 };
+    let raise = Call::Raise { table: table.clone(), line: 0, level: 0 };
+    let (run, lines_check) = (Call::Run { budget: 1 }, Call::LinesCheck { table });
+    for call in [Call::Check, format, Call::Boot, Call::Step, post, Call::Cut, run, lines_check, raise] {
         let kind = call.kind().expect("a call of the runtime");
-        let never = POSSIBLE[kind].iter().filter(|number| all.refusals[kind][**number] == 0);
+        let never = POSSIBLE[kind].iter().filter(|number| all.refusals[kind].0[**number] == 0);
         let mut never: Vec<String> = never.map(|number| number.to_string()).collect();
         if all.no_device[kind] == 0 && call.looks_at_device() {
             never.push("no device".into());
@@ -112,6 +117,7 @@ pub fn missing(all: &Counts) -> Vec<String> {
         lines.push(never.join("; "));
     }
     lines.extend(all.several.missing());
+    lines.extend(all.lines.missing());
     lines
 }
 
@@ -128,6 +134,11 @@ fn judge(all: &Counts) -> Verdict {
         println!("  {line}");
     }
     Verdict::TooLittle
+}
+
+/// The lists that don't come from a seed: several rules of 7 broken at once, and line tables.
+pub fn fixed_lists() -> impl Iterator<Item = Scenario> {
+    seven::lists().into_iter().chain(lines::lists::lists())
 }
 
 /// What both sides do with the lists of one seed: compared, and each alone. Whether nothing differs.
@@ -147,7 +158,7 @@ impl Lists<'_> {
     fn fixed(&mut self) -> bool {
         let Lists { first, second, damaged, .. } = self;
         let beside = |list: &Scenario, counts: &mut Counts| compare::drive(*first, *second, list, counts);
-        for list in seven::lists() {
+        for list in fixed_lists() {
             if let Err(difference) = beside(&list, damaged) {
                 report("comparison of a fixed list", &list, &difference, &beside);
                 return false;
@@ -200,7 +211,7 @@ pub fn many(first: &dyn Runtime, second: &dyn Runtime, first_seed: u64, calls: u
     print_counts(&lists.undamaged, &lists.damaged, &all);
     println!("All lists: both sides compared after every call. Undamaged lists: for each side demand 3 by recovering");
     println!("a copy, after every call and every step of a run, and a run held against single steps.");
-    println!("fixed lists, several rules of 7 broken at once: {fixed} calls");
+    println!("fixed lists, several rules of 7 broken at once and line tables: {fixed} calls");
     println!(
         "these and seeds {first_seed} to {}: {} programs, {} calls compared in {:.1} s",
         seed - 1,
@@ -241,7 +252,7 @@ pub fn replay(first: &dyn Runtime, second: &dyn Runtime, text: &str) -> Verdict 
         println!("the sides part here: {}", difference.text);
     }
     let mut results = vec![("comparison", compared)];
-    // Demand 3 is about lists of boots, steps, posts, cuts and runs on a fresh store.
+    // Demand 3 is about lists of boots, steps, posts, cuts, runs and raises on a fresh store.
     if fresh && scenario.calls.iter().all(|call| call.takes_device()) {
         results.push(("first side, demand 3", selfrun::drive(first, &scenario, &mut Counts::default())));
         results.push(("second side, demand 3", selfrun::drive(second, &scenario, &mut Counts::default())));

@@ -1,9 +1,10 @@
 //! Implementations that are wrong on purpose: the reference with one mistake each. The tests hold that the
 //! driver, or the check of demand 3, notices; so they are known to be able to fail.
 
+use crate::lines;
 use crate::reference::*;
 use crate::runtime::*;
-use crate::scenario::Call;
+use crate::scenario::{Call, Outcome};
 
 #[derive(Clone, Copy, PartialEq, Eq, Debug)]
 pub enum Mistake {
@@ -57,9 +58,80 @@ pub enum Mistake {
     UsedWordNamesAll,
     StepLooksAtAll,
     PostLooksAtAll,
+    // Line tables. 30, and its place.
+    SixtyFifthRowAllowed,
+    SixtyFourthRowRefused,
+    IncompleteRowIgnored,
+    IncompleteSixtyFifthIgnored,
+    LineSixteenAllowed,
+    LineFifteenRefused,
+    LowEqualToHighRefused,
+    LowAboveHighAllowed,
+    EventPastSixteenRefused,
+    EmptyTableRefused,
+    LengthCutTo16Bits,
+    LinesBeforeLevels,
+    LevelsBeforeLines,
+    LengthBeforeRows,
+    IncompleteBeforeRows,
+    RowsBeforeLength,
+    LastWrongRow,
+    RowPlaceFromOne,
+    RowPlaceAsWord,
+    // 31 and 32, their order and their place.
+    HighLevelExclusive,
+    LowLevelExclusive,
+    RowWithoutEventCoversNothing,
+    BorderOverlapPasses,
+    GapAtZeroPasses,
+    GapAtTheTopPasses,
+    ThreeTimesPasses,
+    OverlapPasses,
+    GapPasses,
+    RowsInRisingOrderExpected,
+    GapBehindInnerRow,
+    UnnamedLineUncovered,
+    OverlapBeforeGap,
+    LineByLine,
+    HighestLine,
+    HighestLevel,
+    LowestLevelOfAllLines,
+    LevelBeforeLine,
+    PlaceWithoutLevel,
+    // A raise: what it checks, which row it takes, what it posts.
+    TableUnchecked,
+    LevelsUncheckedAtRaise,
+    RaisedLineCheckedAlone,
+    RaiseOfLineSixteenRefused,
+    RaiseHighExclusive,
+    RaiseLowExclusive,
+    AnyLinesRow,
+    FirstRowOfTable,
+    FirstRowOfLine,
+    LineMasked,
+    SignedLevels,
+    LowLevelAsData,
+    HighLevelAsData,
+    LineAsData,
+    LineAsEvent,
+    EventNotBelowERefused,
+    EventNotBelowEPostsNothing,
+    NoEventPosted,
+    LineWithoutRowsUncovered,
+    NothingPostedAnsweredDone,
+    // A raise that posts nothing, or whose table is refused, looks at other words.
+    NothingPostedNeedsDevice,
+    NothingPostedLooksAtPower,
+    NothingPostedLooksAtHandler,
+    NothingPostedLooksAtProgram,
+    NothingPostedLooksAtStore,
+    DeviceBeforeTable,
+    PowerBeforeTable,
+    ProgramBeforeTable,
+    StoreBeforeTable,
 }
 
-pub const MISTAKES: [Mistake; 43] = [
+pub const MISTAKES: [Mistake; 110] = [
     Mistake::HeadPlusOneOnRedo,
     Mistake::TailBeforeDatum,
     Mistake::PhaseBeforeTask,
@@ -103,12 +175,88 @@ pub const MISTAKES: [Mistake; 43] = [
     Mistake::UsedWordNamesAll,
     Mistake::StepLooksAtAll,
     Mistake::PostLooksAtAll,
+    Mistake::SixtyFifthRowAllowed,
+    Mistake::SixtyFourthRowRefused,
+    Mistake::IncompleteRowIgnored,
+    Mistake::IncompleteSixtyFifthIgnored,
+    Mistake::LineSixteenAllowed,
+    Mistake::LineFifteenRefused,
+    Mistake::LowEqualToHighRefused,
+    Mistake::LowAboveHighAllowed,
+    Mistake::EventPastSixteenRefused,
+    Mistake::EmptyTableRefused,
+    Mistake::LengthCutTo16Bits,
+    Mistake::LinesBeforeLevels,
+    Mistake::LevelsBeforeLines,
+    Mistake::LengthBeforeRows,
+    Mistake::IncompleteBeforeRows,
+    Mistake::RowsBeforeLength,
+    Mistake::LastWrongRow,
+    Mistake::RowPlaceFromOne,
+    Mistake::RowPlaceAsWord,
+    Mistake::HighLevelExclusive,
+    Mistake::LowLevelExclusive,
+    Mistake::RowWithoutEventCoversNothing,
+    Mistake::BorderOverlapPasses,
+    Mistake::GapAtZeroPasses,
+    Mistake::GapAtTheTopPasses,
+    Mistake::ThreeTimesPasses,
+    Mistake::OverlapPasses,
+    Mistake::GapPasses,
+    Mistake::RowsInRisingOrderExpected,
+    Mistake::GapBehindInnerRow,
+    Mistake::UnnamedLineUncovered,
+    Mistake::OverlapBeforeGap,
+    Mistake::LineByLine,
+    Mistake::HighestLine,
+    Mistake::HighestLevel,
+    Mistake::LowestLevelOfAllLines,
+    Mistake::LevelBeforeLine,
+    Mistake::PlaceWithoutLevel,
+    Mistake::TableUnchecked,
+    Mistake::LevelsUncheckedAtRaise,
+    Mistake::RaisedLineCheckedAlone,
+    Mistake::RaiseOfLineSixteenRefused,
+    Mistake::RaiseHighExclusive,
+    Mistake::RaiseLowExclusive,
+    Mistake::AnyLinesRow,
+    Mistake::FirstRowOfTable,
+    Mistake::FirstRowOfLine,
+    Mistake::LineMasked,
+    Mistake::SignedLevels,
+    Mistake::LowLevelAsData,
+    Mistake::HighLevelAsData,
+    Mistake::LineAsData,
+    Mistake::LineAsEvent,
+    Mistake::EventNotBelowERefused,
+    Mistake::EventNotBelowEPostsNothing,
+    Mistake::NoEventPosted,
+    Mistake::LineWithoutRowsUncovered,
+    Mistake::NothingPostedAnsweredDone,
+    Mistake::NothingPostedNeedsDevice,
+    Mistake::NothingPostedLooksAtPower,
+    Mistake::NothingPostedLooksAtHandler,
+    Mistake::NothingPostedLooksAtProgram,
+    Mistake::NothingPostedLooksAtStore,
+    Mistake::DeviceBeforeTable,
+    Mistake::PowerBeforeTable,
+    Mistake::ProgramBeforeTable,
+    Mistake::StoreBeforeTable,
 ];
 
 /// The mistakes about which of several broken rules 7 names.
 pub fn mistakes_about_the_lowest() -> &'static [Mistake] {
-    let first = MISTAKES.iter().position(|mistake| *mistake == Mistake::HighestAtBoot);
-    &MISTAKES[first.expect("a mistake")..]
+    &MISTAKES[Mistake::HighestAtBoot as usize..=Mistake::PostLooksAtAll as usize]
+}
+
+/// The mistakes about line tables and raises.
+pub fn mistakes_about_lines() -> &'static [Mistake] {
+    &MISTAKES[Mistake::SixtyFifthRowAllowed as usize..]
+}
+
+/// Of these, the mistakes in a table's check.
+pub fn mistakes_in_the_lines_check() -> &'static [Mistake] {
+    &MISTAKES[Mistake::SixtyFifthRowAllowed as usize..=Mistake::PlaceWithoutLevel as usize]
 }
 
 /// The reference with a mistake.
@@ -484,6 +632,20 @@ impl Mutant {
         }
     }
 
+    /// The refusals of a post that a raise with this answer, which posts nothing, meets before it.
+    fn looked_at_first(&self, answer: &Answer) -> &'static [u16] {
+        match (self.0, answer) {
+            (Mistake::NothingPostedLooksAtPower, Answer::NothingPosted) => &[22],
+            (Mistake::NothingPostedLooksAtHandler, Answer::NothingPosted) => &[20],
+            (Mistake::NothingPostedLooksAtProgram, Answer::NothingPosted) => &[1, 2, 3],
+            (Mistake::NothingPostedLooksAtStore, Answer::NothingPosted) => &[6, 7],
+            (Mistake::PowerBeforeTable, Answer::Refused(_)) => &[22],
+            (Mistake::ProgramBeforeTable, Answer::Refused(_)) => &[1, 2, 3],
+            (Mistake::StoreBeforeTable, Answer::Refused(_)) => &[6, 7],
+            _ => &[],
+        }
+    }
+
     fn answer(&self, call: Call, program: &[u16], store: &[u16], answer: Answer) -> Answer {
         match answer {
             Answer::Refused(refusal) => Answer::Refused(self.refusal(call, program, store, refusal)),
@@ -568,5 +730,55 @@ impl Runtime for Mutant {
             steps += 1;
         }
         RunAnswer { steps, end: End::Spent }
+    }
+
+    fn lines_check(&self, table: &[u16]) -> Answer {
+        match lines::mutants::check(self.0, table) {
+            Ok(()) => Answer::Done,
+            Err(refusal) => Answer::Refused(refusal),
+        }
+    }
+
+    fn raise(
+        &self,
+        program: &[u16],
+        store: &mut [u16],
+        device: &mut Device,
+        table: &[u16],
+        line: u16,
+        level: u16,
+    ) -> Answer {
+        let events = program.get(2).copied().unwrap_or(0);
+        match lines::mutants::post(self.0, table, line, level, events) {
+            Ok((event, datum)) => self.post(program, store, device, event, datum),
+            Err(answer) => {
+                let first = self.looked_at_first(&answer);
+                match Reference.post(program, store, &mut device.clone(), 0, level) {
+                    Answer::Refused(refusal) if first.contains(&refusal.number) => Answer::Refused(refusal),
+                    _ => answer,
+                }
+            }
+        }
+    }
+
+    fn stray(
+        &self,
+        call: &Call,
+        program: &[u16],
+        store: &mut [u16],
+        words: &mut [u16; DEVICE_WORDS],
+        totals: &mut Totals,
+    ) -> Outcome {
+        let Call::Raise { table, line, level } = call else {
+            return Reference.stray(call, program, store, words, totals);
+        };
+        let events = program.get(2).copied().unwrap_or(0);
+        let answer = match (self.0, lines::mutants::post(self.0, table, *line, *level, events)) {
+            (_, Ok(_)) => Answer::NoDevice,
+            (Mistake::NothingPostedNeedsDevice, Err(Answer::NothingPosted)) => Answer::NoDevice,
+            (Mistake::DeviceBeforeTable, Err(Answer::Refused(_))) => Answer::NoDevice,
+            (_, Err(answer)) => answer,
+        };
+        Outcome::Answer(answer)
     }
 }

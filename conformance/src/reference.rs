@@ -2,6 +2,7 @@
 //! so a refused call changes nothing. The functions are in the order of the paper. Those of a step are inlined into
 //! one, since it is also what the library's speed is held against.
 
+use crate::lines;
 use crate::runtime::*;
 
 /// A store to be made: index and word.
@@ -1016,5 +1017,24 @@ impl Runtime for Reference {
             steps += 1;
         }
         RunAnswer { steps, end: End::Spent }
+    }
+
+    fn lines_check(&self, table: &[u16]) -> Answer {
+        done_or(lines::check(table))
+    }
+
+    fn raise(
+        &self,
+        program: &[u16],
+        store: &mut [u16],
+        device: &mut Device,
+        table: &[u16],
+        line: u16,
+        level: u16,
+    ) -> Answer {
+        match lines::event(table, line, level) {
+            Ok(event) => self.post(program, store, device, event, level),
+            Err(answer) => answer,
+        }
     }
 }

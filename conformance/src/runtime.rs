@@ -4,6 +4,7 @@
 //! A word is a `u16`. A program and a store are slices of words. The device state is a plain value, also
 //! available as 18 words (`Device::to_words`), which is the form for functions of another language.
 
+use crate::lines;
 use crate::scenario::{Call, Outcome};
 
 /// A body: a task or an event, each with its own number counted from 0.
@@ -20,7 +21,7 @@ pub struct Refusal {
     pub place: (u16, u16),
 }
 
-/// What a call answers. The check of a program answers done where the paper says that it is accepted.
+/// What a call answers. The checks of a program and of a line table answer done where these are accepted.
 #[derive(Clone, Copy, PartialEq, Eq, Debug)]
 pub enum Answer {
     Done,
@@ -32,6 +33,8 @@ pub enum Answer {
     Refused(Refusal),
     /// The words in the device's place stand for no device state.
     NoDevice,
+    /// Of a raise: the line has no rows, or the level's row has no event.
+    NothingPosted,
 }
 
 /// What a step answers, and the index of the word that it stored, if it stored one; where the value stays the same, too.
@@ -194,7 +197,7 @@ pub struct Totals {
     pub stores: u32,
 }
 
-/// An implementation. Boot and post get the store as a slice to be written, although they make no store,
+/// An implementation. Boot, post and raise get the store as a slice to be written, although they make no store,
 /// so that a store made by mistake shows in the comparison.
 pub trait Runtime {
     fn check(&self, program: &[u16]) -> Answer;
@@ -218,8 +221,22 @@ pub trait Runtime {
         budget: u32,
     ) -> RunAnswer;
 
+    fn lines_check(&self, table: &[u16]) -> Answer;
+
+    #[allow(clippy::too_many_arguments)]
+    fn raise(
+        &self,
+        program: &[u16],
+        store: &mut [u16],
+        device: &mut Device,
+        table: &[u16],
+        line: u16,
+        level: u16,
+    ) -> Answer;
+
     /// A call with words in the device's place that are no device's flat form. Where the device is a value there
     /// are no such words, and this is what the comparison expects of the others: no device, and nothing changes.
+    /// A raise looks at its table first.
     fn stray(
         &self,
         call: &Call,
@@ -234,6 +251,9 @@ pub trait Runtime {
             Call::Cut => {
                 *words = Device::OFF.to_words();
                 Outcome::Answer(Answer::Done)
+            }
+            Call::Raise { table, line, level } => {
+                Outcome::Answer(lines::event(table, *line, *level).err().unwrap_or(Answer::NoDevice))
             }
             _ => Outcome::Answer(Answer::NoDevice),
         }

@@ -6,8 +6,12 @@ use crate::foreign::{BAD_DEVICE, NO_ANSWER, OUTSIDE};
 use crate::runtime::*;
 use std::fmt::Write;
 use std::num::IntErrorKind;
+use std::rc::Rc;
 
-#[derive(Clone, Copy, PartialEq, Eq, Debug)]
+/// A line table: any words. Many calls of a list share one.
+pub type Table = Rc<[u16]>;
+
+#[derive(Clone, PartialEq, Eq, Debug)]
 pub enum Call {
     Check,
     Format { log_pairs: u16, queue_records: u16 },
@@ -16,6 +20,8 @@ pub enum Call {
     Post { event: u16, datum: u16 },
     Cut,
     Run { budget: u32 },
+    LinesCheck { table: Table },
+    Raise { table: Table, line: u16, level: u16 },
     /// Damage: a word of the program or of the store, where it has that word.
     SetProgram { index: usize, word: u16 },
     SetStore { index: usize, word: u16 },
@@ -35,7 +41,10 @@ pub enum Call {
 pub const LARGE_BUDGET: u32 = 10_000;
 
 /// The calls of the runtime by name, for counting.
-pub const CALL_NAMES: [&str; 7] = ["check", "format", "boot", "step", "post", "cut", "run"];
+pub const CALL_NAMES: [&str; CALL_KINDS] =
+    ["check", "format", "boot", "step", "post", "cut", "run", "lines-check", "raise"];
+
+pub const CALL_KINDS: usize = 9;
 
 impl Call {
     /// The index in `CALL_NAMES`, or none for a change.
@@ -48,18 +57,37 @@ impl Call {
             Call::Post { .. } => Some(4),
             Call::Cut => Some(5),
             Call::Run { .. } => Some(6),
+            Call::LinesCheck { .. } => Some(7),
+            Call::Raise { .. } => Some(8),
             _ => None,
         }
     }
 
     /// Whether it is given the device.
     pub fn takes_device(&self) -> bool {
-        matches!(self, Call::Boot | Call::Step | Call::Post { .. } | Call::Cut | Call::Run { .. })
+        matches!(self.kind(), Some(2..=6 | 8))
     }
 
     /// Whether it looks at it. A cut leaves the off value, whatever it finds.
     pub fn looks_at_device(&self) -> bool {
         self.takes_device() && *self != Call::Cut
+    }
+
+    /// The line table that it is given.
+    pub fn table(&self) -> Option<&Table> {
+        match self {
+            Call::LinesCheck { table } | Call::Raise { table, .. } => Some(table),
+            _ => None,
+        }
+    }
+
+    /// The same call with another table, if it is given one.
+    pub fn with_table(&self, new: &[u16]) -> Call {
+        match self {
+            Call::LinesCheck { .. } => Call::LinesCheck { table: new.into() },
+            Call::Raise { line, level, .. } => Call::Raise { table: new.into(), line: *line, level: *level },
+            _ => self.clone(),
+        }
     }
 }
 
@@ -91,6 +119,11 @@ impl Outcome {
     /// Whether the words in the device's place stood for no device state.
     pub fn no_device(&self) -> bool {
         self.answer() == Some(Answer::NoDevice) || matches!(self, Outcome::Run(RunAnswer { end: End::NoDevice, .. }))
+    }
+
+    /// Whether a raise posted nothing, and said so.
+    pub fn nothing_posted(&self) -> bool {
+        self.answer() == Some(Answer::NothingPosted)
     }
 }
 
@@ -160,18 +193,20 @@ impl Machine {
             }
             return Some(outcome);
         }
-        let answer = match *call {
+        let answer = match call {
             Call::Check => runtime.check(program),
             Call::Format { log_pairs, queue_records } => {
-                runtime.format(program, log_pairs, queue_records, store)
+                runtime.format(program, *log_pairs, *queue_records, store)
             }
             Call::Boot => runtime.boot(program, store, device),
             Call::Step => return Some(Outcome::Step(runtime.step(program, store, device, totals))),
-            Call::Post { event, datum } => runtime.post(program, store, device, event, datum),
+            Call::Post { event, datum } => runtime.post(program, store, device, *event, *datum),
             Call::Cut => runtime.cut(device),
             Call::Run { budget } => {
-                return Some(Outcome::Run(runtime.run(program, store, device, totals, budget)));
+                return Some(Outcome::Run(runtime.run(program, store, device, totals, *budget)));
             }
+            Call::LinesCheck { table } => runtime.lines_check(table),
+            Call::Raise { table, line, level } => runtime.raise(program, store, device, table, *line, *level),
             _ => return None,
         };
         Some(Outcome::Answer(answer))
@@ -184,7 +219,7 @@ impl Machine {
             Call::Run { budget } if *budget > LARGE_BUDGET && !self.ends_within(runtime, LARGE_BUDGET) => {
                 Call::Run { budget: LARGE_BUDGET }
             }
-            _ => *call,
+            _ => call.clone(),
         }
     }
 
@@ -225,9 +260,13 @@ impl Machine {
 // ---------------------------------------------------------------------------------------------------------
 // The text form: one line for the program (hex), one for the sizes, one for the totals, then the calls.
 
-fn set_device(words: &[u16; DEVICE_WORDS]) -> String {
-    let words: Vec<String> = words.iter().map(|word| word.to_string()).collect();
-    format!("set-device {}", words.join(" "))
+/// A name and words.
+fn words_text(name: &str, words: &[u16]) -> String {
+    let mut text = name.to_string();
+    for word in words {
+        let _ = write!(text, " {word}");
+    }
+    text
 }
 
 pub fn call_text(call: &Call) -> String {
@@ -239,12 +278,14 @@ pub fn call_text(call: &Call) -> String {
         Call::Post { event, datum } => format!("post {event} {datum}"),
         Call::Cut => "cut".into(),
         Call::Run { budget } => format!("run {budget}"),
+        Call::LinesCheck { table } => words_text("lines-check", table),
+        Call::Raise { table, line, level } => words_text(&format!("raise {line} {level}"), table),
         Call::SetProgram { index, word } => format!("set-program {index} {word}"),
         Call::SetStore { index, word } => format!("set-store {index} {word}"),
         Call::ProgramLength(length) => format!("program-length {length}"),
         Call::StoreLength(length) => format!("store-length {length}"),
-        Call::SetDevice(device) => set_device(&device.to_words()),
-        Call::SetWords(words) => set_device(words),
+        Call::SetDevice(device) => words_text("set-device", &device.to_words()),
+        Call::SetWords(words) => words_text("set-device", words),
         Call::SetTotals(totals) => {
             format!("set-totals {} {} {}", totals.committed, totals.accepted, totals.stores)
         }
@@ -272,6 +313,7 @@ fn answer_text(answer: &Answer) -> String {
             _ => format!("refused {number}, place {first} {second}"),
         },
         Answer::NoDevice => "no device".into(),
+        Answer::NothingPosted => "nothing posted".into(),
     }
 }
 
@@ -414,6 +456,8 @@ impl<'a> Line<'a> {
             "post" => Call::Post { event: self.word()?, datum: self.word()? },
             "cut" => Call::Cut,
             "run" => Call::Run { budget: self.number()? },
+            "lines-check" => Call::LinesCheck { table: self.words()?.into() },
+            "raise" => Call::Raise { line: self.word()?, level: self.word()?, table: self.words()?.into() },
             "set-program" => Call::SetProgram { index: self.length()?, word: self.word()? },
             "set-store" => Call::SetStore { index: self.length()?, word: self.word()? },
             "program-length" => Call::ProgramLength(self.length()?),

@@ -50,6 +50,10 @@ impl Serial {
         self.calls += 1;
         match (call, answer) {
             (Call::Post { event, datum }, Answer::Done) => self.latest = Some((*event, *datum)),
+            (Call::Raise { table, line, level }, Answer::Done) => {
+                let event = event_of(table, *line, *level).ok_or("a raise without an event is done")?;
+                self.latest = Some((event, *level));
+            }
             (_, Answer::Accepted) => {
                 let record = self.latest.ok_or("accepted without a post")?;
                 self.records.push_back(record);
@@ -129,6 +133,12 @@ impl Serial {
         }
         Err(format!("body {body} doesn't end"))
     }
+}
+
+/// The event that a line table has for a level of a line.
+fn event_of(table: &[u16], line: u16, level: u16) -> Option<u16> {
+    let row = table.chunks_exact(4).find(|row| row[0] == line && (row[1]..=row[2]).contains(&level))?;
+    (row[3] != 65535).then_some(row[3])
 }
 
 fn transaction_of(program: &[u16], task: u16) -> u16 {

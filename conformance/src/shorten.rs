@@ -1,6 +1,7 @@
 //! Shortening a list of calls that fails: remove parts of it, halves first and single calls last, as long as
-//! what is left still fails; then smaller budgets, and one run in the place of several steps.
+//! what is left still fails; then smaller budgets, one run in the place of several steps, and line tables with fewer rows.
 
+use crate::lines::ROW_WORDS;
 use crate::scenario::{Call, Scenario};
 
 /// The shortened scenario. `fails` tells whether a scenario still fails.
@@ -9,6 +10,7 @@ pub fn shorten(scenario: &Scenario, fails: &dyn Fn(&Scenario) -> bool) -> Scenar
     let mut best = with(&remove_parts(&scenario.calls, &|calls| fails(&with(calls))));
     smaller_budgets(&mut best, fails);
     gather_steps(&mut best, fails);
+    fewer_rows(&mut best, fails);
     best
 }
 
@@ -82,4 +84,47 @@ fn smaller_budgets(best: &mut Scenario, fails: &dyn Fn(&Scenario) -> bool) {
             }
         }
     }
+}
+
+/// A table with more rows than so many is cut to them, or left as it is.
+const MANY_ROWS: usize = 70;
+
+/// Line tables without the rows that the list fails without, and then with one row in the place of two neighbours.
+fn fewer_rows(best: &mut Scenario, fails: &dyn Fn(&Scenario) -> bool) {
+    for index in 0..best.calls.len() {
+        let Some(table) = best.calls[index].table().cloned() else { continue };
+        let rows: Vec<Vec<u16>> = table.chunks(ROW_WORDS).take(MANY_ROWS).map(|row| row.to_vec()).collect();
+        let with = |rows: &[Vec<u16>]| {
+            let mut candidate = best.clone();
+            candidate.calls[index] = candidate.calls[index].with_table(&rows.concat());
+            candidate
+        };
+        if !fails(&with(&rows)) {
+            continue;
+        }
+        let left = remove_parts(&rows, &|rows| fails(&with(rows)));
+        *best = with(&join_rows(left, &|rows| fails(&with(rows))));
+    }
+}
+
+/// Rows of a line whose levels follow on each other, as one row.
+fn join_rows(mut rows: Vec<Vec<u16>>, fails: &dyn Fn(&[Vec<u16>]) -> bool) -> Vec<Vec<u16>> {
+    let follows = |one: &[u16], two: &[u16]| match (one, two) {
+        ([line, _, high, _], [other, low, _, _]) => line == other && high.checked_add(1) == Some(*low),
+        _ => false,
+    };
+    let mut at = 0;
+    while at < rows.len() {
+        let joined = (0..rows.len()).filter(|next| follows(&rows[at], &rows[*next])).find_map(|next| {
+            let mut candidate = rows.clone();
+            candidate[at][2] = rows[next][2];
+            candidate.remove(next);
+            fails(&candidate).then_some(candidate)
+        });
+        match joined {
+            Some(fewer) => (rows, at) = (fewer, 0),
+            None => at += 1,
+        }
+    }
+    rows
 }

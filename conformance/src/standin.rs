@@ -6,6 +6,7 @@ use crate::foreign::{answer_words, end_words, step_words, Functions};
 use crate::mutants::{Mutant, MISTAKES};
 use crate::reference::Reference;
 use crate::runtime::*;
+use crate::scenario::Call;
 
 /// What stands behind the C functions: the reference, or by the environment's STANDIN_MISTAKE a mistake.
 fn behind() -> &'static dyn Runtime {
@@ -154,4 +155,38 @@ pub unsafe extern "C" fn run(
     answer.steps
 }
 
-pub const FUNCTIONS: Functions = Functions { check, format, boot, step, post, cut, run };
+/// # Safety
+/// See `check`.
+pub unsafe extern "C" fn lines_check(table: *const u16, table_length: usize, out: *mut u16) {
+    put(answer_words(&behind().lines_check(words(table, table_length))), out);
+}
+
+/// # Safety
+/// See `check`.
+#[allow(clippy::too_many_arguments)]
+pub unsafe extern "C" fn raise(
+    program: *const u16,
+    length: usize,
+    store: *mut u16,
+    store_length: usize,
+    device: *mut u16,
+    table: *const u16,
+    table_length: usize,
+    line: u16,
+    level: u16,
+    out: *mut u16,
+) {
+    let (program, store, table) = (words(program, length), words_mut(store, store_length), words(table, table_length));
+    let answer = with_device(device, |device| behind().raise(program, store, device, table, line, level));
+    // Words that are no device's: the table may still have an answer.
+    let answer = answer.unwrap_or_else(|| {
+        let call = Call::Raise { table: table.into(), line, level };
+        let mut flat = [0; DEVICE_WORDS];
+        flat.copy_from_slice(words(device, DEVICE_WORDS));
+        let outcome = behind().stray(&call, program, store, &mut flat, &mut Totals::default());
+        outcome.answer().expect("only a run answers as one")
+    });
+    put(answer_words(&answer), out);
+}
+
+pub const FUNCTIONS: Functions = Functions { check, format, boot, step, post, cut, run, lines_check, raise };

@@ -2,9 +2,10 @@
 //! changes nothing. The words are noise with enough sense in it to get past the first checks now and then.
 
 use conformance::generate::Random;
+use conformance::lines::generate::{any_table, raise};
 use conformance::reference::{broken, Reference, PROGRAM_MARK, STORE_MARK};
 use conformance::runtime::*;
-use conformance::scenario::{Call, Machine};
+use conformance::scenario::{Call, Machine, Table};
 
 fn noise(random: &mut Random, length: usize) -> Vec<u16> {
     (0..length).map(|_| random.word()).collect()
@@ -67,6 +68,16 @@ fn store(random: &mut Random, program: &[u16]) -> Vec<u16> {
     words
 }
 
+/// Any words as a line table, of right rows mostly.
+fn table(random: &mut Random) -> Vec<u16> {
+    if random.percent(70) {
+        let events = random.below(3);
+        return any_table(random, events);
+    }
+    let length = random.below(300);
+    noise(random, length)
+}
+
 fn device(random: &mut Random) -> Device {
     let mut words = [0; DEVICE_WORDS];
     for word in words.iter_mut() {
@@ -94,20 +105,27 @@ fn device(random: &mut Random) -> Device {
 #[test]
 fn any_words() {
     let mut random = Random::new(11);
-    let mut seen = [0u32; 32];
-    let mut effective = 0;
-    for _ in 0..300_000 {
+    let mut seen = [0u32; 34];
+    let (mut effective, mut nothing) = (0, 0);
+    let mut tables: Vec<Table> = Vec::new();
+    for round in 0..300_000 {
+        if round % 100 == 0 {
+            tables = (0..4).map(|_| table(&mut random).into()).collect();
+        }
         let program = program(&mut random);
         let store = store(&mut random, &program);
         let totals = Totals { committed: u32::MAX, accepted: 0, stores: u32::MAX - 1 };
         let mut machine = Machine { program, store, device: device(&mut random), stray: None, totals };
         for _ in 0..random.from(1, 6) {
-            let call = match random.below(8) {
+            let lent = random.pick(&tables);
+            let call = match random.below(10) {
                 0 => Call::Check,
                 1 => Call::Format { log_pairs: random.word(), queue_records: random.word() },
                 2 => Call::Boot,
                 3 => Call::Post { event: random.below(3) as u16, datum: random.word() },
                 4 => Call::Run { budget: random.below(50) as u32 },
+                5 => raise(&mut random, &lent),
+                6 if random.percent(5) => Call::LinesCheck { table: lent },
                 _ => Call::Step,
             };
             let before = machine.clone();
@@ -122,10 +140,15 @@ fn any_words() {
                         assert_eq!(machine, before);
                     }
                 }
-                None => effective += 1,
+                None => {
+                    effective += 1;
+                    nothing += outcome.nothing_posted() as u32;
+                    assert!(!outcome.nothing_posted() || machine == before);
+                }
             }
         }
     }
-    println!("{effective} calls not refused; refusals {seen:?}");
-    assert!(effective > 5_000);
+    println!("{effective} calls not refused, of these {nothing} posted nothing; refusals {seen:?}");
+    assert!(effective > 5_000 && nothing > 1_000);
+    assert!(seen[30..=32].iter().all(|count| *count > 1_000));
 }

@@ -2,11 +2,11 @@
 //! replay shows both sides call by call, and a number that doesn't fit is an error with its line.
 
 use conformance::compare::{self, Counts};
-use conformance::many::{missing, replay_line};
+use conformance::generate;
+use conformance::many::{fixed_lists, missing, replay_line};
 use conformance::mutants::{Mistake, Mutant};
 use conformance::reference::Reference;
 use conformance::scenario::{Call, Machine, Scenario};
-use conformance::{generate, seven};
 use std::io::Write;
 use std::process::{Command, Stdio};
 
@@ -28,7 +28,7 @@ fn few_calls_are_too_few() {
     assert!(!said.contains("FAILED") && !said.contains("\npassed"));
     // After the fixed lists, those of seed 1, which are more than 100 calls.
     let mut counts = Counts::default();
-    for list in seven::lists() {
+    for list in fixed_lists() {
         compare::drive(&Reference, &Reference, &list, &mut counts).unwrap();
     }
     let fixed = counts.all_calls();
@@ -79,7 +79,7 @@ fn a_replay_shows_both_sides_call_by_call() {
     let mut lines = Vec::new();
     let format = Call::Format { log_pairs: 1, queue_records: 1 };
     let before = [(None, Call::Check), (None, format)];
-    let list = scenario.calls.iter().enumerate().map(|(index, call)| (Some(index), *call));
+    let list = scenario.calls.iter().enumerate().map(|(index, call)| (Some(index), call.clone()));
     for (index, call) in before.into_iter().chain(list) {
         let outcomes = left.call(&Reference, &call).zip(right.call(&mutant, &call));
         lines.push(replay_line(index, &call, outcomes.as_ref().map(|(first, second)| [first, second])));
@@ -100,7 +100,7 @@ fn a_replay_shows_both_sides_call_by_call() {
 }
 
 /// A line of each kind whose last number is the largest that it may be, and one more than it.
-const LARGEST: [(&str, &str, &str); 14] = [
+const LARGEST: [(&str, &str, &str); 19] = [
     ("program C0B1", "FFFF", "10000"),
     ("sizes", "65535 65535", "65536 1"),
     ("sizes 1", "65535", "65536"),
@@ -109,6 +109,11 @@ const LARGEST: [(&str, &str, &str); 14] = [
     ("post 0", "65535", "65536"),
     ("post", "65535 0", "65536 0"),
     ("run", "4294967295", "4294967296"),
+    ("lines-check", "65535", "65536"),
+    ("lines-check 0 0 65535", "65535 15 0", "65536 15 0"),
+    ("raise", "65535 0", "65536 0"),
+    ("raise 0", "65535", "65536"),
+    ("raise 65535 65535 0 0 65535", "65535", "65536"),
     ("set-program 0", "65535", "65536"),
     ("set-store 8", "65535", "65536"),
     ("store-length", "1000000", "1000001"),
@@ -125,7 +130,7 @@ fn a_number_that_doesnt_fit_is_an_error() {
         let (kind, number) = (name.split(' ').next().unwrap(), larger.split(' ').next().unwrap());
         assert!(error.starts_with(&format!("line 3, {kind}: {number} is above ")), "{error}");
     }
-    for line in ["post 1", "post 1 2 3", "step 1", "run x", "run -1", "walk", "program 12 G"] {
+    for line in ["post 1", "post 1 2 3", "raise", "raise 1", "lines-check 1 -1", "step 1", "run x", "run -1", "walk", "program 12 G"] {
         let error = Scenario::from_text(&format!("boot\n{line}\n")).unwrap_err();
         assert!(error.starts_with("line 2, "), "{error}");
     }

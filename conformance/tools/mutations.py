@@ -1,13 +1,13 @@
 #!/usr/bin/env python3
 """How sharp the generator is: copies of the reference with one line changed each are compared with it.
 
-Each change is a pair of texts, the first of which stands exactly once in src/reference.rs. The copies are
+Each change is a pair of texts, the first of which stands exactly once in src/reference.rs, or in src/lines.rs. The copies are
 built in one go in a folder of their own, and for each the calls until the comparison catches it are printed,
 or NOT CAUGHT. Changes that don't change the meaning are marked as such and must not be caught.
 
     tools/mutations.py [FOLDER] [SEEDS]
 """
-import os, shutil, subprocess, sys
+import os, re, shutil, subprocess, sys
 
 HERE = os.path.dirname(os.path.dirname(os.path.abspath(__file__)))
 FOLDER = sys.argv[1] if len(sys.argv) > 1 else "/tmp/conformance-mutations"
@@ -168,25 +168,112 @@ CHANGES = [
     ("        while steps < budget {", "        while steps < budget.min(299) {"),
 ]
 
+# Of src/lines.rs.
+LINES_CHANGES = [
+    # 30
+    ("number == MAX_ROWS", "number > MAX_ROWS"),
+    ("number == MAX_ROWS", "number + 1 == MAX_ROWS"),
+    ("row.len() < ROW_WORDS", "row.len() < 3"),
+    ("row[0] > MAX_LINE", "row[0] > MAX_LINE + 1"),
+    ("row[0] > MAX_LINE", "row[0] >= MAX_LINE"),
+    ("row[1] > row[2]", "row[1] >= row[2]"),
+    ("row[1] > row[2]", "(row[1] as i16) > row[2] as i16"),
+    ("place: (number as u16, 0)", "place: (0, number as u16)"),
+    ("place: (number as u16, 0)", "place: (4 * number as u16, 0)"),
+    # 31 and 32
+    ("row.low as usize..=row.high as usize", "row.low as usize..row.high as usize"),
+    ("row.low as usize..=row.high as usize", "row.low as usize + 1..=row.high as usize"),
+    ("            *count += 1;", "            *count = 1;"),
+    ("            *count += 1;", "            *count ^= 1;"),
+    ("(0..=MAX_LINE).filter", "(0..MAX_LINE).filter"),
+    ("(0..=MAX_LINE).filter", "(1..=MAX_LINE).filter"),
+    (".filter(|line| rows(table).any(|row| row.line == *line))", ".filter(|line| rows(table).any(|row| row.line >= *line))"),
+    ("|count| count >= 2", "|count| count > 2"),
+    ("|count| count >= 2", "|count| count == 2"),
+    ("place: (*line, level) });\n        }\n    }\n    for", "place: (level, *line) });\n        }\n    }\n    for"),
+    ("place: (*line, level) });\n        }\n    }\n    Ok", "place: (*line, level - level % 2) });\n        }\n    }\n    Ok"),
+    ("    for (line, counts) in &counts {\n        if let Some(level) = lowest(counts, |count| count == 0)", "    for (line, counts) in counts.iter().rev() {\n        if let Some(level) = lowest(counts, |count| count == 0)"),
+    ("    for (line, counts) in &counts {\n        if let Some(level) = lowest(counts, |count| count >= 2)", "    for (line, counts) in counts.iter().rev() {\n        if let Some(level) = lowest(counts, |count| count >= 2)"),
+    ("if checked.len() == KEPT {", "if checked.len() == KEPT / 2 {", "same"),
+    # A raise
+    ("self.low <= level && level <= self.high", "self.low < level && level <= self.high"),
+    ("self.low <= level && level <= self.high", "self.low <= level && level < self.high"),
+    ("check(table).map_err(Answer::Refused)?;", "let _ = check(table);"),
+    ("check(table).map_err(Answer::Refused)?;", "check_rows(table).map_err(Answer::Refused)?;"),
+    ("row.line == line && row.has(level)", "row.has(level)"),
+    ("row.line == line && row.has(level)", "row.line == line"),
+    ("row.line == line && row.has(level)", "row.line == line % 16 && row.has(level)"),
+    ("if event != NO_EVENT", "if event < NO_EVENT - 1"),
+    ("if event != NO_EVENT", "if true"),
+]
+
 text = open(os.path.join(HERE, "src", "reference.rs")).read()
+lines_text = open(os.path.join(HERE, "src", "lines.rs")).read()
 shutil.rmtree(os.path.join(FOLDER, "src"), ignore_errors=True)
 shutil.copytree(os.path.join(HERE, "src"), os.path.join(FOLDER, "src"))
 shutil.copytree(os.path.join(HERE, "tools"), os.path.join(FOLDER, "tools"), dirs_exist_ok=True)
 shutil.copy(os.path.join(HERE, "Cargo.toml"), FOLDER)
 modules, rows = [], []
-for number, change in enumerate(CHANGES):
-    old, new = change[0], change[1]
-    if text.count(old) != 1:
-        sys.exit(f"change {number}: stands {text.count(old)} times: {old}")
-    with open(os.path.join(FOLDER, "src", f"m{number}.rs"), "w") as out:
-        out.write("#![allow(dead_code, unused_variables, unused_mut, unused_assignments)]\n" + text.replace(old, new))
-    modules.append(f"pub mod m{number};")
-    rows.append(f"        ({number}, {'true' if len(change) > 2 else 'false'}, &conformance::m{number}::Reference),")
+kinds = [("reference", text, CHANGES, "&conformance::m{0}::Reference"),
+         ("lines", re.sub(r"pub mod \w+;\n", "", lines_text), LINES_CHANGES, "&Lines {{ check: conformance::m{0}::check, event: conformance::m{0}::event }}")]
+for file, whole, changes, copy in kinds:
+    for old, new, *same in changes:
+        number = len(rows)
+        if whole.count(old) != 1:
+            sys.exit(f"change {number}, {file}: stands {whole.count(old)} times: {old}")
+        with open(os.path.join(FOLDER, "src", f"m{number}.rs"), "w") as out:
+            out.write("#![allow(dead_code, unused_variables, unused_mut, unused_assignments)]\n" + whole.replace(old, new))
+        modules.append(f"pub mod m{number};")
+        rows.append(f"        ({number}, {'true' if same else 'false'}, {copy.format(number)}),")
 with open(os.path.join(FOLDER, "src", "lib.rs"), "a") as out:
     out.write("\n".join(modules) + "\n")
 with open(os.path.join(FOLDER, "src", "main.rs"), "w") as out:
     out.write("""use conformance::compare::{drive, Counts};
-use conformance::{generate::scenario, reference::Reference, runtime::Runtime};
+use conformance::scenario::{Call, Outcome};
+use conformance::{generate::scenario, reference::Reference, runtime::*};
+/// The reference with another check of line tables and another choice of the event.
+struct Lines {
+    check: fn(&[u16]) -> Result<(), Refusal>,
+    event: fn(&[u16], u16, u16) -> Result<u16, Answer>,
+}
+impl Runtime for Lines {
+    fn check(&self, program: &[u16]) -> Answer {
+        Reference.check(program)
+    }
+    fn format(&self, program: &[u16], log_pairs: u16, queue_records: u16, store: &mut [u16]) -> Answer {
+        Reference.format(program, log_pairs, queue_records, store)
+    }
+    fn boot(&self, program: &[u16], store: &mut [u16], device: &mut Device) -> Answer {
+        Reference.boot(program, store, device)
+    }
+    fn step(&self, program: &[u16], store: &mut [u16], device: &mut Device, totals: &mut Totals) -> StepAnswer {
+        Reference.step(program, store, device, totals)
+    }
+    fn post(&self, program: &[u16], store: &mut [u16], device: &mut Device, event: u16, datum: u16) -> Answer {
+        Reference.post(program, store, device, event, datum)
+    }
+    fn cut(&self, device: &mut Device) -> Answer {
+        Reference.cut(device)
+    }
+    fn run(&self, program: &[u16], store: &mut [u16], device: &mut Device, totals: &mut Totals, budget: u32) -> RunAnswer {
+        Reference.run(program, store, device, totals, budget)
+    }
+    fn lines_check(&self, table: &[u16]) -> Answer {
+        (self.check)(table).map_or_else(Answer::Refused, |_| Answer::Done)
+    }
+    fn raise(&self, program: &[u16], store: &mut [u16], device: &mut Device, table: &[u16], line: u16, level: u16) -> Answer {
+        match (self.event)(table, line, level) {
+            Ok(event) => Reference.post(program, store, device, event, level),
+            Err(answer) => answer,
+        }
+    }
+    fn stray(&self, call: &Call, program: &[u16], store: &mut [u16], words: &mut [u16; DEVICE_WORDS], totals: &mut Totals) -> Outcome {
+        match call {
+            Call::Raise { table, line, level } => Outcome::Answer((self.event)(table, *line, *level).err().unwrap_or(Answer::NoDevice)),
+            _ => Reference.stray(call, program, store, words, totals),
+        }
+    }
+}
 fn main() {
     let seeds: u64 = std::env::args().nth(1).unwrap().parse().unwrap();
     let mut open: Vec<(usize, bool, &dyn Runtime)> = vec![
@@ -221,7 +308,7 @@ result = subprocess.run([os.path.join(FOLDER, "target/release/conformance"), str
 failed = False
 for line in result.stdout.splitlines():
     number, calls, verdict = line.split(" ", 2)
-    first = [l for l in CHANGES[int(number)][1].splitlines() if l.strip()][:1]
+    first = [l for l in (CHANGES + LINES_CHANGES)[int(number)][1].splitlines() if l.strip()][:1]
     print(f"{calls:>9} {verdict:12} {number:>3}  {first[0].strip() if first else '(removed)'}")
     failed = failed or verdict.isupper()
 sys.exit(1 if failed or not result.stdout else 0)

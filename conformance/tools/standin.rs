@@ -94,3 +94,29 @@ pub unsafe extern "C" fn runtime_run(
 ) -> u32 {
     standin::run(program, length, store, store_length, device, totals, budget, answer)
 }
+
+/// # Safety
+/// See `runtime_check`.
+#[no_mangle]
+pub unsafe extern "C" fn runtime_lines_check(table: *const u16, table_length: usize, answer: *mut u16) {
+    standin::lines_check(table, table_length, answer)
+}
+
+/// # Safety
+/// See `runtime_check`.
+#[no_mangle]
+#[allow(clippy::too_many_arguments)]
+pub unsafe extern "C" fn runtime_raise(
+    program: *const u16,
+    length: usize,
+    store: *mut u16,
+    store_length: usize,
+    device: *mut u16,
+    table: *const u16,
+    table_length: usize,
+    line: u16,
+    level: u16,
+    answer: *mut u16,
+) {
+    standin::raise(program, length, store, store_length, device, table, table_length, line, level, answer)
+}

@@ -21,6 +21,13 @@ static const uint16_t program[PROGRAM_WORDS] = {
     0x0900, 1, 0x1000, 0                                              /* saves its data in word 1 */
 };
 
+#define TABLE_WORDS (2 * RUNTIME_LINES_ROW_WORDS)
+
+static uint16_t table[TABLE_WORDS] = {
+    3, 0, 999, RUNTIME_LINES_NO_EVENT, /* line 3: silent below level 1000 */
+    3, 1000, 65535, 0                  /* from there on it raises event 0 */
+};
+
 static uint16_t store[STORE_WORDS];                /* nonvolatile: a cut leaves it as it is */
 static uint16_t device[RUNTIME_DEVICE_WORDS];      /* lost at a cut; zeros are the device that is off */
 static uint32_t totals[RUNTIME_TOTALS_NUMBERS];
@@ -45,6 +52,7 @@ static void print(const char *call, int is_step)
         break;
     case RUNTIME_CASE_SPENT: printf("spent"); break;
     case RUNTIME_CASE_NO_DEVICE: printf("no device"); break;
+    case RUNTIME_CASE_NOTHING_POSTED: printf("nothing posted"); break;
     default: printf("?"); break;
     }
     if (is_step && answer[RUNTIME_ANSWER_STORED] != RUNTIME_NO_STORE)
@@ -77,6 +85,21 @@ static void post(uint16_t event, uint16_t datum)
 {
     runtime_post(program, PROGRAM_WORDS, store, STORE_WORDS, device, event, datum, answer);
     print("post", 0);
+}
+
+static void check_lines(void)
+{
+    runtime_lines_check(table, TABLE_WORDS, answer);
+    print("lines_check", 0);
+}
+
+static void raise_line(uint16_t line, uint16_t level)
+{
+    char text[32];
+
+    runtime_raise(program, PROGRAM_WORDS, store, STORE_WORDS, device, table, TABLE_WORDS, line, level, answer);
+    sprintf(text, "raise %u %u", (unsigned)line, (unsigned)level);
+    print(text, 0);
 }
 
 static void run(uint32_t budget)
@@ -122,6 +145,15 @@ int main(void)
 
     run(1400);
     print_memory();
+
+    check_lines();
+    raise_line(3, 999);  /* its row has no event */
+    raise_line(4, 1000); /* no row names this line */
+    raise_line(3, 1000); /* the post of event 0 with the level as data */
+    steps(3);
+    table[RUNTIME_LINES_HIGH] = 998; /* level 999 is in no row now: RUNTIME_REFUSAL_LINES_GAP */
+    check_lines();
+    raise_line(3, 1000);
 
     device[RUNTIME_DEVICE_ON] = 2; /* no device has this word */
     steps(1);

@@ -17,6 +17,10 @@ COUNTING = [
     0x0800, 0, 0x0010, 1, 0x0201, 0, 0x0900, 0, 0x0F00, 0,  # adds 1 to word 0
     0x0900, 1, 0x1000, 0,  # saves its data in word 1
 ]
+LINES = [
+    3, 0, 999, N["LINES_NO_EVENT"],  # line 3: silent below level 1000
+    3, 1000, 65535, 0,  # from there on it raises event 0
+]
 LOG_PAIRS, QUEUE_RECORDS = 1, 1
 
 
@@ -37,6 +41,8 @@ class Node:
             "post": [words_at, length, words_at, length, words_at, word, word, words_at],
             "cut": [words_at, words_at],
             "run": [words_at, length, words_at, length, words_at, numbers_at, number, words_at],
+            "lines_check": [words_at, length, words_at],
+            "raise": [words_at, length, words_at, length, words_at, words_at, length, word, word, words_at],
         }
         for name, types in parameters.items():
             function = getattr(self.library, "runtime_" + name)
@@ -88,6 +94,14 @@ class Node:
         self.on_device("post", event, datum)
         self.show("post")
 
+    def check_lines(self, table):
+        self.call("lines_check", table, len(table))
+        self.show("lines_check")
+
+    def raise_line(self, table, line, level):
+        self.on_device("raise", table, len(table), line, level)
+        self.show(f"raise {line} {level}")
+
     def run(self, budget):
         made = self.on_device("run", self.totals, budget)
         self.show(f"run {budget}: {made}")
@@ -125,6 +139,16 @@ def main():
 
     node.run(1400)
     node.show_memory()
+
+    table = words(LINES)
+    node.check_lines(table)
+    node.raise_line(table, 3, 999)  # its row has no event
+    node.raise_line(table, 4, 1000)  # no row names this line
+    node.raise_line(table, 3, 1000)  # the post of event 0 with the level as data
+    node.steps(3)
+    table[N["LINES_HIGH"]] = 998  # level 999 is in no row now: REFUSAL_LINES_GAP
+    node.check_lines(table)
+    node.raise_line(table, 3, 1000)
 
     node.device[N["DEVICE_ON"]] = 2  # no device has this word
     node.steps(1)

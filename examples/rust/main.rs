@@ -16,6 +16,11 @@ const COUNTING: [u16; 26] = [
     0x0900, 1, 0x1000, 0, // saves its data in word 1
 ];
 
+const LINES: [u16; 2 * LINES_ROW_WORDS] = [
+    3, 0, 999, LINES_NO_EVENT, // line 3: silent below level 1000
+    3, 1000, 65535, 0, // from there on it raises event 0
+];
+
 const LOG_PAIRS: u16 = 1;
 const QUEUE_RECORDS: u16 = 1;
 
@@ -43,6 +48,10 @@ fn steps(node: &mut Node, count: u32) {
             (answer, Some(index)) => println!("{:<16} {answer}, word {index}", "step"),
         }
     }
+}
+
+fn raise(node: &mut Node, table: &[u16], line: u16, level: u16) {
+    print(&format!("raise {line} {level}"), node.raise(table, line, level));
 }
 
 /// A cut, a boot, then steps while a commit is unfinished.
@@ -79,6 +88,16 @@ fn main() {
     let (made, end) = node.run(1400);
     print(&format!("run 1400: {made}"), end);
     print_memory(&node);
+
+    let mut table = LINES;
+    print("lines_check", lines_check(&table));
+    raise(&mut node, &table, 3, 999); // its row has no event
+    raise(&mut node, &table, 4, 1000); // no row names this line
+    raise(&mut node, &table, 3, 1000); // the post of event 0 with the level as data
+    steps(&mut node, 3);
+    table[LINES_HIGH] = 998; // level 999 is in no row now: REFUSAL_LINES_GAP
+    print("lines_check", lines_check(&table));
+    raise(&mut node, &table, 3, 1000);
 
     node.device[DEVICE_ON] = 2; // no device has this word
     steps(&mut node, 1);

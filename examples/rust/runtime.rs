@@ -11,13 +11,14 @@ pub const ANSWER_WORDS: usize = 5;
 pub const STEP_ANSWER_WORDS: usize = 6; // a step's answer tells the word stored, too
 pub const TOTALS_NUMBERS: usize = 3;
 pub const REGISTERS: usize = 8;
+pub const LINES_ROW_WORDS: usize = 4; // a line table's rows
 
 /// The length of a store of M memory words, L log pairs and Q queue records.
 pub const fn store_words(memory_words: u16, log_pairs: u16, queue_records: u16) -> usize {
     18 + memory_words as usize + 2 * log_pairs as usize + 2 * queue_records as usize
 }
 
-// ---- The largest values. The least is 1; of events and transaction numbers 0.
+// ---- The largest values. The least is 1; of events, transaction numbers, lines and a line table's rows 0.
 
 pub const MAX_TASKS: u16 = 32;
 pub const MAX_EVENTS: u16 = 16;
@@ -28,6 +29,8 @@ pub const MAX_INSTRUCTIONS: u16 = 256; // of one body
 pub const MAX_TRANSACTION: u16 = 255;
 pub const MAX_PROGRAM_WORDS: usize = 24726;
 pub const MAX_STORE_WORDS: usize = 1234;
+pub const MAX_LINE: u16 = 15;
+pub const MAX_LINES_ROWS: usize = 64;
 
 // ---- An answer's words
 
@@ -47,6 +50,7 @@ pub const CASE_ACCEPTED: u16 = 5;
 pub const CASE_REFUSED: u16 = 6;
 pub const CASE_SPENT: u16 = 7;
 pub const CASE_NO_DEVICE: u16 = 8;
+pub const CASE_NOTHING_POSTED: u16 = 9;
 
 pub const KIND_TASK: u16 = 0;
 pub const KIND_EVENT: u16 = 1;
@@ -71,6 +75,9 @@ pub const REFUSAL_ADDRESS: u16 = 23;
 pub const REFUSAL_LOG_FULL: u16 = 24;
 pub const REFUSAL_STATE: u16 = 25;
 pub const REFUSAL_POWER_ON: u16 = 26;
+pub const REFUSAL_LINES_ROW: u16 = 30;
+pub const REFUSAL_LINES_GAP: u16 = 31;
+pub const REFUSAL_LINES_OVERLAP: u16 = 32;
 
 // ---- The program's first words
 
@@ -141,6 +148,15 @@ pub const TOTALS_COMMITTED: usize = 0;
 pub const TOTALS_ACCEPTED: usize = 1;
 pub const TOTALS_STORES: usize = 2;
 
+// ---- A line table: a row's words
+
+pub const LINES_LINE: usize = 0;
+pub const LINES_LOW: usize = 1;
+pub const LINES_HIGH: usize = 2;
+pub const LINES_EVENT: usize = 3;
+
+pub const LINES_NO_EVENT: u16 = 65535; // in the event's place: raising posts nothing
+
 /// The library's functions, as include/runtime.h has them.
 mod library {
     unsafe extern "C" {
@@ -192,6 +208,19 @@ mod library {
             budget: u32,
             answer: *mut u16,
         ) -> u32;
+        pub fn runtime_lines_check(table: *const u16, table_length: usize, answer: *mut u16);
+        pub fn runtime_raise(
+            program: *const u16,
+            program_length: usize,
+            store: *const u16,
+            store_length: usize,
+            device: *mut u16,
+            table: *const u16,
+            table_length: usize,
+            line: u16,
+            level: u16,
+            answer: *mut u16,
+        );
     }
 }
 
@@ -214,6 +243,8 @@ pub enum Answer {
     Spent,
     /// The words in the device's place stand for no device state.
     NoDevice,
+    /// A raise of a line without rows, or at a level whose row has no event.
+    NothingPosted,
 }
 
 impl Answer {
@@ -231,6 +262,7 @@ impl Answer {
             CASE_REFUSED => Answer::Refused { number, place: [words[ANSWER_PLACE], words[ANSWER_SECOND_PLACE]] },
             CASE_SPENT => Answer::Spent,
             CASE_NO_DEVICE => Answer::NoDevice,
+            CASE_NOTHING_POSTED => Answer::NothingPosted,
             case => panic!("the library has no case {}", case),
         }
     }
@@ -259,6 +291,7 @@ impl fmt::Display for Answer {
             }
             Answer::Spent => write!(out, "spent"),
             Answer::NoDevice => write!(out, "no device"),
+            Answer::NothingPosted => write!(out, "nothing posted"),
         }
     }
 }
@@ -268,6 +301,13 @@ pub fn check(program: &[u16]) -> Answer {
     let mut answer = [0; ANSWER_WORDS];
     // Safety, here and below: each pointer is that of a slice or an array that is lent for the call, with its length.
     unsafe { library::runtime_check(program.as_ptr(), program.len(), answer.as_mut_ptr()) };
+    Answer::from_words(&answer)
+}
+
+/// Whether a line table is accepted: done, or the refusal.
+pub fn lines_check(table: &[u16]) -> Answer {
+    let mut answer = [0; ANSWER_WORDS];
+    unsafe { library::runtime_lines_check(table.as_ptr(), table.len(), answer.as_mut_ptr()) };
     Answer::from_words(&answer)
 }
 
@@ -353,6 +393,26 @@ impl<'a> Node<'a> {
                 self.device.as_mut_ptr(),
                 event,
                 datum,
+                answer.as_mut_ptr(),
+            )
+        };
+        Answer::from_words(&answer)
+    }
+
+    /// The table is checked, and then the post of the event that it has for this level of the line, with the level as data.
+    pub fn raise(&mut self, table: &[u16], line: u16, level: u16) -> Answer {
+        let mut answer = [0; ANSWER_WORDS];
+        unsafe {
+            library::runtime_raise(
+                self.program.as_ptr(),
+                self.program.len(),
+                self.store.as_ptr(),
+                self.store.len(),
+                self.device.as_mut_ptr(),
+                table.as_ptr(),
+                table.len(),
+                line,
+                level,
                 answer.as_mut_ptr(),
             )
         };

@@ -7,6 +7,9 @@
 //! In a round the sides take turns ten times, and the best time of each counts, so that other work on the machine
 //! disturbs less. Each measurement starts from a formatted store and a booted device and makes the same calls on both sides; what both
 //! leave is compared. The library is called as a host calls it, on flat words; the reference on its own values, inlined.
+//!
+//! Of line tables the library alone is measured: the reference counts every level. Built without the feature `lines`, for
+//! an archive from before request N3, there is nothing of them.
 
 use conformance::cases::COUNTING;
 use conformance::foreign::{Functions, STEP_WORDS};
@@ -412,12 +415,11 @@ fn turns_alone(words: &[String]) {
 }
 
 /// The instructions of this program with these words on its command line, as valgrind counts them.
-fn count(words: [&str; 4]) -> u64 {
+fn count(words: &[&str]) -> u64 {
     let this = std::env::current_exe().expect("this program has a path");
     let output = Command::new("valgrind")
         .args(["--tool=callgrind", "--callgrind-out-file=/dev/null"])
         .arg(this)
-        .arg("--turns")
         .args(words)
         .output()
         .unwrap_or_else(|error| panic!("valgrind: {error}"));
@@ -430,7 +432,7 @@ fn count(words: [&str; 4]) -> u64 {
 /// Instructions a step: what two more turns take, so that the start and the end of the program drop out.
 fn instructions(input: usize, load: &Load, call: &str, side: &str) -> f64 {
     let input = input.to_string();
-    let [less, more] = ["1", "3"].map(|turns| count([&input, call, side, turns]));
+    let [less, more] = ["1", "3"].map(|turns| count(&["--turns", &input, call, side, turns]));
     (more - less) as f64 / (2 * load.steps_in_a_turn()) as f64
 }
 
@@ -455,6 +457,155 @@ fn print_instructions() {
         let [library, reference] = SIDES.map(|side| instructions(speed.len() + input, load, "run", side));
         println!("| {} | {} | {library:.1} | {reference:.1} |", load.program.len(), load.store().len());
     }
+    if cfg!(feature = "lines") {
+        print_lines_instructions();
+    }
+}
+
+// ---------------------------------------------------------------------------------------------------------
+// Line tables
+
+/// A line table, and the level of a line that is raised: one of the last row's.
+struct Lines {
+    name: &'static str,
+    table: Vec<u16>,
+    line: u16,
+    level: u16,
+}
+
+#[derive(Clone, Copy, PartialEq)]
+enum LinesCall {
+    Check,
+    Raise,
+}
+
+/// A call by its name on the command line and in the tables.
+const LINES_CALLS: [(&str, LinesCall); 2] = [("lines_check", LinesCall::Check), ("raise", LinesCall::Raise)];
+
+/// So many lines with so many bands each: the rows in order, line by line, or with a stride in an order that neither
+/// rises nor falls.
+fn bands(name: &'static str, lines: u16, bands: u16, stride: u16) -> Lines {
+    let count = lines * bands;
+    let wide = (65536 / bands as u32) as u16;
+    let row = |number: u16| {
+        let (line, band) = (number / bands, number % bands);
+        [line, band * wide, (band * wide).wrapping_add(wide).wrapping_sub(1), 0]
+    };
+    let table: Vec<u16> = (0..count).flat_map(|number| row(number * stride % count)).collect();
+    with_last_row(name, table)
+}
+
+fn with_last_row(name: &'static str, table: Vec<u16>) -> Lines {
+    assert_eq!(Reference.lines_check(&table), Answer::Done, "{name}");
+    let [line, low, _, _] = table[table.len() - 4..] else { unreachable!("a row has four words") };
+    Lines { name, table, line, level: low }
+}
+
+fn lines_loads() -> Vec<Lines> {
+    let few = vec![5, 0, 99, 0, 5, 100, 65535, 0, 9, 0, 65535, 0];
+    let mixed = [&few[4..], &few[..4]].concat();
+    vec![
+        with_last_row("3 rows over 2 lines, in order", few),
+        with_last_row("3 rows over 2 lines, mixed", mixed),
+        bands("64 rows over one line, in order", 1, 64, 1),
+        bands("64 rows over one line, mixed", 1, 64, 37),
+        bands("64 rows over 16 lines, in order", 16, 4, 1),
+        bands("64 rows over 16 lines, mixed", 16, 4, 37),
+    ]
+}
+
+/// The counting program's node, on. After a raise the device is put back as it was, so that each raise posts.
+fn lines_calls(load: &Lines, call: LinesCall, calls: u64) {
+    let mut side = Words::<false> {
+        functions: black_box(FUNCTIONS),
+        program: &COUNTING,
+        store: vec![0; 24],
+        device: Device::ON.to_words(),
+        totals: [0; 3],
+        answer: [0; STEP_WORDS],
+    };
+    assert_eq!(Reference.format(&COUNTING, 1, 1, &mut side.store), Answer::Done);
+    for _ in 0..calls {
+        match call {
+            LinesCall::Check => side.lines_check(load),
+            LinesCall::Raise => side.raise(load),
+        }
+        assert_eq!(black_box(side.answer)[0], 0);
+    }
+}
+
+impl Words<'_, false> {
+    fn lines_check(&mut self, load: &Lines) {
+        let table = black_box(&load.table[..]);
+        unsafe { (self.functions.lines_check)(table.as_ptr(), table.len(), self.answer.as_mut_ptr()) };
+    }
+
+    fn raise(&mut self, load: &Lines) {
+        let table = black_box(&load.table[..]);
+        unsafe {
+            (self.functions.raise)(
+                self.program.as_ptr(),
+                self.program.len(),
+                self.store.as_mut_ptr(),
+                self.store.len(),
+                self.device.as_mut_ptr(),
+                table.as_ptr(),
+                table.len(),
+                black_box(load.line),
+                black_box(load.level),
+                self.answer.as_mut_ptr(),
+            )
+        };
+        black_box(&mut self.device).copy_from_slice(&Device::ON.to_words());
+    }
+}
+
+/// So many calls on one table, and nothing else: what `count` lets valgrind look at.
+fn lines_alone(words: &[String]) {
+    let [input, call, calls] = words else { usage() };
+    let all = lines_loads();
+    let load = input.parse().ok().and_then(|input: usize| all.get(input)).unwrap_or_else(|| usage());
+    let call = LINES_CALLS.iter().find(|(name, _)| name == call).unwrap_or_else(|| usage()).1;
+    lines_calls(load, call, calls.parse().unwrap_or_else(|_| usage()));
+}
+
+fn print_lines_instructions() {
+    println!("\nInstructions of a call with a line table, the library alone.\n");
+    println!("| Table | Call | Library |");
+    println!("|---|---|---:|");
+    for (input, load) in lines_loads().iter().enumerate() {
+        for (call, _) in LINES_CALLS {
+            let [less, more] = ["10", "110"].map(|calls| count(&["--lines", &input.to_string(), call, calls]));
+            println!("| {} | {call} | {:.1} |", load.name, (more - less) as f64 / 100.0);
+        }
+    }
+}
+
+/// Seconds for a call, the best of some times, by rounds.
+fn lines_rounds(load: &Lines, call: LinesCall, rounds: usize, milliseconds: u64) -> Vec<f64> {
+    let seconds = |calls: u64| {
+        let start = Instant::now();
+        lines_calls(load, call, calls);
+        start.elapsed().as_secs_f64() / calls as f64
+    };
+    let calls = 1 + (milliseconds as f64 / 1000.0 / TURNS as f64 / seconds(1000)) as u64;
+    let best = |_| (0..TURNS).map(|_| seconds(calls)).fold(f64::INFINITY, f64::min);
+    (0..rounds).map(best).collect()
+}
+
+fn print_lines_times(rounds: usize, milliseconds: u64) {
+    println!("## Line tables\n");
+    println!("A call in nanoseconds, the library alone. A raise posts, and the device is put back after it.\n");
+    println!("| Table | Call | Least | middle | largest |");
+    println!("|---|---|---:|---:|---:|");
+    for load in lines_loads() {
+        for (name, call) in LINES_CALLS {
+            let [least, middle, largest] =
+                spread(lines_rounds(&load, call, rounds, milliseconds)).map(|seconds| seconds * 1e9);
+            println!("| {} | {name} | {least:.1} | {middle:.1} | {largest:.1} |", load.name);
+        }
+    }
+    println!();
 }
 
 // ---------------------------------------------------------------------------------------------------------
@@ -524,6 +675,7 @@ fn main() {
     match arguments.first().map(String::as_str) {
         Some("--instructions") if arguments.len() == 1 => print_instructions(),
         Some("--turns") => turns_alone(&arguments[1..]),
+        Some("--lines") if cfg!(feature = "lines") => lines_alone(&arguments[1..]),
         _ => print_times(&arguments),
     }
 }
@@ -554,4 +706,7 @@ fn print_times(arguments: &[String]) {
     let flat = flat_loads();
     let all: Vec<(&Load, How)> = flat.iter().map(|load| (load, How::Run)).collect();
     print_flatness(&all, &rounds(&all, count, milliseconds));
+    if cfg!(feature = "lines") {
+        print_lines_times(count, milliseconds);
+    }
 }

@@ -263,6 +263,22 @@ impl Runtime for HeadPlusOne {
     ) -> RunAnswer {
         Reference.run(program, store, device, totals, budget)
     }
+
+    fn lines_check(&self, table: &[u16]) -> Answer {
+        Reference.lines_check(table)
+    }
+
+    fn raise(
+        &self,
+        program: &[u16],
+        store: &mut [u16],
+        device: &mut Device,
+        table: &[u16],
+        line: u16,
+        level: u16,
+    ) -> Answer {
+        Reference.raise(program, store, device, table, line, level)
+    }
 }
 
 /// A list of calls in words.

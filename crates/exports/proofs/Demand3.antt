@@ -1,13 +1,16 @@
 -- Demand 3 of the exported functions: each exported call tells what the definition's call does; the rest is model's `observed`. It cites:
 -- words-stay-words, back, run-is-steps, totals-are-counts, observed. Assumes nothing.
-use Prim.Native.Nat.{ℕ, zero, suc, _<_}
+use Prim.Native.Nat.{ℕ, zero, suc, _^_, _<_}
 use mathlib.Core.Bool.{false}
 use mathlib.Core.List.{List, [], _∷_, _++_, append-assoc, append-nil}
 use mathlib.Core.Logic.{_≢_}
 use mathlib.Core.Path.{_≡_, refl, sym, ap, _∙_, subst}
 use native.Mathlib.Omega.{arith}
-use Rattle.exports.specs.Demand3.{Exchange, single, run-of, Makes, MakesAll, callsOf, allCalls, Answered, AllAnswered, RecoversTo, ExportsObserved, atFirst, Demand3OfExports}
-use Rattle.exports.specs.Exported.{HostState, TellsCall, TellsRun, totalsOf, totalsWords}
+use Rattle.exports.specs.Demand3.{Exchange, single, run-of, raise-of, AnsweredPosting, Makes, MakesAll, callsOf, allCalls, Answered, AllAnswered, RecoversTo, ExportsObserved, atFirst, Demand3OfExports}
+use Rattle.exports.specs.Exported.{HostState, TellsCall, TellsRun, PostsAs, totalsOf, totalsWords}
+use Rattle.lines.proofs.RaiseLaws.{TypedPosting, posting-typed}
+use Rattle.lines.specs.Lines.{posting, postingCalls, raiseCalls}
+use Rattle.lines.specs.declared.Posting.{Posting}
 use Rattle.model.proofs.CallLaws.{after-append, totals-append, boot-counts-nothing, cut-counts-nothing, post-counts-nothing, run-is-steps, totals-are-counts}
 use Rattle.model.proofs.Observed.{observed}
 use Rattle.model.proofs.Words.{fresh-device-words, words-stay-words, format-stays-words}
@@ -155,14 +158,39 @@ module _ (p : List ℕ) (ps : TypedWords p) (l q : ℕ) (before : List ℕ) (e :
         let read-store = subst (λ (u : List ℕ). TellsRun (run p b u D (totalsOf (h .totals))) n a g) (at .store) (m .state D read) in
         subst (λ (t : Totals). TellsRun (run p b S D t) n a g) (ap totalsOf (at .totals) ∙ totals-read T) read-store
 
+    -- ---- a raise: the post that it makes, or no call
+
+    at-unchanged : (g : HostState) → g .device ≡ h .device → g .store ≡ h .store → g .totals ≡ h .totals → At p s (cs ++ []) g
+    at-unchanged g device store totals =
+        let same : At p s cs g =
+        record {
+          store = store ∙ at .store;
+          device = device ∙ at .device;
+          totals = totals ∙ at .totals;
+          words = at .words;
+          device-words = at .device-words;
+        } in
+        subst (λ (ds : List Call). At p s ds g) (sym (append-nil cs)) same
+
+    did-raise : (v : ℕ) (a : List ℕ) (g : HostState) (q : Posting) → v < 2 ^ 16 → TypedPosting q → PostsAs p (h .store) (h .device) v a (g .device) q
+        → g .store ≡ h .store → g .totals ≡ h .totals → AnsweredPosting p s cs v a q × At p s (cs ++ postingCalls v q) g
+    unfolding postingCalls
+    did-raise v a g (Posting.Refused r) u w (said, device) store totals = (said, at-unchanged g device store totals)
+    did-raise v a g Posting.Nothing u w (said, device) store totals = (said, at-unchanged g device store totals)
+    did-raise v a g (Posting.Event e) u w posts store totals =
+        let o = did-single (Post e v) a g (posts, store, totals, (w, u)) in
+        (o .answered, at-single (Post e v) a g (w, u) o)
+
     -- ---- an exported call
 
     one : (x : Exchange) (g : HostState) → Makes p h x g → Answered p s cs x × At p s (cs ++ callsOf x) g
-    unfolding callsOf
+    unfolding callsOf raiseCalls
     one (single c a) g m =
         let o = did-single c a g m in
         (o .answered, at-single c a g (single-words c a g m) o)
     one (run-of b n a) g m = did-run b n a g (run-read b n a g m)
+    one (raise-of table line v a) g (posts, store, totals, ws, u) =
+        did-raise v a g (posting table line v) u (posting-typed table line v ws) posts store totals
 
   -- ---- a list of them
 

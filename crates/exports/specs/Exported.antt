@@ -14,7 +14,9 @@ use Rattle.model.specs.declared.Answer.{Answer}
 use Rattle.model.specs.declared.Device.{Device}
 use Rattle.model.specs.declared.Stored.{Stored}
 use Rattle.model.specs.declared.Totals.{Totals}
-use Rattle.words.specs.Words.{deviceOf, known, unknown, deviceWords, answerWords, endedWords, checkedWords, unknownWords, stepWords, unknownStepWords}
+use Rattle.words.specs.Words.{deviceOf, known, unknown, deviceWords, answerWords, endedWords, refusedWords, checkedWords, unknownWords, nothingPostedWords, stepWords, unknownStepWords}
+use Rattle.lines.specs.Lines.{check as linesCheck, posting}
+use Rattle.lines.specs.declared.Posting.{Posting}
 
 -- what a host holds: the store's words, the device's 18 words and the totals' three numbers
 pub record HostState : Type 0 where
@@ -76,6 +78,20 @@ Boots p s x a y = OnDevice x (λ d. TellsCall Boot s (boot p s d) a y s) ((a ≡
 -- runtime_post of event e with data v
 abbrev pub Posts : List ℕ → List ℕ → List ℕ → ℕ → ℕ → List ℕ → List ℕ → Type 0
 Posts p s x e v a y = OnDevice x (λ d. TellsCall (Post e v) s (post p s d e v) a y s) ((a ≡ unknownWords) × (y ≡ x))
+
+-- runtime_lines_check of a line table
+abbrev pub LinesChecks : List ℕ → List ℕ → Type 0
+LinesChecks table a = a ≡ checkedWords (linesCheck table)
+
+-- runtime_raise of a line at level v: runtime_post, of the event that the table has there with v as its data; where the table is refused or has
+-- no event there, the answer says so, and the device words stay whatever they are
+abbrev pub PostsAs : List ℕ → List ℕ → List ℕ → ℕ → List ℕ → List ℕ → Posting → Type 0
+PostsAs p s x v a y (Posting.Refused r) = (a ≡ refusedWords r) × (y ≡ x)
+PostsAs p s x v a y Posting.Nothing = (a ≡ nothingPostedWords) × (y ≡ x)
+PostsAs p s x v a y (Posting.Event e) = Posts p s x e v a y
+
+abbrev pub Raises : List ℕ → List ℕ → List ℕ → List ℕ → ℕ → ℕ → List ℕ → List ℕ → Type 0
+Raises p s x table line v a y = PostsAs p s x v a y (posting table line v)
 
 -- runtime_cut
 abbrev pub Cuts : List ℕ → List ℕ → Type 0

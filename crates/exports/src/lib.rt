@@ -2,9 +2,12 @@
 // No enum crosses: a device state is 18 words, an answer 5, a step's answer 6, the totals are 3 numbers (crates/words, specs/Exported.antt).
 ghost use mathlib.Core.Path.{_≡_};
 ghost use Rattle.exports.specs.Exported.{hostState, Checks, Formats, Boots, Posts, Cuts, Steps, Runs, totalsOf, totalsWords};
+ghost use Rattle.exports.specs.Exported.{LinesChecks, Raises};
 ghost use Rattle.words.specs.Words.{deviceWords, answerWords};
 use device::CallResult;
 use device::calls;
+use lines::Posting;
+use model::Checked;
 use model::Totals;
 use runtime;
 use store::format;
@@ -167,4 +170,34 @@ pub extern "C" fn runtime_run(
     words::write_device(device, after);
     write_totals(totals, counted);
     result.steps
+}
+
+// The check of a line table: 30, 31, 32.
+#[no_mangle]
+pub extern "C" fn runtime_lines_check(table: &[u16], answer: &mut [u16; 5])
+    ensures { λ _. ⌜ LinesChecks (now (table .entry)) (now (answer .exit)) ⌝ }
+{
+    words::write_checked(answer, lines::check(table));
+}
+
+// Raising a line: 30, 31, 32; then nothing is posted, or the row's event is, with the level as data.
+#[no_mangle]
+pub extern "C" fn runtime_raise(
+    program: &[u16],
+    store: &[u16],
+    device: &mut [u16; 18],
+    table: &[u16],
+    line: u16,
+    level: u16,
+    answer: &mut [u16; 5],
+)
+    ensures { λ _. ⌜ Raises (now (program .entry)) (now (store .entry)) (now (device .entry)) (now (table .entry)) line level
+        (now (answer .exit)) (now (device .exit)) ⌝ }
+{
+    let posting = lines::posting_of(table, line, level);
+    match posting {
+        Posting::Refused(why) => words::write_checked(answer, Checked::Refused(why)),
+        Posting::Nothing => words::write_nothing_posted(answer),
+        Posting::Event(event) => runtime_post(program, store, device, event, level, answer),
+    }
 }

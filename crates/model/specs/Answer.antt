@@ -1,4 +1,4 @@
--- Document 01, "Numbers returned": each refusal's number and place, "two words, 0 where nothing is said".
+-- Document 01, "Numbers returned": each refusal's number and place, "two words, 0 where nothing is said"; and document 02's new numbers.
 use Prim.Native.Nat.{ℕ}
 use Rattle.model.specs.Types.{Refusal}
 
@@ -43,3 +43,9 @@ refusal Refusal.LogFull = numbered 24 0 0
 refusal Refusal.State = numbered 25 0 0
 -- boot while on
 refusal Refusal.PowerOn = numbered 26 0 0
+-- N3: "30 a 65th or incomplete row, a line past 15 or low above high (place: first such row, from 0)"
+refusal (Refusal.LinesRow i) = numbered 30 i 0
+-- "31 an uncovered level .. (place: line, lowest level)"
+refusal (Refusal.LinesGap n x) = numbered 31 n x
+-- "32 a level covered twice (place: line, lowest level)"
+refusal (Refusal.LinesOverlap n x) = numbered 32 n x

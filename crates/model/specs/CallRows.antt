@@ -353,6 +353,9 @@ numbers =
     ∷ refusal Refusal.LogFull ⇒ refusalNumber 24 0 0
     ∷ refusal Refusal.State ⇒ refusalNumber 25 0 0
     ∷ refusal Refusal.PowerOn ⇒ refusalNumber 26 0 0
+    ∷ refusal (Refusal.LinesRow 46) ⇒ refusalNumber 30 46 0
+    ∷ refusal (Refusal.LinesGap 47 48) ⇒ refusalNumber 31 47 48
+    ∷ refusal (Refusal.LinesOverlap 49 50) ⇒ refusalNumber 32 49 50
     ∷ []
 
 -- ---- The serial run

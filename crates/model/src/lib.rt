@@ -61,6 +61,9 @@ pub enum Refusal {
     LogFull,
     State,
     PowerOn,
+    LinesRow(u16),
+    LinesGap(u16, u16),
+    LinesOverlap(u16, u16),
 }
 
 // What a check finds.

@@ -172,6 +172,10 @@ checkedWords (Checked.Refused e) = refusedWords e
 unfoldable pub unknownWords : List ℕ
 unknownWords = plainAnswer 8
 
+-- where raising a line posts nothing
+unfoldable pub nothingPostedWords : List ℕ
+nothingPostedWords = plainAnswer 9
+
 -- ---- A step's answer as 6 words: those of an answer, and the word that it stored, by its index
 
 -- none is 65535, which is no index: a store has at most 1234 words

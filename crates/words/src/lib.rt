@@ -3,7 +3,7 @@
 ghost use mathlib.Core.Path.{_≡_};
 ghost use Rattle.words.specs.Words.{flag, kind, number, placeWords, nextWord, handlerWords, deviceWords};
 ghost use Rattle.words.specs.Words.{bodyOf, placeOf, isPlace, handlerOf, isHandler, isState, stateOf};
-ghost use Rattle.words.specs.Words.{refusedWords, answerWords, endedWords, checkedWords, unknownWords};
+ghost use Rattle.words.specs.Words.{refusedWords, answerWords, endedWords, checkedWords, unknownWords, nothingPostedWords};
 ghost use Rattle.words.specs.Words.{storedNumber, stepWords, unknownStepWords};
 use model::Answer;
 use model::Body;
@@ -234,6 +234,9 @@ fn refused_words(why: Refusal) -> [u16; 5]
         Refusal::LogFull => [6, 0, 24, 0, 0],
         Refusal::State => [6, 0, 25, 0, 0],
         Refusal::PowerOn => [6, 0, 26, 0, 0],
+        Refusal::LinesRow(row) => [6, 0, 30, row, 0],
+        Refusal::LinesGap(line, level) => [6, 0, 31, line, level],
+        Refusal::LinesOverlap(line, level) => [6, 0, 32, line, level],
     }
 }
 
@@ -285,6 +288,13 @@ pub fn write_checked(words: &mut [u16; 5], found: Checked)
             *words = refused_words(why);
         }
     }
+}
+
+// A raise posts nothing.
+pub fn write_nothing_posted(words: &mut [u16; 5])
+    ensures { λ _. ⌜ now (words .exit) ≡ nothingPostedWords ⌝ }
+{
+    *words = [9, 0, 0, 0, 0];
 }
 
 // The device words stand for no device state.

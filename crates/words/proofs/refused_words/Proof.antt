@@ -53,6 +53,15 @@ enum-told-11 c = search needs
 enum-told-12 : tie.Need-enum-told-12
 enum-told-12 c = search needs
 
+enum-known-why-5 : tie.Need-enum-known-why-5
+enum-known-why-5 c = search needs
+
+enum-known-why-6 : tie.Need-enum-known-why-6
+enum-known-why-6 c = search needs
+
+enum-known-why-7 : tie.Need-enum-known-why-7
+enum-known-why-7 c = search needs
+
 returns : tie.Need-returns
 unfolding refusedWords refusal
 returns c = simp (c .enum-told .given .1)
@@ -117,6 +126,18 @@ returns-16 : tie.Need-returns-16
 unfolding refusedWords refusal
 returns-16 c = simp (c .enum-told12 .given .1)
 
+returns-17 : tie.Need-returns-17
+unfolding refusedWords refusal
+returns-17 c = simp (c .before .why5 .given .1)
+
+returns-18 : tie.Need-returns-18
+unfolding refusedWords refusal
+returns-18 c = simp (c .before .why6 .given .1)
+
+returns-19 : tie.Need-returns-19
+unfolding refusedWords refusal
+returns-19 c = simp (c .before .why7 .given .1)
+
 pub refused-words-spec : {M : Type 1} → statement M
 refused-words-spec =
     tie.close
@@ -137,6 +158,9 @@ refused-words-spec =
     enum-told-10
     enum-told-11
     enum-told-12
+    enum-known-why-5
+    enum-known-why-6
+    enum-known-why-7
     returns
     returns-2
     returns-3
@@ -152,4 +176,7 @@ refused-words-spec =
     returns-13
     returns-14
     returns-15
-    returns-16)
+    returns-16
+    returns-17
+    returns-18
+    returns-19)

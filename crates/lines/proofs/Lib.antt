@@ -1,0 +1,9 @@
+pub mod All
+pub mod LinesRows
+pub mod CountLaws
+pub mod LeastLaws
+pub mod RowLaws
+pub mod LineLaws
+pub mod OrderLaws
+pub mod GoodLaws
+pub mod RaiseLaws
