@@ -92,7 +92,8 @@ RefusedIsBlamed = (t : List ℕ) (r : Refusal) → check t ≡ Checked.Refused r
 
 -- ---- Raising line n of table t at level x, on program p, store s and device d
 
--- "Raising a line posts the row's event with the level as data": of the one row that covers it; the answer, the store and the device state are the post's
+-- "Raising a line posts the row's event with the level as data": of the one row that covers it; the answer and the device state are the post's, and
+-- the store by RaiseIsItsCalls
 abbrev pub RaisePosts : Type 0
 RaisePosts =
     (p s : List ℕ) (d : Device) (t : List ℕ) (n x i : ℕ) → check t ≡ Checked.Accepted → x < levels → Covers t n x i → event t i ≢ noEvent
