@@ -21,7 +21,7 @@
 
 /* The length of a store of M memory words, L log pairs and Q queue records. */
 #define RUNTIME_STORE_WORDS(memory_words, log_pairs, queue_records) \
-    (18 + (memory_words) + 2 * (log_pairs) + 2 * (queue_records))
+    (19 + (memory_words) + 2 * (log_pairs) + 2 * (queue_records))
 
 /* ---- The largest values. The least is 1; of events, transaction numbers, lines and a line table's rows 0. */
 
@@ -33,7 +33,7 @@
 #define RUNTIME_MAX_INSTRUCTIONS 256 /* of one body */
 #define RUNTIME_MAX_TRANSACTION 255
 #define RUNTIME_MAX_PROGRAM_WORDS 24726
-#define RUNTIME_MAX_STORE_WORDS 1234
+#define RUNTIME_MAX_STORE_WORDS 1235
 #define RUNTIME_MAX_LINE 15
 #define RUNTIME_MAX_LINES_ROWS 64
 
@@ -109,7 +109,7 @@
 #define RUNTIME_STORE_LOG_START 6
 #define RUNTIME_STORE_QUEUE_START 7
 
-#define RUNTIME_STORE_MARK_VALUE 0xC0A1
+#define RUNTIME_STORE_MARK_VALUE 0xC0A2
 
 #define RUNTIME_STORE_PHASE 8
 #define RUNTIME_STORE_CURRENT_TASK 9
@@ -120,12 +120,17 @@
 #define RUNTIME_STORE_PENDING_OPEN 13
 #define RUNTIME_STORE_HEAD 14
 #define RUNTIME_STORE_TAIL 15
+#define RUNTIME_STORE_BEGUN 16        /* the kind of body that is chosen and not yet committed */
 
-#define RUNTIME_STORE_MEMORY 16 /* the first memory word */
+#define RUNTIME_STORE_MEMORY 17 /* the first memory word */
 
 #define RUNTIME_PHASE_RUNNING 0
 #define RUNTIME_PHASE_TASK_COMMIT 1
 #define RUNTIME_PHASE_EVENT_COMMIT 2
+
+#define RUNTIME_BEGUN_NOTHING 0
+#define RUNTIME_BEGUN_TASK 1
+#define RUNTIME_BEGUN_EVENT 2
 
 /* ---- The device, lost at a cut. What a case doesn't have is 0, so the device that is off has zeros alone. */
 

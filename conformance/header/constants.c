@@ -277,6 +277,7 @@ static void contents(void)
     HOLDS(store[RUNTIME_STORE_LOG_START] == RUNTIME_STORE_MEMORY + 5);
     HOLDS(store[RUNTIME_STORE_QUEUE_START] == RUNTIME_STORE_MEMORY + 5 + 2 * 3);
     HOLDS(store[RUNTIME_STORE_CURRENT_TASK] == 2);
+    HOLDS(store[RUNTIME_STORE_BEGUN] == RUNTIME_BEGUN_NOTHING);
 }
 
 /* ---- One life: a task with a transaction, a second that ends it, an event. Each step's answer, word and device. */
@@ -328,15 +329,25 @@ static void life_program(void)
     body(4, 0, saves, 2);
 }
 
+/* Whether after a cut a boot leaves the device that is expected. */
+static int taken_up(void)
+{
+    cut();
+    boot();
+    return is(RUNTIME_CASE_DONE) && device_is_expected();
+}
+
 /* Chosen, the instructions, half a SAVE and the rest of it. */
 static void task_runs(void)
 {
     int number;
 
     expect_on();
-    HOLDS(steps_body(RUNTIME_CASE_CHOSEN, RUNTIME_KIND_TASK, 0, RUNTIME_NO_STORE));
+    HOLDS(steps_body(RUNTIME_CASE_CHOSEN, RUNTIME_KIND_TASK, 0, RUNTIME_STORE_BEGUN));
+    HOLDS(store[RUNTIME_STORE_BEGUN] == RUNTIME_BEGUN_TASK);
     expect_body(RUNTIME_PLACE_RUNNING, RUNTIME_KIND_TASK, 0, 0);
     HOLDS(device_is_expected());
+    HOLDS(taken_up());
     for (number = 0; number < RUNTIME_REGISTERS; number++) {
         device_expected[RUNTIME_DEVICE_REGISTER + number] = (uint16_t)(100 + number);
         expect_body(RUNTIME_PLACE_RUNNING, RUNTIME_KIND_TASK, 0, number + 1);
@@ -367,6 +378,9 @@ static void task_commits(void)
     HOLDS(steps_to_store(RUNTIME_STORE_MEMORY + 2, 1));
     HOLDS(steps_to_store(RUNTIME_STORE_CURRENT_TASK, 2));
     HOLDS(steps_to_store(RUNTIME_STORE_OPEN, 3));
+    HOLDS(store[RUNTIME_STORE_BEGUN] == RUNTIME_BEGUN_TASK);
+    HOLDS(steps_to_store(RUNTIME_STORE_BEGUN, 4));
+    HOLDS(store[RUNTIME_STORE_BEGUN] == RUNTIME_BEGUN_NOTHING);
     HOLDS(steps_to_store(RUNTIME_STORE_PHASE, 0));
     HOLDS(store[RUNTIME_STORE_PHASE] == RUNTIME_PHASE_RUNNING);
     HOLDS(store[RUNTIME_STORE_MEMORY + 2] == 103);
@@ -374,10 +388,10 @@ static void task_commits(void)
     HOLDS(store[RUNTIME_STORE_OPEN] == 7);
 }
 
-/* The next task, which leaves the transaction: chosen, four stores, three stores. */
+/* The next task, which leaves the transaction: chosen, four stores, four stores. */
 static void next_task(void)
 {
-    HOLDS(run(8) == 8);
+    HOLDS(run(9) == 9);
     HOLDS(is(RUNTIME_CASE_SPENT));
     HOLDS(store[RUNTIME_STORE_CURRENT_TASK] == 2);
     HOLDS(store[RUNTIME_STORE_OPEN] == 0);
@@ -405,10 +419,12 @@ static void handler_works(void)
 
 static void event_commits(void)
 {
-    HOLDS(steps_body(RUNTIME_CASE_CHOSEN, RUNTIME_KIND_EVENT, 1, RUNTIME_NO_STORE));
+    HOLDS(steps_body(RUNTIME_CASE_CHOSEN, RUNTIME_KIND_EVENT, 1, RUNTIME_STORE_BEGUN));
+    HOLDS(store[RUNTIME_STORE_BEGUN] == RUNTIME_BEGUN_EVENT);
     expect_body(RUNTIME_PLACE_RUNNING, RUNTIME_KIND_EVENT, 1, 0);
     device_expected[RUNTIME_DEVICE_REGISTER] = 77;
     HOLDS(device_is_expected());
+    HOLDS(taken_up());
     HOLDS(run(2) == 2); /* the SAVE */
     expect_body(RUNTIME_PLACE_RUNNING, RUNTIME_KIND_EVENT, 1, 1);
     device_expected[RUNTIME_DEVICE_LOG_COUNT] = 1;
@@ -420,7 +436,9 @@ static void event_commits(void)
     expect_on();
     HOLDS(steps_to_store(RUNTIME_STORE_MEMORY + 4, 1));
     HOLDS(steps_to_store(RUNTIME_STORE_HEAD, 2));
+    HOLDS(steps_to_store(RUNTIME_STORE_BEGUN, 3));
     HOLDS(steps_to_store(RUNTIME_STORE_PHASE, 0));
+    HOLDS(store[RUNTIME_STORE_BEGUN] == RUNTIME_BEGUN_NOTHING);
     HOLDS(store[RUNTIME_STORE_HEAD] == 1);
 }
 
@@ -438,7 +456,7 @@ static void life(void)
     event_commits();
     HOLDS(totals[RUNTIME_TOTALS_COMMITTED] == 3);
     HOLDS(totals[RUNTIME_TOTALS_ACCEPTED] == 1);
-    HOLDS(totals[RUNTIME_TOTALS_STORES] == 10 + 7 + 3 + 8);
+    HOLDS(totals[RUNTIME_TOTALS_STORES] == 12 + 9 + 3 + 10);
     device[RUNTIME_DEVICE_ON] = 2;
     HOLDS(steps(RUNTIME_CASE_NO_DEVICE, RUNTIME_NO_STORE));
 }
@@ -457,6 +475,12 @@ static void store_refusals(void)
     fresh(3, 2);
     store[RUNTIME_STORE_CURRENT_TASK] = 3;
     HOLDS((boot(), refuses(RUNTIME_REFUSAL_CONTROL, RUNTIME_STORE_CURRENT_TASK, 0)));
+    fresh(3, 2);
+    store[RUNTIME_STORE_BEGUN] = RUNTIME_BEGUN_EVENT; /* the queue is empty */
+    HOLDS((boot(), refuses(RUNTIME_REFUSAL_CONTROL, RUNTIME_STORE_BEGUN, 0)));
+    fresh(3, 2);
+    store[RUNTIME_STORE_BEGUN] = RUNTIME_BEGUN_EVENT + 1;
+    HOLDS((boot(), refuses(RUNTIME_REFUSAL_CONTROL, RUNTIME_STORE_BEGUN, 0)));
 }
 
 static void power_and_queue(void)
@@ -471,6 +495,9 @@ static void power_and_queue(void)
     HOLDS(run(3) == 3);
     HOLDS((post(1, 0), refuses(RUNTIME_REFUSAL_QUEUE_FULL, 0, 0)));
     device[RUNTIME_DEVICE_LOG_COUNT] = 4;
+    HOLDS(step_refuses(RUNTIME_REFUSAL_STATE));
+    device[RUNTIME_DEVICE_LOG_COUNT] = 0;
+    store[RUNTIME_STORE_BEGUN] = RUNTIME_BEGUN_TASK;
     HOLDS(step_refuses(RUNTIME_REFUSAL_STATE));
 }
 

@@ -1,8 +1,9 @@
 //! The counting program of the paper and the cases under it, for any implementation. A case that fails panics
 //! with what differs; `all` catches that and prints the case's name.
 
+use crate::begun::cases as begun;
 use crate::lines::cases as lines;
-use crate::reference::{DONE, GO, JLT, JUMP, LOADX, SAVE, SET, SHR};
+use crate::reference::{store_length, DONE, GO, JLT, JUMP, LOADX, MEMORY, SAVE, SET, SHR};
 use crate::runtime::*;
 use crate::scenario::{Call, Outcome};
 
@@ -32,16 +33,16 @@ fn with(changes: &[(usize, u16)]) -> Vec<u16> {
 
 /// A program, a formatted store, a device and totals.
 pub(crate) struct Bench<'a> {
-    runtime: &'a dyn Runtime,
+    pub runtime: &'a dyn Runtime,
     pub program: Vec<u16>,
     pub store: Vec<u16>,
     pub device: Device,
-    totals: Totals,
+    pub totals: Totals,
 }
 
 impl<'a> Bench<'a> {
     pub fn new(runtime: &'a dyn Runtime, program: &[u16], log_pairs: u16, queue_records: u16) -> Bench<'a> {
-        let length = 18 + program[3] as usize + 2 * log_pairs as usize + 2 * queue_records as usize;
+        let length = store_length(program[3] as usize, log_pairs as usize, queue_records as usize);
         let mut store = vec![0xAAAA; length];
         assert_eq!(runtime.format(program, log_pairs, queue_records, &mut store), Answer::Done);
         Bench { runtime, program: program.to_vec(), store, device: Device::OFF, totals: Totals::default() }
@@ -58,15 +59,15 @@ impl<'a> Bench<'a> {
         Bench::booted(runtime, &COUNTING, 1, 1)
     }
 
-    fn boot(&mut self) -> Answer {
+    pub fn boot(&mut self) -> Answer {
         self.runtime.boot(&self.program, &mut self.store, &mut self.device)
     }
 
-    fn step(&mut self) -> Answer {
+    pub fn step(&mut self) -> Answer {
         self.whole_step().answer
     }
 
-    fn whole_step(&mut self) -> StepAnswer {
+    pub fn whole_step(&mut self) -> StepAnswer {
         self.runtime.step(&self.program, &mut self.store, &mut self.device, &mut self.totals)
     }
 
@@ -87,13 +88,13 @@ impl<'a> Bench<'a> {
         self.runtime.raise(&self.program, &mut self.store, &mut self.device, table, line, level)
     }
 
-    fn cut(&mut self) {
+    pub fn cut(&mut self) {
         assert_eq!(self.runtime.cut(&mut self.device), Answer::Done);
         assert_eq!(self.device, Device::OFF);
     }
 
     /// A cut, a boot, then steps while the phase isn't 0; the number of steps.
-    fn recover(&mut self) -> usize {
+    pub fn recover(&mut self) -> usize {
         self.cut();
         assert_eq!(self.boot(), Answer::Done);
         let mut steps = 0;
@@ -106,7 +107,7 @@ impl<'a> Bench<'a> {
     }
 
     pub fn memory(&self) -> &[u16] {
-        &self.store[16..16 + self.program[3] as usize]
+        &self.store[MEMORY..MEMORY + self.program[3] as usize]
     }
 }
 
@@ -145,31 +146,31 @@ fn nine_steps_and_ten(runtime: &dyn Runtime) {
 
     let mut bench = Bench::counting(runtime);
     assert_eq!(bench.steps(10), Answer::Committed(Body::Task(0)));
-    assert_eq!(bench.recover(), 4);
+    assert_eq!(bench.recover(), 5);
     assert_eq!(bench.memory(), [1, 0]);
 
     let mut bench = Bench::counting(runtime);
-    bench.steps(13);
+    bench.steps(14);
     assert_eq!(bench.store[8], 1);
     assert_eq!(bench.step(), Answer::Stored);
     assert_eq!(bench.store[8], 0);
     assert_eq!(bench.memory(), [1, 0]);
-    assert_eq!(bench.totals, Totals { committed: 1, accepted: 0, stores: 10 });
+    assert_eq!(bench.totals, Totals { committed: 1, accepted: 0, stores: 12 });
 }
 
-fn each_of_fourteen_steps(runtime: &dyn Runtime) {
+fn each_of_fifteen_steps(runtime: &dyn Runtime) {
     let mut bench = Bench::counting(runtime);
     let (answers, stored): (Vec<Answer>, Vec<Option<u16>>) =
-        (0..14).map(|_| bench.whole_step()).map(|step| (step.answer, step.stored)).unzip();
+        (0..15).map(|_| bench.whole_step()).map(|step| (step.answer, step.stored)).unzip();
     let mut expected = vec![Answer::Chosen(Body::Task(0))];
     expected.extend([Answer::Worked; 3]);
     expected.extend([Answer::Stored; 5]);
     expected.push(Answer::Committed(Body::Task(0)));
-    expected.extend([Answer::Stored; 4]);
+    expected.extend([Answer::Stored; 5]);
     assert_eq!(answers, expected);
-    // The log's address and value; 11, 12, 13 and 8; memory 0; 9, 10 and 8. Words 12, 13, 9 and 10 stay 0.
-    let words = [18, 19, 11, 12, 13, 8, 16, 9, 10, 8].map(Some);
-    assert_eq!(stored[..4], [None; 4]);
+    // The log's address and value; 11, 12, 13 and 8; memory 0; 9, 10, 16 and 8. Words 12, 13, 9 and 10 stay 0.
+    let words = [19, 20, 11, 12, 13, 8, 17, 9, 10, 16, 8].map(Some);
+    assert_eq!(stored[..4], [Some(16), None, None, None]);
     assert_eq!(stored[4..], words);
 }
 
@@ -214,9 +215,9 @@ fn cut_after_the_head_store(runtime: &dyn Runtime) {
     bench.steps(3);
     // Chosen, two halves of SAVE, 11, 12, 8; one copy; head.
     bench.steps(8);
-    assert_eq!((bench.store[8], bench.store[14]), (2, 1));
-    assert_eq!(bench.recover(), 3);
-    assert_eq!((bench.store[8], bench.store[14], bench.store[15]), (0, 1, 1));
+    assert_eq!((bench.store[8], bench.store[14], bench.store[16]), (2, 1, 2));
+    assert_eq!(bench.recover(), 4);
+    assert_eq!((bench.store[8], bench.store[14], bench.store[15], bench.store[16]), (0, 1, 1, 0));
     assert_eq!(bench.memory(), [0, 77]);
 }
 
@@ -254,6 +255,10 @@ fn index_out_of_range(runtime: &dyn Runtime) {
     bench.steps(2);
     assert_eq!(bench.step(), refused(23));
     assert_eq!(bench.step(), refused(23));
+    // A cut doesn't help: the task is taken up, and comes there again.
+    bench.recover();
+    assert_eq!(bench.steps(1), Answer::Worked);
+    assert_eq!(bench.step(), refused(23));
 }
 
 fn log_of_one_pair(runtime: &dyn Runtime) {
@@ -267,18 +272,21 @@ fn log_of_one_pair(runtime: &dyn Runtime) {
     bench.steps(3);
     assert_eq!(bench.step(), refused(24));
     assert_eq!(bench.step(), refused(24));
+    bench.recover();
+    bench.steps(2);
+    assert_eq!(bench.step(), refused(24));
 }
 
-fn store_of_24_words(runtime: &dyn Runtime) {
+fn store_of_25_words(runtime: &dyn Runtime) {
     // Accepted: formatting, boot, a post and steps.
     let mut bench = Bench::new(runtime, &COUNTING, 1, 1);
-    assert_eq!(bench.store.len(), 24);
+    assert_eq!(bench.store.len(), 25);
     assert_eq!(bench.boot(), Answer::Done);
     assert_eq!(bench.post(0, 7), Answer::Done);
     assert_eq!(bench.steps(3), Answer::Accepted);
-    // Of 23, and of 25: 6 from each call that has a store, and nothing changes.
+    // Of 24, and of 26: 6 from each call that has a store, and nothing changes.
     let off = Refusal { number: 6, place: (0, 0) };
-    for length in [23, 25] {
+    for length in [24, 26] {
         let mut short = bench.store.clone();
         short.resize(length, 0);
         let before = short.clone();
@@ -299,11 +307,11 @@ fn store_of_24_words(runtime: &dyn Runtime) {
 
 fn formatting(runtime: &dyn Runtime) {
     let bench = Bench::new(runtime, &COUNTING, 1, 1);
-    let mut expected = vec![0xC0A1, 2, 1, 1, 8, 16, 18, 20];
-    expected.resize(24, 0);
+    let mut expected = vec![0xC0A2, 2, 1, 1, 8, 17, 19, 21];
+    expected.resize(25, 0);
     assert_eq!(bench.store, expected);
     for (log_pairs, queue_records) in [(0, 1), (65, 1), (1, 0), (1, 33)] {
-        let mut store = vec![0; 24];
+        let mut store = vec![0; 25];
         assert_eq!(runtime.format(&COUNTING, log_pairs, queue_records, &mut store), refused(9));
     }
 }
@@ -319,7 +327,7 @@ fn budgets(runtime: &dyn Runtime) {
     let off = Refusal { number: 22, place: (0, 0) };
     assert_eq!(run(&mut bench, u32::MAX), RunAnswer { steps: 0, end: End::Refused(off) });
     assert_eq!(bench.boot(), Answer::Done);
-    assert_eq!(run(&mut bench, 28), RunAnswer { steps: 28, end: End::Spent });
+    assert_eq!(run(&mut bench, 30), RunAnswer { steps: 30, end: End::Spent });
     assert_eq!(bench.memory(), [2, 0]);
 }
 
@@ -332,7 +340,7 @@ fn the_largest_budget(runtime: &dyn Runtime) {
         // Chosen and the two halves of the first SAVE; the second is refused.
         assert_eq!(runtime.run(program, store, device, totals, budget), RunAnswer { steps: 3, end: full });
         assert_eq!(runtime.run(program, store, device, totals, 1), RunAnswer { steps: 0, end: full });
-        assert_eq!(*totals, Totals { committed: 0, accepted: 0, stores: 2 });
+        assert_eq!(*totals, Totals { committed: 0, accepted: 0, stores: 3 });
     }
 }
 
@@ -342,8 +350,8 @@ fn totals_stay_at_the_largest_value(runtime: &dyn Runtime) {
     assert_eq!(bench.post(0, 7), Answer::Done);
     // Accepted, the event committed, the task committed twice.
     let Bench { program, store, device, totals, .. } = &mut bench;
-    let run = runtime.run(program, store, device, totals, 3 + 9 + 28);
-    assert_eq!(run, RunAnswer { steps: 40, end: End::Spent });
+    let run = runtime.run(program, store, device, totals, 3 + 10 + 30);
+    assert_eq!(run, RunAnswer { steps: 43, end: End::Spent });
     assert_eq!(*totals, Totals { committed: u32::MAX, accepted: u32::MAX, stores: u32::MAX });
     assert_eq!(bench.memory(), [2, 7]);
 }
@@ -386,8 +394,8 @@ fn words_that_are_no_device(runtime: &dyn Runtime) {
     }
 }
 
-/// T 2, E 2, M 4; task 0 has transaction number 5. With L and Q 3 the log addresses are words 20, 22 and 24, and the
-/// events of the ring's slots words 26, 28, 30 and 32.
+/// T 2, E 2, M 4; task 0 has transaction number 5. With L and Q 3 the log addresses are words 21, 23 and 25, and the
+/// events of the ring's slots words 27, 29, 31 and 33.
 const TWO_TASKS: [u16; 30] = [
     0xC0B1, 2, 2, 4, 0, 30, // contents
     18, 2, 5, 22, 2, 0, // the tasks' rows
@@ -396,18 +404,18 @@ const TWO_TASKS: [u16; 30] = [
     0x1000, 0, 0x1000, 0, // the events: DONE
 ];
 
-/// Right words 8 to 15 for each phase. Records wait in slots 3 and 0; in phase 2, where 12 is the slot after 14, in
+/// Right words 8 to 16 for each phase. Records wait in slots 3 and 0; in phase 2, where 12 is the slot after 14, in
 /// slot 0.
-const RIGHT: [[u16; 8]; 3] = [
-    [0, 0, 0, 0, 0, 0, 3, 1],
-    [1, 0, 0, 2, 0, 5, 3, 1],
-    [2, 0, 0, 2, 0, 0, 3, 1],
+const RIGHT: [[u16; 9]; 3] = [
+    [0, 0, 0, 0, 0, 0, 3, 1, 0],
+    [1, 0, 0, 2, 0, 5, 3, 1, 1],
+    [2, 0, 0, 2, 0, 0, 3, 1, 2],
 ];
 
 /// A store with right control words, but for these words.
-fn damaged<'a>(runtime: &'a dyn Runtime, phase: usize, words: &[(usize, u16)]) -> Bench<'a> {
+pub(crate) fn damaged<'a>(runtime: &'a dyn Runtime, phase: usize, words: &[(usize, u16)]) -> Bench<'a> {
     let mut bench = Bench::new(runtime, &TWO_TASKS, 3, 3);
-    bench.store[8..16].copy_from_slice(&RIGHT[phase]);
+    bench.store[8..MEMORY].copy_from_slice(&RIGHT[phase]);
     assert_eq!(bench.boot(), Answer::Done);
     for (index, word) in words {
         bench.store[*index] = *word;
@@ -416,10 +424,10 @@ fn damaged<'a>(runtime: &'a dyn Runtime, phase: usize, words: &[(usize, u16)]) -
 }
 
 /// In a phase, with these words: the place that a boot names, and the one that a step, a post and a run name.
-type Places<'a> = (usize, &'a [(usize, u16)], u16, u16);
+pub(crate) type Places<'a> = (usize, &'a [(usize, u16)], u16, u16);
 
 /// Off or on: 7 comes before 22, 25 and 26.
-fn places(runtime: &dyn Runtime, table: &[Places]) {
+pub(crate) fn places(runtime: &dyn Runtime, table: &[Places]) {
     for (phase, words, at_boot, at_step) in table {
         for device in [Device::OFF, Device::ON] {
             let mut bench = damaged(runtime, *phase, words);
@@ -452,7 +460,7 @@ fn the_lowest_of_several_words(runtime: &dyn Runtime) {
         // "In phase 2, 10 is 0" needs none.
         (2, &[(10, 5), (11, 4), (15, 4)], 10, 10),
         // "In phases 1 and 2, 11 at most L", and then no log address is looked at.
-        (1, &[(11, 4), (12, 2), (20, 4)], 11, 11),
+        (1, &[(11, 4), (12, 2), (21, 4)], 11, 11),
         (2, &[(11, 65535), (14, 4), (15, 4)], 11, 11),
         // "In phase 1, 12 below T and 13 is 0 or task 12's number; 10 is free."
         (1, &[(12, 2), (13, 6)], 12, 12),
@@ -462,8 +470,8 @@ fn the_lowest_of_several_words(runtime: &dyn Runtime) {
         // In phase 0, 11, 12 and 13 are free.
         (0, &[(11, 4), (12, 4), (13, 6), (14, 4), (15, 4)], 14, 14),
         // A control word, a log address and a record.
-        (1, &[(15, 4), (20, 4), (26, 2)], 15, 15),
-        (2, &[(9, 2), (22, 4), (26, 2)], 9, 9),
+        (1, &[(15, 4), (21, 4), (27, 2)], 15, 15),
+        (2, &[(9, 2), (23, 4), (27, 2)], 9, 9),
     ];
     places(runtime, &table);
 }
@@ -478,9 +486,9 @@ fn word_12_in_phase_2(runtime: &dyn Runtime) {
         // "The rest needs 14 and 15": 2 is neither 3 nor the slot after it.
         (2, &[(12, 2), (14, 4)], 14, 14),
         (2, &[(12, 2), (15, 4)], 15, 15),
-        (2, &[(12, 2), (26, 2)], 12, 12),
+        (2, &[(12, 2), (27, 2)], 12, 12),
         // "The slot after it with the queue not empty": 14 and 15 are 3.
-        (2, &[(15, 3), (20, 4)], 12, 12),
+        (2, &[(15, 3), (21, 4)], 12, 12),
         (2, &[(15, 3), (11, 4)], 11, 11),
     ];
     places(runtime, &table);
@@ -495,22 +503,22 @@ fn the_word_that_a_step_uses(runtime: &dyn Runtime) {
     let (task, event) = (running(Body::Task(0)), running(Body::Event(0)));
     let table: [Used; 13] = [
         // The record at head is in slot 3, the lowest in slot 0. Slots 1 and 2 don't wait.
-        (0, &[(32, 2), (26, 2)], 26, no_body(0), refused_at(7, 32, 0)),
-        (0, &[(32, 2), (26, 2)], 26, event, refused_at(7, 32, 0)),
-        (0, &[(28, 2), (30, 2), (32, 2)], 32, no_body(0), refused_at(7, 32, 0)),
-        (0, &[(26, 2)], 26, no_body(0), Answer::Chosen(Body::Event(0))),
+        (0, &[(33, 2), (27, 2)], 27, no_body(0), refused_at(7, 33, 0)),
+        (0, &[(16, 2), (33, 2), (27, 2)], 27, event, refused_at(7, 33, 0)),
+        (0, &[(29, 2), (31, 2), (33, 2)], 33, no_body(0), refused_at(7, 33, 0)),
+        (0, &[(27, 2)], 27, no_body(0), Answer::Chosen(Body::Event(0))),
         // Word 10 by the row of task 9: choosing reads none, the task's first instruction does.
-        (0, &[(10, 6), (26, 2), (32, 2)], 10, no_body(0), Answer::Chosen(Body::Task(0))),
-        (0, &[(10, 6), (26, 2), (32, 2)], 10, task, refused_at(7, 10, 0)),
-        (0, &[(26, 2), (32, 2)], 26, task, Answer::Stored),
+        (0, &[(10, 6), (27, 2), (33, 2)], 10, no_body(0), Answer::Chosen(Body::Task(0))),
+        (0, &[(10, 6), (16, 1), (27, 2), (33, 2)], 10, task, refused_at(7, 10, 0)),
+        (0, &[(16, 1), (27, 2), (33, 2)], 27, task, Answer::Stored),
         // "The first n log addresses below M", of which a step copies one; the third isn't among them.
-        (1, &[(13, 6), (20, 4), (22, 4), (26, 2)], 13, no_body(0), refused_at(7, 20, 0)),
-        (1, &[(13, 6), (20, 4), (22, 4), (26, 2)], 13, no_body(1), refused_at(7, 22, 0)),
-        (1, &[(13, 6), (20, 4), (22, 4), (26, 2)], 13, no_body(2), Answer::Stored),
-        (1, &[(20, 4), (22, 65535), (24, 4)], 20, no_body(1), refused_at(7, 22, 0)),
-        (2, &[(22, 4), (26, 2)], 22, no_body(1), refused_at(7, 22, 0)),
+        (1, &[(13, 6), (21, 4), (23, 4), (27, 2)], 13, no_body(0), refused_at(7, 21, 0)),
+        (1, &[(13, 6), (21, 4), (23, 4), (27, 2)], 13, no_body(1), refused_at(7, 23, 0)),
+        (1, &[(13, 6), (21, 4), (23, 4), (27, 2)], 13, no_body(2), Answer::Stored),
+        (1, &[(21, 4), (23, 65535), (25, 4)], 21, no_body(1), refused_at(7, 23, 0)),
+        (2, &[(23, 4), (27, 2)], 23, no_body(1), refused_at(7, 23, 0)),
         // In phase 2 the records start at word 12.
-        (2, &[(24, 4), (26, 65535), (32, 2)], 26, no_body(1), Answer::Stored),
+        (2, &[(25, 4), (27, 65535), (33, 2)], 27, no_body(1), Answer::Stored),
     ];
     for (phase, words, at_boot, place, answer) in table {
         let mut bench = damaged(runtime, phase, words);
@@ -523,8 +531,8 @@ fn the_word_that_a_step_uses(runtime: &dyn Runtime) {
         assert_eq!(bench.step(), answer, "step, phase {phase}, {words:?}, {place:?}");
     }
     // A run meets the second pair after a step; word 13 isn't used.
-    let Bench { program, mut store, mut device, mut totals, .. } = damaged(runtime, 1, &[(13, 6), (22, 4), (26, 2)]);
-    let end = End::Refused(Refusal { number: 7, place: (22, 0) });
+    let Bench { program, mut store, mut device, mut totals, .. } = damaged(runtime, 1, &[(13, 6), (23, 4), (27, 2)]);
+    let end = End::Refused(Refusal { number: 7, place: (23, 0) });
     assert_eq!(runtime.run(&program, &mut store, &mut device, &mut totals, 9), RunAnswer { steps: 1, end });
 }
 
@@ -534,12 +542,12 @@ fn an_event_ends_with_done_only(runtime: &dyn Runtime) {
 }
 
 /// The cases by name.
-pub const CASES: [(&str, fn(&dyn Runtime)); 31] = [
+pub const CASES: [(&str, fn(&dyn Runtime)); 37] = [
     ("accepted and lengths", accepted_and_lengths),
     ("tasks and last instruction", tasks_and_last_instruction),
     ("load address", load_address),
     ("nine steps and ten", nine_steps_and_ten),
-    ("each of fourteen steps", each_of_fourteen_steps),
+    ("each of fifteen steps", each_of_fifteen_steps),
     ("post and three steps", post_and_three_steps),
     ("post while a handler is at work", post_while_a_handler_is_at_work),
     ("cut after the head store", cut_after_the_head_store),
@@ -547,7 +555,7 @@ pub const CASES: [(&str, fn(&dyn Runtime)); 31] = [
     ("less than", less_than),
     ("index out of range", index_out_of_range),
     ("log of one pair", log_of_one_pair),
-    ("store of 24 words", store_of_24_words),
+    ("store of 25 words", store_of_25_words),
     ("formatting", formatting),
     ("budgets", budgets),
     ("the largest budget", the_largest_budget),
@@ -557,6 +565,12 @@ pub const CASES: [(&str, fn(&dyn Runtime)); 31] = [
     ("word 12 in phase 2", word_12_in_phase_2),
     ("the word that a step uses", the_word_that_a_step_uses),
     ("an event ends with done only", an_event_ends_with_done_only),
+    ("a begun task is taken up", begun::a_begun_task_is_taken_up),
+    ("a begun event is taken up", begun::a_begun_event_is_taken_up),
+    ("nothing is taken up in a commit", begun::nothing_is_taken_up_in_a_commit),
+    ("the rules of word 16", begun::the_rules_of_word_16),
+    ("the device and word 16", begun::the_device_and_word_16),
+    ("a last store that leaves word 16", begun::a_last_store_that_leaves_word_16),
     ("right line tables", lines::right_tables),
     ("wrong rows of a line table", lines::wrong_rows),
     ("the 65th row of a line table", lines::the_65th_row),

@@ -2,6 +2,7 @@
 //! the store, the device state and the totals must be equal, and after a step the word that it stored. A refused
 //! call, one without a device and a raise that posts nothing must have changed nothing. Also the counts of what came up.
 
+use crate::begun::situations::{Begun, Found, Past};
 use crate::lines::situations::Lines;
 use crate::reference::PHASE;
 use crate::runtime::*;
@@ -48,6 +49,8 @@ pub struct Counts {
     pub several: Several,
     /// Line tables and raises.
     pub lines: Lines,
+    /// Word 16.
+    pub begun: Begun,
 }
 
 /// Above every number of the papers.
@@ -120,6 +123,7 @@ impl Counts {
         }
         self.several.add_all(&other.several);
         self.lines.add_all(&other.lines);
+        self.begun.add_all(&other.begun);
     }
 
     /// The counts that are one number each, with their names.
@@ -278,6 +282,12 @@ struct Pair<'a> {
 }
 
 impl Pair<'_> {
+    /// Carry out a change on both sides.
+    fn change(&mut self, call: &Call, [first, second]: &mut [Machine; 2]) {
+        self.first.1.change(call, first);
+        self.second.1.change(call, second);
+    }
+
     /// Perform one call on both sides, tell what they gave, and compare.
     fn call(&mut self, index: Option<usize>, call: &Call, tell: Tell) -> Result<Outcome, Difference> {
         let ((first, left), (second, right)) = ((self.first.0, &mut self.first.1), (self.second.0, &mut self.second.1));
@@ -333,11 +343,12 @@ pub fn drive_telling(
     }
     let mut kept = [pair.first.1.clone(), pair.second.1.clone()];
     let mut recovering = false;
+    let mut past = Past::default();
     for (index, call) in scenario.calls.iter().enumerate() {
         if call.kind().is_none() {
-            pair.first.1.change(call, &mut kept[0]);
-            pair.second.1.change(call, &mut kept[1]);
+            pair.change(call, &mut kept);
             tell(Some(index), call, None);
+            past = Past::default();
             continue;
         }
         let Machine { device, totals, .. } = pair.first.1;
@@ -350,10 +361,10 @@ pub fn drive_telling(
             counts.several.add(call, left, word);
         }
         counts.lines.add(call, left, &outcome);
+        counts.begun.add(&mut past, call, Found { store: &pair.before.store, device }, left, &outcome);
         recovering = match (call, &outcome) {
             (Call::Boot, Outcome::Answer(Answer::Done)) => phase != 0,
-            (Call::Cut, _) => false,
-            _ => recovering && left.store.get(PHASE) != Some(&0),
+            _ => *call != Call::Cut && recovering && left.store.get(PHASE) != Some(&0),
         };
     }
     let (program, other) = (&pair.first.1.program, &pair.second.1.program);

@@ -74,7 +74,7 @@ pub struct Sizes {
 impl Sizes {
     /// Where the store's log starts, and its queue.
     fn log(&self) -> usize {
-        16 + self.memory
+        MEMORY + self.memory
     }
 
     fn queue(&self) -> usize {
@@ -528,13 +528,22 @@ impl Schedule {
         Call::LinesCheck { table }
     }
 
+    /// A word of the store; 0 where it has none of this index.
+    fn word(&self, index: usize) -> u16 {
+        self.machine.store.get(index).copied().unwrap_or(0)
+    }
+
     /// Whether a cut or damage is telling here: in a commit, half a SAVE, an ending or a handler at work.
     fn telling(&self) -> bool {
         let device = &self.machine.device;
-        let phase = self.machine.store.get(PHASE).copied().unwrap_or(0);
         let half = matches!(device.place, Place::HalfSave { .. });
         let ending = matches!(device.place, Place::Running { ending, .. } if ending > 0);
-        phase != 0 || half || ending || device.handler.is_some()
+        self.word(PHASE) != 0 || half || ending || device.handler.is_some()
+    }
+
+    /// Whether a cut is telling here: there, or at a body's first instruction.
+    fn cut_telling(&self) -> bool {
+        self.telling() || matches!(self.machine.device.place, Place::Running { instruction: 0, .. })
     }
 
     /// The next call of an undamaged list.
@@ -556,7 +565,7 @@ impl Schedule {
                 _ => Call::Boot,
             };
         }
-        if self.telling() && self.random.percent(self.mood.aimed_cut) {
+        if self.cut_telling() && self.random.percent(self.mood.aimed_cut) {
             return Call::Cut;
         }
         if self.stuck && self.random.percent(15) {
@@ -731,22 +740,45 @@ impl Schedule {
     fn damage_store(&mut self) {
         let Sizes { memory, log_pairs, queue_records, .. } = self.sizes;
         let (log, queue) = (self.sizes.log(), self.sizes.queue());
-        let word = |index: usize| self.machine.store.get(index).copied().unwrap_or(0) as usize;
-        let head = word(HEAD);
-        let count = word(COUNT).min(log_pairs).max(1);
+        let head = self.word(HEAD) as usize;
+        let count = (self.word(COUNT) as usize).min(log_pairs).max(1);
         let index = match self.random.below(100) {
-            0..=9 => self.random.below(8),
-            10..=59 => self.random.from(8, 15),
-            60..=64 => 16 + self.random.below(memory),
+            0..=9 => self.random.below(CONTROL),
+            10..=53 => self.random.from(CONTROL, MEMORY - 1),
+            54..=59 => BEGUN,
+            60..=64 => MEMORY + self.random.below(memory),
             65..=71 => log + self.random.below(2 * log_pairs),
             // An address that a commit copies.
             72..=79 => log + 2 * self.random.below(count),
             80..=89 => queue + self.random.below(2 * queue_records + 2),
             _ => queue + 2 * head,
         };
-        let old = self.machine.store.get(index).copied().unwrap_or(0);
-        let word = self.telling_word(old);
+        let word = match index {
+            BEGUN if self.random.percent(70) => self.random.below(4) as u16,
+            _ => self.telling_word(self.word(index)),
+        };
         self.make(Call::SetStore { index, word });
+    }
+
+    fn damage_store_length(&mut self) {
+        let length = self.machine.store.len();
+        let new = match self.random.below(4) {
+            0 => self.random.below(20),
+            1 => length + self.random.from(1, 2),
+            2 => length.saturating_sub(self.random.from(1, 2)),
+            _ => self.random.below(length + 1),
+        };
+        self.make(Call::StoreLength(new));
+    }
+
+    /// Word 16 in phase 0 as the device has it, mostly, so that 25 asks for the rest; in another phase anything.
+    fn begin_what_runs(&mut self) {
+        let word = match self.word(PHASE) {
+            0 if self.random.percent(88) => running_word(&self.machine.device),
+            0 => return,
+            _ => self.random.below(3) as u16,
+        };
+        self.make(Call::SetStore { index: BEGUN, word });
     }
 
     /// Control words that may well be right, though no list of calls leads there.
@@ -772,20 +804,22 @@ impl Schedule {
             self.machine.program.get(8 + 3 * pending).copied().unwrap_or(0)
         };
         let count = self.random.below(log_pairs + 1);
-        let words = [phase, task, open as usize, count, pending, pending_open as usize, head, tail];
+        // A 2 where it may be.
+        let begun = self.random.below(if phase != 0 || (head != tail && open == 0) { 3 } else { 2 });
+        let words = [phase, task, open as usize, count, pending, pending_open as usize, head, tail, begun];
         for (offset, word) in words.iter().enumerate() {
-            self.make(Call::SetStore { index: 8 + offset, word: *word as u16 });
+            self.make(Call::SetStore { index: CONTROL + offset, word: *word as u16 });
         }
         if self.random.percent(60) {
             for pair in 0..log_pairs.min(8) {
                 let word = self.random.below(memory) as u16;
-                self.make(Call::SetStore { index: 16 + memory + 2 * pair, word });
+                self.make(Call::SetStore { index: self.sizes.log() + 2 * pair, word });
             }
         }
         if events > 0 && self.random.percent(60) {
             for slot in 0..(queue_records + 1).min(8) {
                 let word = self.random.below(events) as u16;
-                self.make(Call::SetStore { index: 16 + memory + 2 * log_pairs + 2 * slot, word });
+                self.make(Call::SetStore { index: self.sizes.queue() + 2 * slot, word });
             }
         }
     }
@@ -795,18 +829,18 @@ impl Schedule {
     fn several_broken(&mut self) {
         let Sizes { events, memory, .. } = self.sizes;
         self.strange_control();
-        let word = |machine: &Machine, index: usize| machine.store.get(index).copied().unwrap_or(0);
-        let head = word(&self.machine, HEAD);
+        let head = self.word(HEAD);
         // Without events no record is right. In phase 2 with the queue empty, 12 equals head.
         if events == 0 {
             self.make(Call::SetStore { index: TAIL, word: head });
         }
-        if word(&self.machine, PHASE) == 2 && word(&self.machine, TAIL) == head {
+        if self.word(PHASE) == 2 && self.word(TAIL) == head {
             self.make(Call::SetStore { index: PENDING, word: head });
         }
         for index in broken(&self.machine.program, &self.machine.store).all {
             let bound = match index as usize {
-                0..=15 => continue,
+                BEGUN => 1,
+                index if index < MEMORY => continue,
                 index if index < self.sizes.queue() => memory,
                 _ => events,
             };
@@ -815,8 +849,8 @@ impl Schedule {
         }
         let (control, late) = self.words_with_rules();
         let words = match self.random.below(10) {
-            0..=5 => control,
-            6 => [control, late].concat(),
+            0..=4 => control,
+            5 | 6 => self.shuffled([control, late].concat()),
             _ if late.is_empty() => control,
             _ => late,
         };
@@ -835,11 +869,11 @@ impl Schedule {
     fn words_with_rules(&mut self) -> (Vec<usize>, Vec<usize>) {
         let Sizes { log_pairs, queue_records, .. } = self.sizes;
         let (log, queue) = (self.sizes.log(), self.sizes.queue());
-        let word = |index: usize| self.machine.store.get(index).copied().unwrap_or(0) as usize;
+        let word = |index: usize| self.word(index) as usize;
         let (mut control, mut late) = match word(PHASE) {
-            0 => (vec![TASK, OPEN, HEAD, TAIL], vec![OPEN]),
-            1 => (vec![TASK, COUNT, PENDING, PENDING_OPEN, HEAD, TAIL], vec![PENDING_OPEN]),
-            _ => (vec![TASK, OPEN, COUNT, PENDING, HEAD, TAIL], vec![]),
+            0 => (vec![TASK, OPEN, HEAD, TAIL, BEGUN], vec![OPEN]),
+            1 => (vec![TASK, COUNT, PENDING, PENDING_OPEN, HEAD, TAIL, BEGUN], vec![PENDING_OPEN]),
+            _ => (vec![TASK, OPEN, COUNT, PENDING, HEAD, TAIL, BEGUN], vec![]),
         };
         if word(PHASE) != 0 {
             late.extend((0..word(COUNT).min(log_pairs)).map(|pair| log + 2 * pair));
@@ -850,21 +884,25 @@ impl Schedule {
         if self.random.percent(15) {
             control.push(PHASE);
         }
-        for list in [&mut control, &mut late] {
-            for at in 1..list.len() {
-                list.swap(at, self.random.below(at + 1));
-            }
+        (self.shuffled(control), self.shuffled(late))
+    }
+
+    fn shuffled(&mut self, mut words: Vec<usize>) -> Vec<usize> {
+        for at in 1..words.len() {
+            words.swap(at, self.random.below(at + 1));
         }
-        (control, late)
+        words
     }
 
     /// A word that breaks a rule in its place, mostly.
     fn breaking_word(&mut self, index: usize) -> u16 {
         let Sizes { tasks, events, memory, log_pairs, queue_records, .. } = self.sizes;
-        let word = |index: usize| self.machine.store.get(index).copied().unwrap_or(0);
         let bound = match index {
             PHASE => 3,
             TASK => tasks,
+            // A 2, too, which other words may not allow in phase 0.
+            BEGUN if self.word(PHASE) == 0 && self.random.percent(50) => return EVENT_BEGUN,
+            BEGUN => 3,
             OPEN | PENDING_OPEN => {
                 let task = self.random.below(tasks);
                 let number = self.machine.program.get(8 + 3 * task).copied().unwrap_or(0);
@@ -872,10 +910,10 @@ impl Schedule {
             }
             COUNT => log_pairs + 1,
             // A slot of the ring, too.
-            PENDING if word(PHASE) == 2 && self.random.percent(40) => {
+            PENDING if self.word(PHASE) == 2 && self.random.percent(40) => {
                 return self.random.below(queue_records + 1) as u16
             }
-            PENDING if word(PHASE) == 1 => tasks,
+            PENDING if self.word(PHASE) == 1 => tasks,
             PENDING | HEAD | TAIL => queue_records + 1,
             _ if index < self.sizes.queue() => memory,
             _ => events,
@@ -883,23 +921,32 @@ impl Schedule {
         self.random.pick(&[bound as u16, bound as u16, bound as u16 + 1, 0x8000, 0xFFFF])
     }
 
+    /// A place that fits the phase, and word 16 mostly.
+    fn fitting_place(&mut self) -> Place {
+        let record = self.sizes.queue() + 2 * self.word(HEAD) as usize;
+        let event = self.word(record).min(self.sizes.events.saturating_sub(1) as u16);
+        let task = self.word(TASK);
+        let begun = match self.word(BEGUN) {
+            begun if begun <= EVENT_BEGUN && self.random.percent(85) => begun,
+            _ => self.random.below(3) as u16,
+        };
+        let (body, row) = match begun {
+            EVENT_BEGUN => (Body::Event(event), self.sizes.tasks + event as usize),
+            _ => (Body::Task(task), task as usize),
+        };
+        let count = self.machine.program.get(7 + 3 * row).copied().unwrap_or(1).max(1);
+        let pairs = self.word(COUNT).min(self.sizes.log_pairs as u16);
+        match self.word(PHASE) {
+            0 if begun == NOTHING_BEGUN => Place::NoBody { commit: 0 },
+            0 => Place::Running { body, instruction: self.random.below(count as usize) as u16, ending: 0 },
+            _ => Place::NoBody { commit: self.random.below(pairs as usize + 4) as u16 },
+        }
+    }
+
     /// Calls that look at 7, on devices that fit the phase.
     fn calls_on_broken(&mut self) {
         for _ in 0..self.random.from(1, 3) {
-            let word = |index: usize| self.machine.store.get(index).copied().unwrap_or(0);
-            let record = self.sizes.queue() + 2 * word(HEAD) as usize;
-            let event = word(record).min(self.sizes.events.saturating_sub(1) as u16);
-            let (body, row) = match self.random.below(2) {
-                0 => (Body::Task(word(TASK)), word(TASK) as usize),
-                _ => (Body::Event(event), self.sizes.tasks + event as usize),
-            };
-            let count = self.machine.program.get(7 + 3 * row).copied().unwrap_or(1).max(1);
-            let pairs = word(COUNT).min(self.sizes.log_pairs as u16);
-            let place = match word(PHASE) {
-                0 if self.random.percent(30) => Place::NoBody { commit: 0 },
-                0 => Place::Running { body, instruction: self.random.below(count as usize) as u16, ending: 0 },
-                _ => Place::NoBody { commit: self.random.below(pairs as usize + 1) as u16 },
-            };
+            let place = self.fitting_place();
             self.make(Call::SetDevice(Device { place, ..Device::ON }));
             let call = match self.random.below(6) {
                 0 | 1 => Call::Boot,
@@ -915,10 +962,57 @@ impl Schedule {
         }
     }
 
+    /// A commit close to its last store, with anything in word 16; its store, and what comes after.
+    fn closing_commit(&mut self) {
+        self.strange_control();
+        let last = self.word(COUNT) + if self.word(PHASE) == 1 { 3 } else { 2 };
+        if self.word(PHASE) == 0 {
+            return;
+        }
+        let commit = if self.random.percent(75) { last } else { last - 1 };
+        self.make(Call::SetDevice(Device { place: Place::NoBody { commit }, ..Device::ON }));
+        let run = Call::Run { budget: self.random.from(1, 9) as u32 };
+        let first = if self.random.percent(70) { Call::Step } else { run.clone() };
+        self.make(first);
+        let next = match self.random.below(6) {
+            0 | 1 => Call::Step,
+            2 => self.post_or_raise(25),
+            3 => run,
+            _ => Call::Cut,
+        };
+        let boots = next == Call::Cut;
+        self.make(next);
+        if boots {
+            self.make(Call::Boot);
+        }
+    }
+
+    /// An event that runs, as word 16 says, and isn't the record's at head, mostly.
+    fn another_event(&mut self) {
+        let Sizes { events, queue_records, .. } = self.sizes;
+        if events == 0 {
+            return;
+        }
+        let head = self.random.below(queue_records + 1);
+        let tail = (head + self.random.from(1, queue_records)) % (queue_records + 1);
+        let record = self.random.below(events) as u16;
+        let words = [(PHASE, 0), (OPEN, 0), (HEAD, head as u16), (TAIL, tail as u16), (BEGUN, EVENT_BEGUN)];
+        for (index, word) in words.into_iter().chain([(self.sizes.queue() + 2 * head, record)]) {
+            self.make(Call::SetStore { index, word });
+        }
+        let body = Body::Event(self.random.below(events) as u16);
+        self.make(Call::SetDevice(Device { place: Place::Running { body, instruction: 0, ending: 0 }, ..Device::ON }));
+        let call = match self.random.below(3) {
+            0 => self.post_or_raise(25),
+            1 => Call::Run { budget: self.budget() },
+            _ => Call::Step,
+        };
+        self.make(call);
+    }
+
     /// A device that may well fit, though no list of calls leads there.
     fn strange_device(&mut self) {
         let Sizes { tasks, events, log_pairs, .. } = self.sizes;
-        let word = |machine: &Machine, index: usize| machine.store.get(index).copied().unwrap_or(0);
         let mut device = Device::ON;
         for register in device.registers.iter_mut() {
             *register = if self.random.percent(40) { 0 } else { self.random.word() };
@@ -953,9 +1047,8 @@ impl Schedule {
         let instruction = instruction as u16;
         device.place = match self.random.below(4) {
             0 => {
-                let phase = word(&self.machine, PHASE);
-                let count = word(&self.machine, COUNT).min(70) as usize;
-                let commit = if phase == 0 { self.random.below(2) } else { self.random.below(count + 4) };
+                let count = self.word(COUNT).min(70) as usize;
+                let commit = if self.word(PHASE) == 0 { self.random.below(2) } else { self.random.below(count + 5) };
                 Place::NoBody { commit: commit as u16 }
             }
             _ if half => Place::HalfSave { body, instruction },
@@ -976,6 +1069,7 @@ impl Schedule {
             device.on = false;
         }
         self.make(Call::SetDevice(device));
+        self.begin_what_runs();
     }
 
     /// Several pairs of the log with the address of the instruction at hand, if it has one.
@@ -983,12 +1077,13 @@ impl Schedule {
         let start = self.machine.program.get(6 + 3 * self.body_at_hand()).copied().unwrap_or(0) as usize;
         let here = start + 2 * self.instruction_at_hand();
         let word = self.machine.program.get(here + 1).copied().unwrap_or(0);
-        let Sizes { memory, log_pairs, .. } = self.sizes;
+        let log_pairs = self.sizes.log_pairs;
         for pair in 0..log_pairs.min(6) {
             if self.random.percent(60) {
-                self.make(Call::SetStore { index: 16 + memory + 2 * pair, word });
+                let index = self.sizes.log() + 2 * pair;
+                self.make(Call::SetStore { index, word });
                 let word = self.random.word();
-                self.make(Call::SetStore { index: 17 + memory + 2 * pair, word });
+                self.make(Call::SetStore { index: index + 1, word });
             }
         }
         let mut device = self.machine.device;
@@ -1014,6 +1109,9 @@ impl Schedule {
             if let Some(device) = Device::from_words(&words) {
                 if device != self.machine.device {
                     self.make(Call::SetDevice(device));
+                    if self.random.percent(60) {
+                        self.begin_what_runs();
+                    }
                     return;
                 }
             }
@@ -1071,22 +1169,15 @@ impl Schedule {
         match self.random.below(100) {
             0..=5 => return self.device_words(),
             6..=11 => return self.several_broken(),
+            12 | 13 => return self.closing_commit(),
+            14 => return self.another_event(),
             _ => {}
         }
         match self.random.below(100) {
             0..=29 => self.damage_program(),
             30..=34 => self.damage_program_length(),
             35..=63 => self.damage_store(),
-            64..=66 => {
-                let length = self.machine.store.len();
-                let new = match self.random.below(4) {
-                    0 => self.random.below(20),
-                    1 => length + self.random.from(1, 2),
-                    2 => length.saturating_sub(self.random.from(1, 2)),
-                    _ => self.random.below(length + 1),
-                };
-                self.make(Call::StoreLength(new));
-            }
+            64..=66 => self.damage_store_length(),
             67..=78 => self.damage_device(),
             79 => {
                 if self.random.percent(60) {

@@ -2,6 +2,7 @@
 //! are held against, a generator of programs, schedules and line tables, and a driver that compares two
 //! implementations call by call. Above it, exam sheets and their comparison with another program's.
 
+pub mod begun;
 pub mod cases;
 pub mod compare;
 pub mod foreign;
@@ -20,3 +21,4 @@ pub mod seven;
 pub mod sheet;
 pub mod shorten;
 pub mod standin;
+pub mod turn;

@@ -6,7 +6,7 @@
 use crate::compare::{self, Counts, Difference, POSSIBLE};
 use crate::runtime::{Answer, Runtime};
 use crate::scenario::{call_text, outcome_text, Call, Outcome, Scenario, Table, CALL_NAMES};
-use crate::{cases, generate, lines, selfrun, seven, shorten};
+use crate::{begun, cases, generate, lines, selfrun, seven, shorten};
 use std::io::Read;
 use std::time::Instant;
 
@@ -88,6 +88,8 @@ fn print_counts(undamaged: &Counts, damaged: &Counts, all: &Counts) {
     println!();
     print!("{}", all.several.table());
     println!();
+    print!("{}", all.begun.table());
+    println!();
     print!("{}", all.lines.table());
     println!();
 }
@@ -117,6 +119,7 @@ pub fn missing(all: &Counts) -> Vec<String> {
         lines.push(never.join("; "));
     }
     lines.extend(all.several.missing());
+    lines.extend(all.begun.missing());
     lines.extend(all.lines.missing());
     lines
 }
@@ -136,9 +139,9 @@ fn judge(all: &Counts) -> Verdict {
     Verdict::TooLittle
 }
 
-/// The lists that don't come from a seed: several rules of 7 broken at once, and line tables.
+/// The lists that don't come from a seed: several rules of 7 broken at once, word 16, and line tables.
 pub fn fixed_lists() -> impl Iterator<Item = Scenario> {
-    seven::lists().into_iter().chain(lines::lists::lists())
+    seven::lists().into_iter().chain(begun::lists::lists()).chain(lines::lists::lists())
 }
 
 /// What both sides do with the lists of one seed: compared, and each alone. Whether nothing differs.
@@ -157,11 +160,22 @@ impl Lists<'_> {
     /// The lists that don't come from a seed.
     fn fixed(&mut self) -> bool {
         let Lists { first, second, damaged, .. } = self;
+        let first_alone = |list: &Scenario, counts: &mut Counts| selfrun::drive(*first, list, counts);
+        let second_alone = |list: &Scenario, counts: &mut Counts| selfrun::drive(*second, list, counts);
         let beside = |list: &Scenario, counts: &mut Counts| compare::drive(*first, *second, list, counts);
         for list in fixed_lists() {
             if let Err(difference) = beside(&list, damaged) {
                 report("comparison of a fixed list", &list, &difference, &beside);
                 return false;
+            }
+        }
+        let alone: [(&str, Drive); 2] = [("first side", &first_alone), ("second side", &second_alone)];
+        for list in begun::lists::undamaged() {
+            for (side, drive) in alone {
+                if let Err(difference) = drive(&list, &mut Counts::default()) {
+                    report(&format!("{side}, fixed list"), &list, &difference, drive);
+                    return false;
+                }
             }
         }
         true
@@ -210,8 +224,8 @@ pub fn many(first: &dyn Runtime, second: &dyn Runtime, first_seed: u64, calls: u
     all.add_all(&lists.damaged);
     print_counts(&lists.undamaged, &lists.damaged, &all);
     println!("All lists: both sides compared after every call. Undamaged lists: for each side demand 3 by recovering");
-    println!("a copy, after every call and every step of a run, and a run held against single steps.");
-    println!("fixed lists, several rules of 7 broken at once and line tables: {fixed} calls");
+    println!("a copy, after every call and every step of a run, a run held against single steps, and whose turn it is.");
+    println!("fixed lists, several rules of 7 broken at once, word 16 and line tables: {fixed} calls");
     println!(
         "these and seeds {first_seed} to {}: {} programs, {} calls compared in {:.1} s",
         seed - 1,

@@ -1,6 +1,7 @@
 //! Implementations that are wrong on purpose: the reference with one mistake each. The tests hold that the
 //! driver, or the check of demand 3, notices; so they are known to be able to fail.
 
+use crate::begun;
 use crate::lines;
 use crate::reference::*;
 use crate::runtime::*;
@@ -58,6 +59,45 @@ pub enum Mistake {
     UsedWordNamesAll,
     StepLooksAtAll,
     PostLooksAtAll,
+    // Word 16: a commit's store of 0.
+    BegunClearedAfterPhase,
+    BegunClearedBeforeCopies,
+    BegunNotCleared,
+    BegunClearedInName,
+    ZeroOnlyOverOther,
+    // Choosing's store.
+    ChoosingStoresNothing,
+    ChoosingAnswersStored,
+    ChoosingNotCounted,
+    ChoosingNotTold,
+    TaskBegunForEvent,
+    // What a boot takes up.
+    BootChoosesAnew,
+    BegunChosenAgain,
+    EventTakenUpBeforeTask,
+    TaskTakenUpForEvent,
+    TakenUpEventWithoutData,
+    TakenUpTaskWithData,
+    TakenUpInTaskCommit,
+    TakenUpInEventCommit,
+    TakingUpClearsBegun,
+    // Its rules in 7, and 25's clause: left out, or asked where they don't speak.
+    BegunUnseenInSevenAtBoot,
+    BegunUnseenInSevenAtStep,
+    BegunUnseenInSevenAtPost,
+    BegunAboveTwoAllowed,
+    EventBegunWithoutOpenRule,
+    EventBegunWithoutQueueRule,
+    EventBegunRuleInCommits,
+    EventBegunNamesOtherWord,
+    BegunUnseenInUnlikeAtStep,
+    BegunUnseenInUnlikeAtPost,
+    HandlerNotHeldAgainstBegun,
+    OffHeldAgainstBegun,
+    CommitHeldAgainstBegun,
+    BegunHeldAgainstPhase,
+    PostReadsBegunRecord,
+    RunLooksOnce,
     // Line tables. 30, and its place.
     SixtyFifthRowAllowed,
     SixtyFourthRowRefused,
@@ -131,7 +171,7 @@ pub enum Mistake {
     StoreBeforeTable,
 }
 
-pub const MISTAKES: [Mistake; 110] = [
+pub const MISTAKES: [Mistake; 145] = [
     Mistake::HeadPlusOneOnRedo,
     Mistake::TailBeforeDatum,
     Mistake::PhaseBeforeTask,
@@ -175,6 +215,41 @@ pub const MISTAKES: [Mistake; 110] = [
     Mistake::UsedWordNamesAll,
     Mistake::StepLooksAtAll,
     Mistake::PostLooksAtAll,
+    Mistake::BegunClearedAfterPhase,
+    Mistake::BegunClearedBeforeCopies,
+    Mistake::BegunNotCleared,
+    Mistake::BegunClearedInName,
+    Mistake::ZeroOnlyOverOther,
+    Mistake::ChoosingStoresNothing,
+    Mistake::ChoosingAnswersStored,
+    Mistake::ChoosingNotCounted,
+    Mistake::ChoosingNotTold,
+    Mistake::TaskBegunForEvent,
+    Mistake::BootChoosesAnew,
+    Mistake::BegunChosenAgain,
+    Mistake::EventTakenUpBeforeTask,
+    Mistake::TaskTakenUpForEvent,
+    Mistake::TakenUpEventWithoutData,
+    Mistake::TakenUpTaskWithData,
+    Mistake::TakenUpInTaskCommit,
+    Mistake::TakenUpInEventCommit,
+    Mistake::TakingUpClearsBegun,
+    Mistake::BegunUnseenInSevenAtBoot,
+    Mistake::BegunUnseenInSevenAtStep,
+    Mistake::BegunUnseenInSevenAtPost,
+    Mistake::BegunAboveTwoAllowed,
+    Mistake::EventBegunWithoutOpenRule,
+    Mistake::EventBegunWithoutQueueRule,
+    Mistake::EventBegunRuleInCommits,
+    Mistake::EventBegunNamesOtherWord,
+    Mistake::BegunUnseenInUnlikeAtStep,
+    Mistake::BegunUnseenInUnlikeAtPost,
+    Mistake::HandlerNotHeldAgainstBegun,
+    Mistake::OffHeldAgainstBegun,
+    Mistake::CommitHeldAgainstBegun,
+    Mistake::BegunHeldAgainstPhase,
+    Mistake::PostReadsBegunRecord,
+    Mistake::RunLooksOnce,
     Mistake::SixtyFifthRowAllowed,
     Mistake::SixtyFourthRowRefused,
     Mistake::IncompleteRowIgnored,
@@ -249,6 +324,11 @@ pub fn mistakes_about_the_lowest() -> &'static [Mistake] {
     &MISTAKES[Mistake::HighestAtBoot as usize..=Mistake::PostLooksAtAll as usize]
 }
 
+/// The mistakes about word 16.
+pub fn mistakes_about_begun() -> &'static [Mistake] {
+    &MISTAKES[Mistake::BegunClearedAfterPhase as usize..=Mistake::RunLooksOnce as usize]
+}
+
 /// The mistakes about line tables and raises.
 pub fn mistakes_about_lines() -> &'static [Mistake] {
     &MISTAKES[Mistake::SixtyFifthRowAllowed as usize..]
@@ -307,6 +387,17 @@ fn after(store: &[u16], slot: u16) -> u16 {
     } else {
         slot + 1
     }
+}
+
+/// What becomes of a store with an event begun as if no transaction were open; word 10 is as before afterwards.
+fn as_if_closed(store: &mut [u16], call: impl FnOnce(&mut [u16]) -> Answer) -> Answer {
+    if store.get(BEGUN) != Some(&EVENT_BEGUN) || store[PHASE] != 0 {
+        return call(store);
+    }
+    let open = std::mem::replace(&mut store[OPEN], 0);
+    let answer = call(store);
+    store[OPEN] = open;
+    answer
 }
 
 impl Mutant {
@@ -368,13 +459,15 @@ impl Mutant {
                     (TASK, store[PENDING])
                 } else if store[PHASE] == 0 && commit == n + 2 {
                     (OPEN, store[PENDING_OPEN])
+                } else if store[PHASE] == 0 && commit == n + 3 {
+                    (BEGUN, NOTHING_BEGUN)
                 } else {
                     return None;
                 };
                 store[index] = word;
                 count_store(totals);
                 device.place = Place::NoBody { commit: commit + 1 };
-                if commit == n + 2 {
+                if commit == n + 3 {
                     *device = Device::ON;
                 }
                 Some(storing(Answer::Stored, index))
@@ -394,11 +487,12 @@ impl Mutant {
                 Some(step)
             }
             Mistake::EventInOpenTransaction => {
+                let open = *store.get(OPEN)?;
+                store[OPEN] = 0;
                 if !sound(program, store) || !device.on {
+                    store[OPEN] = open;
                     return None;
                 }
-                let open = store[OPEN];
-                store[OPEN] = 0;
                 let step = Reference.step(program, store, device, totals);
                 if store[PHASE] == 0 && store[OPEN] == 0 {
                     store[OPEN] = open;
@@ -535,7 +629,7 @@ impl Mutant {
                 let wrapped = k.wrapping_add(rb);
                 if answer == refused(23) && self.0 == Mistake::IndexWraps && wrapped < program[3] {
                     if opcode == LOADX {
-                        device.registers[a] = store[16 + wrapped as usize];
+                        device.registers[a] = store[MEMORY + wrapped as usize];
                         device.place = next;
                         return Some(without(Answer::Worked));
                     }
@@ -543,7 +637,7 @@ impl Mutant {
                 if answer == Answer::Worked && (opcode == LOAD || opcode == LOADX) {
                     let address = if opcode == LOAD { k } else { wrapped };
                     if self.0 == Mistake::LoadPassesLog {
-                        device.registers[a] = store[16 + address as usize];
+                        device.registers[a] = store[MEMORY + address as usize];
                     }
                     if self.0 == Mistake::LastPairFound {
                         for pair in 0..old.log_count as usize {
@@ -555,6 +649,9 @@ impl Mutant {
                     }
                 }
                 Some(step)
+            }
+            _ if mistakes_about_begun().contains(&self.0) => {
+                begun::mutants::step(self.0, begun::mutants::Node { program, store, device, totals })
             }
             _ => None,
         }
@@ -596,7 +693,7 @@ impl Mutant {
             }),
             Mistake::HeadAndTailBeforeTwelve => first_by(&|word| match word {
                 12 | 13 => (1, word),
-                _ if word > 15 => (2, word),
+                _ if word as usize >= MEMORY => (2, word),
                 _ => (0, word),
             }),
             // As document 01 had it.
@@ -618,6 +715,7 @@ impl Mutant {
             Mistake::BootInTwoLooks if call == Call::Boot => early.first().copied().unwrap_or(right),
             Mistake::FirstLookNamesAll if !early.is_empty() => all[0],
             Mistake::UsedWordNamesAll if early.is_empty() => all[0],
+            _ if right == BEGUN as u16 => begun::mutants::other_word(self.0, store),
             _ => right,
         }
     }
@@ -662,6 +760,26 @@ impl Mutant {
     }
 }
 
+impl Mutant {
+    /// A step in a run, so many steps after its start.
+    fn step_in_run(
+        &self,
+        program: &[u16],
+        store: &mut [u16],
+        device: &mut Device,
+        totals: &mut Totals,
+        steps: u32,
+    ) -> StepAnswer {
+        if self.0 == Mistake::RunLooksOnce && steps > 0 {
+            let node = begun::mutants::Node { program, store, device, totals };
+            if let Some(step) = begun::mutants::unlooked_step(node) {
+                return step;
+            }
+        }
+        self.own_step(program, store, device, totals)
+    }
+}
+
 impl Runtime for Mutant {
     fn check(&self, program: &[u16]) -> Answer {
         Reference.check(program)
@@ -673,7 +791,10 @@ impl Runtime for Mutant {
 
     fn boot(&self, program: &[u16], store: &mut [u16], device: &mut Device) -> Answer {
         let old = *device;
-        let answer = Reference.boot(program, store, device);
+        let answer = match self.0 {
+            Mistake::EventInOpenTransaction => as_if_closed(store, |store| Reference.boot(program, store, device)),
+            _ => begun::mutants::boot(self.0, program, store, device),
+        };
         if self.0 == Mistake::BootRefusesUnlike && answer == Answer::Done && old != Device::OFF {
             *device = old;
             return refused(25);
@@ -693,7 +814,16 @@ impl Runtime for Mutant {
                 return refused_at_word(*lowest);
             }
         }
-        let answer = Reference.post(program, store, device, event, datum);
+        let mistaken = match self.0 {
+            Mistake::EventInOpenTransaction => {
+                Some(as_if_closed(store, |store| Reference.post(program, store, device, event, datum)))
+            }
+            _ if mistakes_about_begun().contains(&self.0) => {
+                begun::mutants::post(self.0, program, store, device, (event, datum))
+            }
+            _ => None,
+        };
+        let answer = mistaken.unwrap_or_else(|| Reference.post(program, store, device, event, datum));
         if self.0 == Mistake::QueueFullEarly && answer == Answer::Done {
             let after_two = after(store, after(store, store[TAIL]));
             if after_two == store[HEAD] {
@@ -721,7 +851,8 @@ impl Runtime for Mutant {
             if self.0 == Mistake::RunSpentEarly && steps == 100 {
                 break;
             }
-            if let Answer::Refused(refusal) = self.own_step(program, store, device, totals).answer {
+            let step = self.step_in_run(program, store, device, totals, steps);
+            if let Answer::Refused(refusal) = step.answer {
                 if self.0 == Mistake::RunCountsRefusedStep {
                     steps += 1;
                 }

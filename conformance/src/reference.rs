@@ -286,8 +286,13 @@ fn check_program(program: &[u16]) -> Result<Head, Refusal> {
 // ---------------------------------------------------------------------------------------------------------
 // Store words
 
-pub const STORE_MARK: u16 = 0xC0A1;
+pub const STORE_MARK: u16 = 0xC0A2;
 
+/// Where control starts, and memory behind it.
+pub const CONTROL: usize = 8;
+pub const MEMORY: usize = 17;
+
+/// The control words.
 pub const PHASE: usize = 8;
 pub const TASK: usize = 9;
 pub const OPEN: usize = 10;
@@ -296,9 +301,20 @@ pub const PENDING: usize = 12;
 pub const PENDING_OPEN: usize = 13;
 pub const HEAD: usize = 14;
 pub const TAIL: usize = 15;
+pub const BEGUN: usize = 16;
 
-const CONTROL: usize = 8;
-const MEMORY: usize = 16;
+/// What word 16 says: "0 nothing begun, 1 task, 2 event".
+pub const NOTHING_BEGUN: u16 = 0;
+pub const TASK_BEGUN: u16 = 1;
+pub const EVENT_BEGUN: u16 = 2;
+
+/// What word 16 says while this body is begun.
+pub fn begun_word(body: Body) -> u16 {
+    match body {
+        Body::Task(_) => TASK_BEGUN,
+        Body::Event(_) => EVENT_BEGUN,
+    }
+}
 
 /// The store's contents, after refusal 6.
 struct Parts {
@@ -329,8 +345,9 @@ impl Parts {
     }
 }
 
-fn store_length(memory: usize, log_pairs: usize, queue_records: usize) -> usize {
-    18 + memory + 2 * log_pairs + 2 * queue_records
+/// The length of a store: two words for each of L log pairs and of Q + 1 slots behind the memory.
+pub fn store_length(memory: usize, log_pairs: usize, queue_records: usize) -> usize {
+    MEMORY + memory + 2 * log_pairs + 2 * (queue_records + 1)
 }
 
 fn log_and_queue_within_limits(log_pairs: u16, queue_records: u16) -> bool {
@@ -404,12 +421,18 @@ fn broken_in_control(head: &Head, parts: &Parts, store: &[u16], mut name: impl F
         let moves = word(PENDING) == parts.after(word(HEAD)) && word(HEAD) != word(TAIL);
         require(stays || moves, PENDING);
     }
+    require(word(BEGUN) <= EVENT_BEGUN as usize, BEGUN);
+    // "In phase 0 a 2 needs a queue not empty and word 10 at 0": of other words' rules it needs those of 14 and 15.
+    let ring = word(HEAD) <= parts.queue_records && word(TAIL) <= parts.queue_records;
+    if phase == 0 && word(BEGUN) == EVENT_BEGUN as usize && ring {
+        require(word(HEAD) != word(TAIL) && word(OPEN) == 0, BEGUN);
+    }
 }
 
 /// Name the word of each broken rule of 7. A rule that needs a broken word, or a row that isn't in the program, is
 /// passed over.
 fn broken_in_store(program: &[u16], head: &Head, parts: &Parts, store: &[u16], mut name: impl FnMut(usize)) {
-    let mut sound = [true; 16];
+    let mut sound = [true; MEMORY];
     broken_in_control(head, parts, store, |place| {
         sound[place] = false;
         name(place);
@@ -524,6 +547,15 @@ impl Look {
     }
 }
 
+/// What word 16 says while the device runs what it runs.
+#[inline(always)]
+pub fn running_word(device: &Device) -> u16 {
+    match device.place {
+        Place::NoBody { .. } => NOTHING_BEGUN,
+        Place::Running { body, .. } | Place::HalfSave { body, .. } => begun_word(body),
+    }
+}
+
 /// The parts of 25 that need no row, instruction, log pair or record.
 #[inline(always)]
 fn state_unlike(look: &Look, store: &[u16], device: &Device) -> bool {
@@ -539,13 +571,17 @@ fn state_unlike(look: &Look, store: &[u16], device: &Device) -> bool {
         }
     }
     let phase = store[PHASE];
+    // N4: in phase 0 the device runs "just what word 16 says".
+    if phase == 0 && store[BEGUN] != running_word(device) {
+        return true;
+    }
     let n = store[COUNT] as u32;
     let body = match device.place {
         Place::NoBody { commit } => {
             let last = match phase {
                 0 => 0,
-                1 => n + 2,
-                _ => n + 1,
+                1 => n + 3,
+                _ => n + 2,
             };
             return commit as u32 > last;
         }
@@ -630,7 +666,7 @@ fn handler_store(look: &Look, mut node: Node, handler: Handler) -> Answer {
 }
 
 /// A commit makes its next store after the commit store: n copies; 9 from 12 and 10 from 13, or 14 from 12;
-/// then 8 becomes 0.
+/// then 16 and 8 become 0.
 #[inline(always)]
 fn commit_store(look: &Look, mut node: Node, commit: usize) -> Result<Answer, Refusal> {
     let store = &*node.store;
@@ -644,9 +680,9 @@ fn commit_store(look: &Look, mut node: Node, commit: usize) -> Result<Answer, Re
         (MEMORY + address, store[pair + 1])
     } else {
         let closing: &[Store] = if store[PHASE] == 1 {
-            &[(TASK, store[PENDING]), (OPEN, store[PENDING_OPEN]), (PHASE, 0)]
+            &[(TASK, store[PENDING]), (OPEN, store[PENDING_OPEN]), (BEGUN, NOTHING_BEGUN), (PHASE, 0)]
         } else {
-            &[(HEAD, store[PENDING]), (PHASE, 0)]
+            &[(HEAD, store[PENDING]), (BEGUN, NOTHING_BEGUN), (PHASE, 0)]
         };
         closing[commit - n]
     };
@@ -659,25 +695,41 @@ fn commit_store(look: &Look, mut node: Node, commit: usize) -> Result<Answer, Re
     Ok(Answer::Stored)
 }
 
-/// With no body running, one is chosen.
+/// With no body running, one is chosen and stored as begun.
 #[inline(always)]
-fn choose(look: &Look, node: Node) -> Result<Answer, Refusal> {
+fn choose(look: &Look, mut node: Node) -> Result<Answer, Refusal> {
     let store = &*node.store;
-    let mut registers = [0; 8];
-    let body = if store[OPEN] == 0 && !look.queue_empty(store) {
-        let slot = look.parts.slot(store[HEAD] as usize);
-        if store[slot] as usize >= look.head.events {
-            return Err(refusal_at(7, slot, 0));
-        }
-        registers[0] = store[slot + 1];
-        Body::Event(store[slot])
-    } else {
-        Body::Task(store[TASK])
-    };
-    node.device.registers = registers;
-    node.device.log_count = 0;
-    node.device.place = Place::Running { body, instruction: 0, ending: 0 };
+    let event = store[OPEN] == 0 && !look.queue_empty(store);
+    let slot = look.parts.slot(store[HEAD] as usize);
+    if event && store[slot] as usize >= look.head.events {
+        return Err(refusal_at(7, slot, 0));
+    }
+    let body = if event { Body::Event(store[slot]) } else { Body::Task(store[TASK]) };
+    begin(&look.parts, store, node.device, body);
+    node.make((BEGUN, begun_word(body)));
     Ok(Answer::Chosen(body))
+}
+
+/// A body at its first instruction. Registers become 0, except that register 0 gets an event's data.
+#[inline(always)]
+fn begin(parts: &Parts, store: &[u16], device: &mut Device, body: Body) {
+    device.registers = [0; 8];
+    if let Body::Event(_) = body {
+        device.registers[0] = store[parts.slot(store[HEAD] as usize) + 1];
+    }
+    device.log_count = 0;
+    device.place = Place::Running { body, instruction: 0, ending: 0 };
+}
+
+/// "A boot in phase 0 takes up the begun body at its first instruction, registers as at choosing."
+fn take_up(parts: &Parts, store: &[u16], device: &mut Device) {
+    let event = store[parts.slot(store[HEAD] as usize)];
+    match store[BEGUN] {
+        _ if store[PHASE] != 0 => {}
+        TASK_BEGUN => begin(parts, store, device, Body::Task(store[TASK])),
+        EVENT_BEGUN => begin(parts, store, device, Body::Event(event)),
+        _ => {}
+    }
 }
 
 /// Where a running body stands.
@@ -924,6 +976,7 @@ fn boot(program: &[u16], store: &[u16], device: &mut Device) -> Result<(), Refus
         return Err(refusal(26));
     }
     *device = Device::ON;
+    take_up(&parts, store, device);
     Ok(())
 }
 

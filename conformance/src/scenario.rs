@@ -3,6 +3,7 @@
 //! the list may have changes that stand for damage.
 
 use crate::foreign::{BAD_DEVICE, NO_ANSWER, OUTSIDE};
+use crate::reference::store_length;
 use crate::runtime::*;
 use std::fmt::Write;
 use std::num::IntErrorKind;
@@ -140,7 +141,7 @@ pub struct Scenario {
 
 /// A store before formatting: as many words as it needs, none of them 0 by intent.
 pub fn unformatted(memory: u16, log_pairs: u16, queue_records: u16) -> Vec<u16> {
-    let length = 18 + memory as usize + 2 * log_pairs as usize + 2 * queue_records as usize;
+    let length = store_length(memory as usize, log_pairs as usize, queue_records as usize);
     (0..length).map(|index| (index as u16).wrapping_mul(40503).wrapping_add(12345) | 1).collect()
 }
 

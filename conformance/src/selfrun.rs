@@ -1,11 +1,12 @@
-//! One implementation over an undamaged list: demand 3 after every call, at most one store for each step, the
-//! totals, run against single steps, and only the refusals that such a list may meet.
+//! One implementation over an undamaged list: demand 3 and whose turn it is after every call, at most one store for
+//! each step, the totals, run against single steps, and only the refusals that such a list may meet.
 
 use crate::compare::{word_difference, Counts, Difference};
 use crate::reference::PHASE;
 use crate::runtime::*;
 use crate::scenario::{Call, Machine, Outcome, Scenario};
-use crate::serial::{demand_3, Serial};
+use crate::serial::{demand_3, Expected, Serial};
+use crate::turn::Turn;
 
 /// Whether an undamaged list may meet this refusal.
 fn expected_refusal(call: &Call, number: u16) -> bool {
@@ -36,6 +37,7 @@ struct Watch<'a> {
     runtime: &'a dyn Runtime,
     machine: Machine,
     serial: Serial,
+    turn: Turn,
     before: Vec<u16>,
     copy: Vec<u16>,
     recovering: bool,
@@ -43,13 +45,20 @@ struct Watch<'a> {
     stuck: Option<Refusal>,
 }
 
+/// The number of stores that an answer tells.
+fn stores_of(answer: &Answer) -> usize {
+    match answer {
+        Answer::Chosen(_) | Answer::Stored | Answer::Committed(_) | Answer::Accepted => 1,
+        _ => 0,
+    }
+}
+
 impl Watch<'_> {
     /// Perform one call that isn't a run, and hold it against everything.
     fn call(&mut self, call: &Call, counts: &mut Counts) -> Result<Answer, String> {
         self.before.clear();
         self.before.extend_from_slice(&self.machine.store);
-        let device = self.machine.device;
-        let totals = self.machine.totals;
+        let Machine { device, totals, .. } = self.machine;
         let phase = self.machine.store[PHASE];
         let Some(outcome) = self.machine.call(self.runtime, call) else {
             return Err("not a call".into());
@@ -58,63 +67,80 @@ impl Watch<'_> {
             return Err("not a single call".into());
         };
         counts.add(call, &device, phase, self.recovering, &outcome);
-
-        let changed = self.before.iter().zip(&self.machine.store).filter(|(x, y)| x != y).count();
-        let stores = match answer {
-            Answer::Stored | Answer::Committed(_) | Answer::Accepted => 1,
-            _ => 0,
-        };
-        if changed > stores {
-            return Err(format!("{answer:?}: {}", word_difference(&self.before, &self.machine.store)));
-        }
-        if let Outcome::Step(step) = outcome {
-            self.told(&step, stores)?;
-        }
-        let mut expected = totals;
-        expected.stores = expected.stores.saturating_add(stores as u32);
-        if let Answer::Committed(_) = answer {
-            expected.committed = expected.committed.saturating_add(1);
-            counts.committed += 1;
-        }
-        if answer == Answer::Accepted {
-            expected.accepted = expected.accepted.saturating_add(1);
-            counts.accepted += 1;
-        }
-        if self.machine.totals != expected {
-            return Err(format!("{answer:?}: totals {:?}, {expected:?} expected", self.machine.totals));
-        }
-        if let Answer::Refused(refusal) = answer {
-            if !expected_refusal(call, refusal.number) {
-                return Err(format!("{refusal:?} on an undamaged list"));
-            }
-        }
-        if matches!(answer, Answer::Refused(_) | Answer::NothingPosted) && self.machine.device != device {
-            return Err(format!("{answer:?} changed the device"));
-        }
-        if let (Call::Step, None, Some(refusal)) = (call, device.handler, self.stuck) {
-            if answer != Answer::Refused(refusal) {
-                return Err(format!("{answer:?} after {refusal:?} without a cut"));
-            }
-        }
-        match (call, answer) {
-            (Call::Step, Answer::Refused(refusal)) if refusal.number >= 23 => self.stuck = Some(refusal),
-            (Call::Cut, _) => self.stuck = None,
-            _ => {}
-        }
+        self.hold_stores(&outcome, &answer)?;
+        self.hold_totals(&totals, &answer, counts)?;
+        self.hold_refusal(call, &device, &answer)?;
         match (call, answer) {
             (Call::Boot, Answer::Done) => self.recovering = phase != 0,
             (Call::Cut, _) => self.recovering = false,
             _ if self.machine.store[PHASE] == 0 => self.recovering = false,
             _ => {}
         }
-
-        let Machine { program, store, device, .. } = &self.machine;
+        self.turn.read(&answer, &self.machine.device, &self.serial)?;
         if in_the_list(call, &answer) {
-            self.serial.read(program, call, &answer)?;
+            self.serial.read(&self.machine.program, call, &answer)?;
         }
-        demand_3(self.runtime, program, store, device, &self.serial, &mut self.copy)
-            .map_err(|text| format!("{answer:?}: {text}"))?;
+        self.demand_3().map_err(|text| format!("{answer:?}: {text}"))?;
         Ok(answer)
+    }
+
+    fn demand_3(&mut self) -> Result<(), String> {
+        let Machine { program, store, device, .. } = &self.machine;
+        let expected = Expected { serial: &self.serial, turn: &self.turn };
+        demand_3(self.runtime, program, store, device, expected, &mut self.copy)
+    }
+
+    /// At most the one store that the answer tells.
+    fn hold_stores(&self, outcome: &Outcome, answer: &Answer) -> Result<(), String> {
+        let changed = self.before.iter().zip(&self.machine.store).filter(|(x, y)| x != y).count();
+        if changed > stores_of(answer) {
+            return Err(format!("{answer:?}: {}", word_difference(&self.before, &self.machine.store)));
+        }
+        match outcome {
+            Outcome::Step(step) => self.told(step, stores_of(answer)),
+            _ => Ok(()),
+        }
+    }
+
+    /// The totals after a call that found these.
+    fn hold_totals(&self, totals: &Totals, answer: &Answer, counts: &mut Counts) -> Result<(), String> {
+        let mut expected = *totals;
+        expected.stores = expected.stores.saturating_add(stores_of(answer) as u32);
+        if let Answer::Committed(_) = answer {
+            expected.committed = expected.committed.saturating_add(1);
+            counts.committed += 1;
+        }
+        if *answer == Answer::Accepted {
+            expected.accepted = expected.accepted.saturating_add(1);
+            counts.accepted += 1;
+        }
+        if self.machine.totals != expected {
+            return Err(format!("{answer:?}: totals {:?}, {expected:?} expected", self.machine.totals));
+        }
+        Ok(())
+    }
+
+    /// Only the refusals that such a list may meet; after 23 or 24 the same again. The device is as the call found it.
+    fn hold_refusal(&mut self, call: &Call, device: &Device, answer: &Answer) -> Result<(), String> {
+        if let Answer::Refused(refusal) = answer {
+            if !expected_refusal(call, refusal.number) {
+                return Err(format!("{refusal:?} on an undamaged list"));
+            }
+        }
+        if matches!(answer, Answer::Refused(_) | Answer::NothingPosted) && self.machine.device != *device {
+            return Err(format!("{answer:?} changed the device"));
+        }
+        if let (Call::Step, None, Some(refusal)) = (call, device.handler, self.stuck) {
+            if *answer != Answer::Refused(refusal) {
+                return Err(format!("{answer:?} after {refusal:?} without a cut"));
+            }
+        }
+        match (call, answer) {
+            (Call::Step, Answer::Refused(refusal)) if refusal.number >= 23 => self.stuck = Some(*refusal),
+            (Call::Cut, _) => self.stuck = None,
+            _ => {}
+        }
+        Ok(())
     }
 
     /// A step tells a word where it made a store, and no other word has changed.
@@ -176,13 +202,13 @@ pub fn drive(runtime: &dyn Runtime, scenario: &Scenario, counts: &mut Counts) ->
         runtime,
         machine,
         serial,
+        turn: Turn::default(),
         before: Vec::new(),
         copy: Vec::new(),
         recovering: false,
         stuck: None,
     };
-    let Machine { program, store, device, .. } = &watch.machine;
-    demand_3(runtime, program, store, device, &watch.serial, &mut watch.copy).map_err(start)?;
+    watch.demand_3().map_err(start)?;
     for (index, call) in scenario.calls.iter().enumerate() {
         let result = match watch.machine.affordable(runtime, call) {
             Call::Run { budget } => watch.run(budget, counts),

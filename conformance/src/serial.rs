@@ -3,8 +3,10 @@
 //! copy of the store is recovered and compared with the serial run's state. The interpreter here is its own
 //! and knows no log.
 
+use crate::reference::{BEGUN, COUNT, HEAD, MEMORY, OPEN, PENDING, PHASE, TAIL, TASK};
 use crate::runtime::*;
 use crate::scenario::Call;
+use crate::turn::Turn;
 use std::collections::VecDeque;
 
 /// The serial run's state.
@@ -149,8 +151,8 @@ fn transaction_of(program: &[u16], task: u16) -> u16 {
 fn compare_records(store: &[u16], serial: &Serial, when: &str) -> Result<(), String> {
     let ring = store[3] as usize + 1;
     let queue = store[7] as usize;
-    let tail = store[15] as usize;
-    let mut slot = if store[8] == 2 { store[12] as usize } else { store[14] as usize };
+    let tail = store[TAIL] as usize;
+    let mut slot = if store[PHASE] == 2 { store[PENDING] as usize } else { store[HEAD] as usize };
     if slot >= ring || tail >= ring {
         return Err(format!("{when}: head {slot} or tail {tail} outside the ring"));
     }
@@ -178,26 +180,14 @@ fn compare_records(store: &[u16], serial: &Serial, when: &str) -> Result<(), Str
     Ok(())
 }
 
-/// Demand 3 at one point of a list: recover a copy of the store and compare it with the serial run.
-/// `copy` is only a buffer.
-pub fn demand_3(
-    runtime: &dyn Runtime,
-    program: &[u16],
-    store: &[u16],
-    device: &Device,
-    serial: &Serial,
-    copy: &mut Vec<u16>,
-) -> Result<(), String> {
-    compare_records(store, serial, "before recovery")?;
-    let n = store[11] as u32;
-    let expected = match store[8] {
+/// Uncut recovery of a copy of the store, in the number of steps that the store says; the device that it leaves.
+fn recover(runtime: &dyn Runtime, program: &[u16], copy: &mut [u16], device: &Device) -> Result<Device, String> {
+    let n = copy[COUNT] as u32;
+    let expected = match copy[PHASE] {
         0 => 0,
-        1 => n + 3,
-        _ => n + 2,
+        1 => n + 4,
+        _ => n + 3,
     };
-
-    copy.clear();
-    copy.extend_from_slice(store);
     let mut device = *device;
     let mut totals = Totals::default();
     runtime.cut(&mut device);
@@ -206,7 +196,7 @@ pub fn demand_3(
         return Err(format!("recovery: boot answers {answer:?}"));
     }
     let mut steps = 0;
-    while copy[8] != 0 {
+    while copy[PHASE] != 0 {
         if steps > expected {
             return Err(format!("recovery: {steps} steps and no end, {expected} expected"));
         }
@@ -219,18 +209,40 @@ pub fn demand_3(
     if steps != expected {
         return Err(format!("recovery: {steps} steps, {expected} expected"));
     }
-    if device != Device::ON {
-        return Err(format!("recovery: device {device:?}"));
-    }
+    Ok(device)
+}
 
-    let memory = &copy[16..16 + serial.memory.len()];
+/// What is expected at one point of a list: the serial run, and whose turn it is.
+pub struct Expected<'a> {
+    pub serial: &'a Serial,
+    pub turn: &'a Turn,
+}
+
+/// Demand 3 at one point of a list: recover a copy of the store and compare it with the serial run, and with it what
+/// the device runs then. `copy` is only a buffer.
+pub fn demand_3(
+    runtime: &dyn Runtime,
+    program: &[u16],
+    store: &[u16],
+    device: &Device,
+    Expected { serial, turn }: Expected,
+    copy: &mut Vec<u16>,
+) -> Result<(), String> {
+    compare_records(store, serial, "before recovery")?;
+    copy.clear();
+    copy.extend_from_slice(store);
+    let device = recover(runtime, program, copy, device)?;
+    if (device, copy[BEGUN]) != (turn.recovered(serial), turn.word()) {
+        return Err(format!("recovery: word 16 is {}, device {device:?}, {turn:?} expected", copy[BEGUN]));
+    }
+    let memory = &copy[MEMORY..MEMORY + serial.memory.len()];
     if memory != &serial.memory[..] {
         return Err(format!("recovered memory {memory:?}, serial memory {:?}", serial.memory));
     }
-    if (copy[9], copy[10]) != (serial.task, serial.open) {
+    if (copy[TASK], copy[OPEN]) != (serial.task, serial.open) {
         return Err(format!(
             "recovered task {} open {}, serial task {} open {}",
-            copy[9], copy[10], serial.task, serial.open
+            copy[TASK], copy[OPEN], serial.task, serial.open
         ));
     }
     compare_records(copy, serial, "after recovery")

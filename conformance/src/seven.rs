@@ -19,12 +19,15 @@ const BOOT: In = [true, false, false, false];
 const NOT_BOOT: In = [false, true, true, true];
 const STEPS: In = [false, true, false, true];
 
+/// The first word behind control.
+const END: u16 = MEMORY as u16;
+
 /// Each two of the control words.
 fn pairs() -> impl Iterator<Item = (u16, u16)> {
-    (8..16).flat_map(|low| (low + 1..16).map(move |high| (low, high)))
+    (CONTROL as u16..END).flat_map(|low| (low + 1..END).map(move |high| (low, high)))
 }
 
-const PAIRS: usize = 28;
+const PAIRS: usize = 36;
 
 /// The pairs that broken rules never name together: without a phase, 10 to 13 have no rule; 13's rule needs 12, and it
 /// is of phase 1, in which 10 is free.
@@ -89,7 +92,7 @@ impl Seen<'_> {
 
     /// The first look names a control word, an address or a record.
     fn control(&self) -> bool {
-        !self.looked.is_empty() && self.place < 16
+        !self.looked.is_empty() && self.place < END
     }
 
     fn address(&self) -> bool {
@@ -113,7 +116,7 @@ impl Seen<'_> {
 
     /// Whether an address or a record below the place, or above it, is broken.
     fn lower(&self) -> bool {
-        self.all.iter().any(|word| *word > 15 && *word < self.place)
+        self.all.iter().any(|word| *word >= END && *word < self.place)
     }
 
     fn higher(&self) -> bool {
@@ -259,24 +262,28 @@ fn program() -> Vec<u16> {
     words
 }
 
-/// L and Q. The log starts at 20, the queue at 26, and the store ends at 36.
+/// L and Q. The log starts at 21, the queue at 27, and the store ends at 37.
 const SIZES: (u16, u16) = (3, 4);
 
 /// Right control words. The waiting records are in slots 3, 4 and 0, in phase 2 at first in slots 4 and 0.
-const RIGHT: [[u16; 8]; 5] = [
-    [0, 0, 0, 0, 0, 0, 3, 1],
-    [0, 0, 5, 0, 0, 0, 3, 1],
-    [1, 0, 0, 3, 2, 7, 3, 1],
-    [2, 0, 0, 3, 4, 0, 3, 1],
-    [2, 0, 0, 3, 3, 0, 3, 1],
+const RIGHT: [[u16; 9]; 8] = [
+    [0, 0, 0, 0, 0, 0, 3, 1, 0],
+    [0, 0, 0, 0, 0, 0, 3, 1, 1],
+    [0, 0, 0, 0, 0, 0, 3, 1, 2],
+    [0, 0, 5, 0, 0, 0, 3, 1, 0],
+    [0, 0, 5, 0, 0, 0, 3, 1, 1],
+    [1, 0, 0, 3, 2, 7, 3, 1, 1],
+    [2, 0, 0, 3, 4, 0, 3, 1, 2],
+    [2, 0, 0, 3, 3, 0, 3, 1, 2],
 ];
 
 /// Right log addresses and events of the ring's slots.
-const RIGHT_BEHIND: [Change; 8] = [(20, 0), (22, 1), (24, 2), (26, 0), (28, 1), (30, 0), (32, 1), (34, 0)];
+const RIGHT_BEHIND: [Change; 8] = [(21, 0), (23, 1), (25, 2), (27, 0), (29, 1), (31, 0), (33, 1), (35, 0)];
 
 /// Words and what they are changed to, which breaks a rule in one phase or another. Of 12: above Q, just T, and another
-/// slot; of 14 and 15 a slot, too, which leaves 12 unlike head or the queue empty. Slot 1, word 28, doesn't wait.
-const CHANGES: [(usize, &[u16]); 15] = [
+/// slot; of 14 and 15 a slot, too, which leaves 12 unlike head or the queue empty; of 16 a 2. Slot 1, word 29, doesn't
+/// wait.
+const CHANGES: [(usize, &[u16]); 16] = [
     (PHASE, &[3, 65535]),
     (TASK, &[3, 65535]),
     (OPEN, &[7, 6]),
@@ -285,13 +292,14 @@ const CHANGES: [(usize, &[u16]); 15] = [
     (PENDING_OPEN, &[5, 6]),
     (HEAD, &[5, 65535, 1]),
     (TAIL, &[5, 65535, 3]),
-    (20, &[4, 65535]),
-    (22, &[4, 65535]),
-    (24, &[4, 65535]),
-    (26, &[2, 65535]),
-    (28, &[2, 65535]),
-    (32, &[2, 65535]),
-    (34, &[2, 65535]),
+    (BEGUN, &[3, 65535, 2]),
+    (21, &[4, 65535]),
+    (23, &[4, 65535]),
+    (25, &[4, 65535]),
+    (27, &[2, 65535]),
+    (29, &[2, 65535]),
+    (33, &[2, 65535]),
+    (35, &[2, 65535]),
 ];
 
 /// Every two changes of different words, and every set of control words, each with its first change.
@@ -303,23 +311,25 @@ fn changes() -> Vec<Vec<Change>> {
         let others = single[at + 1..].iter().filter(|other| other.0 != one.0);
         changes.extend(others.map(|other| vec![*one, *other]));
     }
-    for set in 0..256 {
-        let chosen = (0..8).filter(|control| set >> control & 1 == 1);
+    for set in 0..512 {
+        let chosen = (0..9).filter(|control| set >> control & 1 == 1);
         changes.push(chosen.map(|control| (CHANGES[control].0, CHANGES[control].1[0])).collect());
     }
     changes
 }
 
-/// Devices that fit the phase: about to choose, in a task and in an event; or about to copy the first pair, the second
-/// and the third.
-fn devices(phase: u16) -> [Device; 3] {
+/// Devices that fit the phase and word 16: about to choose, in a task or in an event; or about to copy the first pair,
+/// the second and the third.
+fn devices(phase: u16, begun: u16) -> Vec<Device> {
     let running = |body: Body| Place::Running { body, instruction: 0, ending: 0 };
     let copying = |commit: u16| Place::NoBody { commit };
-    let places = match phase {
-        0 => [copying(0), running(Body::Task(0)), running(Body::Event(1))],
-        _ => [copying(0), copying(1), copying(2)],
+    let places = match (phase, begun) {
+        (0, TASK_BEGUN) => vec![running(Body::Task(0))],
+        (0, EVENT_BEGUN) => vec![running(Body::Event(1))],
+        (0, _) => vec![copying(0)],
+        _ => vec![copying(0), copying(1), copying(2)],
     };
-    places.map(|place| Device { place, ..Device::ON })
+    places.into_iter().map(|place| Device { place, ..Device::ON }).collect()
 }
 
 /// The lists that every comparison starts with: from right words on, each of the changes, then a boot, a post, and a
@@ -330,7 +340,7 @@ pub fn lists() -> Vec<Scenario> {
     let mut lists = Vec::new();
     for control in RIGHT {
         let mut calls = Vec::new();
-        let right: Vec<Change> = (8..16).zip(control).chain(RIGHT_BEHIND).collect();
+        let right: Vec<Change> = (CONTROL..).zip(control).chain(RIGHT_BEHIND).collect();
         for change in changes() {
             let set = |(index, word): &Change| Call::SetStore { index: *index, word: *word };
             calls.extend(right.iter().chain(&change).map(set));
@@ -338,7 +348,7 @@ pub fn lists() -> Vec<Scenario> {
             let mut call = |device: Device, call: Call| calls.extend([Call::SetDevice(device), call, Call::Restore]);
             call(Device::OFF, Call::Boot);
             call(Device::ON, Call::Post { event: 1, datum: 9 });
-            for device in devices(control[0]) {
+            for device in devices(control[0], control[BEGUN - CONTROL]) {
                 call(device, Call::Step);
                 call(device, Call::Run { budget: 3 });
             }

@@ -6,7 +6,7 @@ pub mod counts;
 pub mod generate;
 pub mod mutants;
 
-use crate::reference::PHASE;
+use crate::reference::{store_length, MEMORY, PHASE};
 use crate::runtime::*;
 use crate::scenario::{Call, Machine};
 use std::fmt::Write;
@@ -22,7 +22,7 @@ pub enum Line {
 /// The memory words as they are.
 fn memory(machine: &Machine) -> Vec<u16> {
     let length = machine.program.get(3).copied().unwrap_or(0) as usize;
-    machine.store[16..16 + length].to_vec()
+    machine.store[MEMORY..MEMORY + length].to_vec()
 }
 
 /// A cut, a boot, then steps while the phase isn't 0, without posts.
@@ -139,7 +139,7 @@ impl Clauses for Right {}
 fn machine(clauses: &dyn Clauses, runtime: &dyn Runtime, program: Vec<u16>) -> Machine {
     let (log_pairs, queue_records) = clauses.log_pairs_and_queue_records();
     let memory = program.get(3).copied().unwrap_or(0) as usize;
-    let store = vec![0; 18 + memory + 2 * log_pairs as usize + 2 * queue_records as usize];
+    let store = vec![0; store_length(memory, log_pairs as usize, queue_records as usize)];
     let mut machine = Machine { program, store, device: Device::OFF, stray: None, totals: Totals::default() };
     machine.call(runtime, &Call::Format { log_pairs, queue_records });
     machine

@@ -3,7 +3,7 @@
 
 use conformance::generate::Random;
 use conformance::lines::generate::{any_table, raise};
-use conformance::reference::{broken, Reference, PROGRAM_MARK, STORE_MARK};
+use conformance::reference::{broken, store_length, Reference, CONTROL, MEMORY, PROGRAM_MARK, STORE_MARK};
 use conformance::runtime::*;
 use conformance::scenario::{Call, Machine, Table};
 
@@ -51,16 +51,16 @@ fn store(random: &mut Random, program: &[u16]) -> Vec<u16> {
         let length = random.below(60);
         return noise(random, length);
     }
-    let mut words = noise(random, 18 + memory + 2 * log_pairs + 2 * queue_records);
-    let log = 16 + memory;
+    let mut words = noise(random, store_length(memory, log_pairs, queue_records));
+    let log = MEMORY + memory;
     let contents =
-        [STORE_MARK as usize, memory, log_pairs, queue_records, 8, 16, log, log + 2 * log_pairs];
+        [STORE_MARK as usize, memory, log_pairs, queue_records, CONTROL, MEMORY, log, log + 2 * log_pairs];
     for (index, word) in contents.iter().enumerate() {
         if random.percent(99) {
             words[index] = *word as u16;
         }
     }
-    for index in 8..16 {
+    for index in CONTROL..MEMORY {
         if random.percent(95) {
             words[index] = random.below(3) as u16;
         }

@@ -91,7 +91,7 @@ fn a_replay_shows_both_sides_call_by_call() {
     assert_eq!(lines.len(), 2 + scenario.calls.len() - 1);
     let (said, status) = conformance(&["--mistake", "TailBeforeDatum", "--replay", "-"], LIST);
     assert_eq!(status, 1);
-    let parting = "the sides part here: the answers differ: stored, word 21 and accepted, word 15";
+    let parting = "the sides part here: the answers differ: stored, word 22 and accepted, word 15";
     assert!(said.contains(&format!("\n{}\n{parting}\n", lines.join("\n"))), "{said}");
     let (said, status) = conformance(&["--replay", "-"], LIST);
     assert_eq!(status, 0);

@@ -62,9 +62,9 @@ static void print(const char *call, int is_step)
 
 static void print_memory(void)
 {
-    printf("                 memory %u %u, phase %u, head %u, tail %u\n", store[RUNTIME_STORE_MEMORY],
-           store[RUNTIME_STORE_MEMORY + 1], store[RUNTIME_STORE_PHASE], store[RUNTIME_STORE_HEAD],
-           store[RUNTIME_STORE_TAIL]);
+    printf("                 memory %u %u, phase %u, begun %u, head %u, tail %u\n", store[RUNTIME_STORE_MEMORY],
+           store[RUNTIME_STORE_MEMORY + 1], store[RUNTIME_STORE_PHASE], store[RUNTIME_STORE_BEGUN],
+           store[RUNTIME_STORE_HEAD], store[RUNTIME_STORE_TAIL]);
 }
 
 static void steps(int count)
@@ -133,8 +133,8 @@ int main(void)
 
     boot();
     steps(9);
-    recover(); /* before the commit store: nothing of the task is left */
-    steps(10);
+    recover(); /* before the commit store: the task is taken up at its first instruction, nothing else of it is left */
+    steps(9);
     recover(); /* after it: the commit is finished */
 
     post(0, 77);
@@ -143,7 +143,7 @@ int main(void)
     steps(8);
     recover(); /* between the head store and the last: head moves on by one slot in all */
 
-    run(1400);
+    run(1500);
     print_memory();
 
     check_lines();

@@ -49,7 +49,7 @@ class Node:
             function.argtypes, function.restype = types, number if name == "run" else None
         memory_words = program[N["PROGRAM_MEMORY_WORDS"]]
         self.program = words(program)
-        self.store = words([0] * (18 + memory_words + 2 * log_pairs + 2 * queue_records))  # nonvolatile
+        self.store = words([0] * (19 + memory_words + 2 * log_pairs + 2 * queue_records))  # nonvolatile
         self.device = words([0] * N["DEVICE_WORDS"])  # lost at a cut; zeros are the device that is off
         self.totals = (ctypes.c_uint32 * N["TOTALS_NUMBERS"])()
         self.answer = words([0] * N["STEP_ANSWER_WORDS"])  # long enough for a step's answer
@@ -77,8 +77,9 @@ class Node:
 
     def show_memory(self):
         first = N["STORE_MEMORY"]
-        phase, head, tail = (self.store[N["STORE_" + name]] for name in ("PHASE", "HEAD", "TAIL"))
-        print(f"{'':16} memory {self.store[first]} {self.store[first + 1]}, phase {phase}, head {head}, tail {tail}")
+        memory = f"memory {self.store[first]} {self.store[first + 1]}"
+        phase, begun, head, tail = (self.store[N["STORE_" + name]] for name in ("PHASE", "BEGUN", "HEAD", "TAIL"))
+        print(f"{'':16} {memory}, phase {phase}, begun {begun}, head {head}, tail {tail}")
 
     def boot(self):
         self.on_device("boot")
@@ -127,8 +128,8 @@ def main():
 
     node.boot()
     node.steps(9)
-    node.recover()  # before the commit store: nothing of the task is left
-    node.steps(10)
+    node.recover()  # before the commit store: the task is taken up at its first instruction, nothing else of it is left
+    node.steps(9)
     node.recover()  # after it: the commit is finished
 
     node.post(0, 77)
@@ -137,7 +138,7 @@ def main():
     node.steps(8)
     node.recover()  # between the head store and the last: head moves on by one slot in all
 
-    node.run(1400)
+    node.run(1500)
     node.show_memory()
 
     table = words(LINES)

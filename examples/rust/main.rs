@@ -31,11 +31,12 @@ fn print(call: &str, answer: Answer) {
 fn print_memory(node: &Node) {
     let store = &node.store;
     println!(
-        "{:16} memory {} {}, phase {}, head {}, tail {}",
+        "{:16} memory {} {}, phase {}, begun {}, head {}, tail {}",
         "",
         store[STORE_MEMORY],
         store[STORE_MEMORY + 1],
         store[STORE_PHASE],
+        store[STORE_BEGUN],
         store[STORE_HEAD],
         store[STORE_TAIL]
     );
@@ -75,8 +76,8 @@ fn main() {
 
     print("boot", node.boot());
     steps(&mut node, 9);
-    recover(&mut node); // before the commit store: nothing of the task is left
-    steps(&mut node, 10);
+    recover(&mut node); // before the commit store: the task is taken up at its first instruction, nothing else of it is left
+    steps(&mut node, 9);
     recover(&mut node); // after it: the commit is finished
 
     print("post", node.post(0, 77));
@@ -85,8 +86,8 @@ fn main() {
     steps(&mut node, 8);
     recover(&mut node); // between the head store and the last: head moves on by one slot in all
 
-    let (made, end) = node.run(1400);
-    print(&format!("run 1400: {made}"), end);
+    let (made, end) = node.run(1500);
+    print(&format!("run 1500: {made}"), end);
     print_memory(&node);
 
     let mut table = LINES;

@@ -15,7 +15,7 @@ pub const LINES_ROW_WORDS: usize = 4; // a line table's rows
 
 /// The length of a store of M memory words, L log pairs and Q queue records.
 pub const fn store_words(memory_words: u16, log_pairs: u16, queue_records: u16) -> usize {
-    18 + memory_words as usize + 2 * log_pairs as usize + 2 * queue_records as usize
+    19 + memory_words as usize + 2 * log_pairs as usize + 2 * queue_records as usize
 }
 
 // ---- The largest values. The least is 1; of events, transaction numbers, lines and a line table's rows 0.
@@ -28,7 +28,7 @@ pub const MAX_QUEUE_RECORDS: u16 = 32;
 pub const MAX_INSTRUCTIONS: u16 = 256; // of one body
 pub const MAX_TRANSACTION: u16 = 255;
 pub const MAX_PROGRAM_WORDS: usize = 24726;
-pub const MAX_STORE_WORDS: usize = 1234;
+pub const MAX_STORE_WORDS: usize = 1235;
 pub const MAX_LINE: u16 = 15;
 pub const MAX_LINES_ROWS: usize = 64;
 
@@ -101,7 +101,7 @@ pub const STORE_MEMORY_START: usize = 5;
 pub const STORE_LOG_START: usize = 6;
 pub const STORE_QUEUE_START: usize = 7;
 
-pub const STORE_MARK_VALUE: u16 = 0xC0A1;
+pub const STORE_MARK_VALUE: u16 = 0xC0A2;
 
 pub const STORE_PHASE: usize = 8;
 pub const STORE_CURRENT_TASK: usize = 9;
@@ -112,12 +112,17 @@ pub const STORE_PENDING_HEAD: usize = 12; // phase 2
 pub const STORE_PENDING_OPEN: usize = 13;
 pub const STORE_HEAD: usize = 14;
 pub const STORE_TAIL: usize = 15;
+pub const STORE_BEGUN: usize = 16; // the kind of body that is chosen and not yet committed
 
-pub const STORE_MEMORY: usize = 16; // the first memory word
+pub const STORE_MEMORY: usize = 17; // the first memory word
 
 pub const PHASE_RUNNING: u16 = 0;
 pub const PHASE_TASK_COMMIT: u16 = 1;
 pub const PHASE_EVENT_COMMIT: u16 = 2;
+
+pub const BEGUN_NOTHING: u16 = 0;
+pub const BEGUN_TASK: u16 = 1;
+pub const BEGUN_EVENT: u16 = 2;
 
 // ---- The device
 

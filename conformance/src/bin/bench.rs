@@ -10,6 +10,9 @@
 //!
 //! Of line tables the library alone is measured: the reference counts every level. Built without the feature `lines`, for
 //! an archive from before request N3, there is nothing of them.
+//!
+//! With BENCH_LAYOUT=18 in the environment the library is one from before request N4: its store has a word less, a commit
+//! takes a step less, and what the sides leave isn't compared.
 
 use conformance::cases::COUNTING;
 use conformance::foreign::{Functions, STEP_WORDS};
@@ -27,7 +30,20 @@ use std::time::Instant;
 /// Store, device and totals.
 type Left = (Vec<u16>, [u16; DEVICE_WORDS], [u32; 3]);
 
+/// Whether the library's stores are of 18 + M + 2L + 2Q words.
+fn before_n4() -> bool {
+    use std::sync::OnceLock;
+    static LAYOUT: OnceLock<bool> = OnceLock::new();
+    *LAYOUT.get_or_init(|| match std::env::var("BENCH_LAYOUT").as_deref() {
+        Ok("18") => true,
+        Ok("19") | Err(_) => false,
+        _ => usage(),
+    })
+}
+
 trait Side<'a> {
+    /// Whether it may be a library from before request N4.
+    const LIBRARY: bool;
     /// Formatted and booted.
     fn new(load: &'a Load) -> Self;
     fn step(&mut self);
@@ -60,37 +76,63 @@ struct Load {
     program: Vec<u16>,
     log_pairs: u16,
     queue_records: u16,
-    /// In one turn: so many posts, each with three steps, then so many steps.
+    /// In one turn: so many posts, each with three steps, then so many steps with so many commits.
     posts: u32,
     steps: u32,
+    commits: u32,
 }
 
 impl Load {
-    fn store(&self) -> Vec<u16> {
-        let (log, queue) = (self.log_pairs as usize, self.queue_records as usize);
-        let mut store = vec![0; 18 + self.program[3] as usize + 2 * log + 2 * queue];
-        let answer = Reference.format(&self.program, self.log_pairs, self.queue_records, &mut store);
-        assert_eq!(answer, Answer::Done, "{}", self.name);
-        store
+    fn store_words(&self, library: bool) -> usize {
+        let words = store_length(self.program[3] as usize, self.log_pairs as usize, self.queue_records as usize);
+        words - (library && before_n4()) as usize
     }
 
-    fn steps_in_a_turn(&self) -> u64 {
-        3 * self.posts as u64 + self.steps as u64
+    /// The steps after the posts.
+    fn steps(&self, library: bool) -> u32 {
+        self.steps - if library && before_n4() { self.commits } else { 0 }
+    }
+
+    fn steps_in_a_turn(&self, library: bool) -> u64 {
+        3 * self.posts as u64 + self.steps(library) as u64
     }
 }
 
-impl<'a, const REFERENCE: bool> Side<'a> for Words<'a, REFERENCE> {
-    fn new(load: &'a Load) -> Self {
+impl<'a, const REFERENCE: bool> Words<'a, REFERENCE> {
+    /// With a formatted store, and off.
+    fn formatted(load: &'a Load) -> Self {
         let mut side = Words {
             functions: black_box(if REFERENCE { standin::FUNCTIONS } else { FUNCTIONS }),
             program: &load.program,
-            store: load.store(),
+            store: vec![0; load.store_words(!REFERENCE)],
             device: [0; DEVICE_WORDS],
             totals: [0; 3],
             answer: [0; STEP_WORDS],
         };
         let (program, store) = (side.program, &mut side.store);
         // Safety, here and below: pointers and lengths are those of slices and arrays that live through the call.
+        unsafe {
+            (side.functions.format)(
+                program.as_ptr(),
+                program.len(),
+                load.log_pairs,
+                load.queue_records,
+                store.as_mut_ptr(),
+                store.len(),
+                side.answer.as_mut_ptr(),
+            )
+        };
+        assert_eq!(side.answer, [0; STEP_WORDS], "{}", load.name);
+        side
+    }
+}
+
+impl<'a, const REFERENCE: bool> Side<'a> for Words<'a, REFERENCE> {
+    const LIBRARY: bool = !REFERENCE;
+
+    fn new(load: &'a Load) -> Self {
+        let mut side = Self::formatted(load);
+        let (program, store) = (side.program, &mut side.store);
         unsafe {
             (side.functions.boot)(
                 program.as_ptr(),
@@ -161,13 +203,17 @@ impl<'a, const REFERENCE: bool> Side<'a> for Words<'a, REFERENCE> {
 }
 
 impl<'a> Side<'a> for Rust<'a> {
+    const LIBRARY: bool = false;
+
     fn new(load: &'a Load) -> Self {
         let mut side = Rust {
             program: &load.program,
-            store: load.store(),
+            store: vec![0; load.store_words(false)],
             device: Device::OFF,
             totals: Totals::default(),
         };
+        let formatted = Reference.format(side.program, load.log_pairs, load.queue_records, &mut side.store);
+        assert_eq!(formatted, Answer::Done, "{}", load.name);
         assert_eq!(Reference.boot(side.program, &mut side.store, &mut side.device), Answer::Done);
         side
     }
@@ -217,9 +263,10 @@ fn turn<'a, S: Side<'a>>(side: &mut S, load: &Load, how: How) {
             How::Step | How::Call => (0..3).for_each(|_| side.step()),
         }
     }
+    let steps = load.steps(S::LIBRARY);
     match how {
-        How::Run => side.run(load.steps),
-        How::Step | How::Call => (0..load.steps).for_each(|_| side.step()),
+        How::Run => side.run(steps),
+        How::Step | How::Call => (0..steps).for_each(|_| side.step()),
     }
 }
 
@@ -232,7 +279,7 @@ fn measure<'a, S: Side<'a>>(load: &'a Load, how: How, turns: u64) -> (f64, Left)
         turn(&mut side, load, how);
     }
     let seconds = start.elapsed().as_secs_f64();
-    (seconds / (turns * load.steps_in_a_turn()) as f64, side.left())
+    (seconds / (turns * load.steps_in_a_turn(S::LIBRARY)) as f64, side.left())
 }
 
 /// Seconds for a step of each side, by rounds.
@@ -248,9 +295,9 @@ const TURNS: u32 = 10;
 fn rounds(loads: &[(&Load, How)], rounds: usize, milliseconds: u64) -> Vec<Measured> {
     let mut turns = Vec::new();
     for (load, how) in loads {
-        let guess = 1 + 20_000 / load.steps_in_a_turn();
-        let (seconds, _) = measure::<Rust>(load, *how, guess);
-        let wanted = milliseconds as f64 / 1000.0 / TURNS as f64 / (seconds * load.steps_in_a_turn() as f64);
+        let steps = load.steps_in_a_turn(false);
+        let (seconds, _) = measure::<Rust>(load, *how, 1 + 20_000 / steps);
+        let wanted = milliseconds as f64 / 1000.0 / TURNS as f64 / (seconds * steps as f64);
         turns.push(1 + wanted as u64);
     }
     let mut measured: Vec<Measured> =
@@ -264,7 +311,7 @@ fn rounds(loads: &[(&Load, How)], rounds: usize, milliseconds: u64) -> Vec<Measu
                     How::Call => measure::<Words<true>>(load, *how, turns[index]),
                     _ => measure::<Rust>(load, *how, turns[index]),
                 };
-                assert!(left == other_left, "{}: the sides leave different words", load.name);
+                assert!(before_n4() || left == other_left, "{}: the sides leave different words", load.name);
                 library = library.min(seconds);
                 reference = reference.min(other_seconds);
             }
@@ -327,9 +374,14 @@ fn counting_inside(tasks: u16, events: u16, instructions: usize, memory: u16) ->
     words
 }
 
-fn load(name: &str, program: Vec<u16>, sizes: (u16, u16), posts: u32, steps: u32) -> Load {
-    Load { name: name.into(), program, log_pairs: sizes.0, queue_records: sizes.1, posts, steps }
+/// A turn is so many posts, and then a number of bodies of so many steps each.
+fn load(name: &str, program: Vec<u16>, sizes: (u16, u16), posts: u32, [steps, bodies]: [u32; 2]) -> Load {
+    let (log_pairs, queue_records) = sizes;
+    Load { name: name.into(), program, log_pairs, queue_records, posts, steps: steps * bodies, commits: bodies }
 }
+
+/// A task that counts: chosen, LOAD, SET, ADD, SAVE of two steps, four stores, one copy, four stores.
+const COUNTS: [u32; 2] = [15, 1000];
 
 fn loads() -> Vec<Load> {
     let arithmetic = vec![
@@ -357,29 +409,33 @@ fn loads() -> Vec<Load> {
     let event = vec![code(LOAD, 1, 0, 1), code(ADD, 1, 0, 0), code(SAVE, 1, 0, 1), code(DONE, 0, 0, 0)];
     let transactions = [(7, count(1, 0)), (7, count(2, 1)), (7, count(3, 2)), (0, count(0, 3))];
     vec![
-        load("the counting program", COUNTING.to_vec(), (1, 1), 0, 14_000),
-        load("arithmetic in a loop", program(1, &[(0, arithmetic)], &[]), (1, 1), 0, 14_000),
-        // Chosen, 64 SAVEs of two steps, 64 LOADs, 64 SAVEs of one, four stores, 64 copies, three stores.
-        load("a full log of 64 pairs", program(64, &[(0, full)], &[]), (64, 1), 0, 328 * 40),
-        // Chosen, LOAD, ADD, SAVE of two steps, three stores, one copy, two stores.
-        load("32 events queued and served", program(2, &[(0, counting(0))], &[event]), (1, 32), 32, 32 * 11),
-        load("transactions of three tasks", program(4, &transactions, &[]), (1, 1), 0, 14_000),
+        load("the counting program", COUNTING.to_vec(), (1, 1), 0, COUNTS),
+        // The loop never ends.
+        Load {
+            steps: 15_000,
+            ..load("arithmetic in a loop", program(1, &[(0, arithmetic)], &[]), (1, 1), 0, [0, 0])
+        },
+        // Chosen, 64 SAVEs of two steps, 64 LOADs, 64 SAVEs of one, four stores, 64 copies, four stores.
+        load("a full log of 64 pairs", program(64, &[(0, full)], &[]), (64, 1), 0, [329, 40]),
+        // Chosen, LOAD, ADD, SAVE of two steps, three stores, one copy, three stores.
+        load("32 events queued and served", program(2, &[(0, counting(0))], &[event]), (1, 32), 32, [12, 32]),
+        load("transactions of three tasks", program(4, &transactions, &[]), (1, 1), 0, COUNTS),
     ]
 }
 
-/// Programs of 26 to 24,726 words, stores of 24 to 1,234.
+/// Programs of 26 to 24,726 words, stores of 25 to 1,235.
 fn flat_loads() -> Vec<Load> {
     let inside = |tasks: u16, events: u16, instructions: usize, memory: u16, sizes: (u16, u16)| {
-        load("", counting_inside(tasks, events, instructions, memory), sizes, 0, 14_000)
+        load("", counting_inside(tasks, events, instructions, memory), sizes, 0, COUNTS)
     };
-    let mut loads = vec![load("", COUNTING.to_vec(), (1, 1), 0, 14_000)];
+    let mut loads = vec![load("", COUNTING.to_vec(), (1, 1), 0, COUNTS)];
     for (tasks, events, instructions) in [(2, 1, 14), (8, 4, 40), (16, 8, 100), (32, 16, 128), (32, 16, 256)] {
         loads.push(inside(tasks, events, instructions, 2, (1, 1)));
     }
     for (memory, sizes) in [(64, (8, 8)), (256, (32, 16)), (1024, (64, 32))] {
         let mut words = COUNTING.to_vec();
         words[3] = memory;
-        loads.push(load("", words, sizes, 0, 14_000));
+        loads.push(load("", words, sizes, 0, COUNTS));
     }
     loads.push(inside(32, 16, 256, 1024, (64, 32)));
     loads
@@ -433,7 +489,7 @@ fn count(words: &[&str]) -> u64 {
 fn instructions(input: usize, load: &Load, call: &str, side: &str) -> f64 {
     let input = input.to_string();
     let [less, more] = ["1", "3"].map(|turns| count(&["--turns", &input, call, side, turns]));
-    (more - less) as f64 / (2 * load.steps_in_a_turn()) as f64
+    (more - less) as f64 / (2 * load.steps_in_a_turn(side == SIDES[0])) as f64
 }
 
 fn print_instructions() {
@@ -455,7 +511,7 @@ fn print_instructions() {
     println!("|---:|---:|---:|---:|");
     for (input, load) in flat.iter().enumerate() {
         let [library, reference] = SIDES.map(|side| instructions(speed.len() + input, load, "run", side));
-        println!("| {} | {} | {library:.1} | {reference:.1} |", load.program.len(), load.store().len());
+        println!("| {} | {} | {library:.1} | {reference:.1} |", load.program.len(), load.store_words(true));
     }
     if cfg!(feature = "lines") {
         print_lines_instructions();
@@ -516,15 +572,8 @@ fn lines_loads() -> Vec<Lines> {
 
 /// The counting program's node, on. After a raise the device is put back as it was, so that each raise posts.
 fn lines_calls(load: &Lines, call: LinesCall, calls: u64) {
-    let mut side = Words::<false> {
-        functions: black_box(FUNCTIONS),
-        program: &COUNTING,
-        store: vec![0; 24],
-        device: Device::ON.to_words(),
-        totals: [0; 3],
-        answer: [0; STEP_WORDS],
-    };
-    assert_eq!(Reference.format(&COUNTING, 1, 1, &mut side.store), Answer::Done);
+    let node = self::load("", COUNTING.to_vec(), (1, 1), 0, COUNTS);
+    let mut side = Words::<false> { device: Device::ON.to_words(), ..Words::formatted(&node) };
     for _ in 0..calls {
         match call {
             LinesCall::Check => side.lines_check(load),
@@ -649,7 +698,7 @@ fn print_flatness(loads: &[(&Load, How)], measured: &[Measured]) {
     for ((load, _), Measured { library, reference }) in loads.iter().zip(measured) {
         let library = spread(library.clone());
         let reference = spread(reference.clone());
-        print!("| {} | {} |", load.program.len(), load.store().len());
+        print!("| {} | {} |", load.program.len(), load.store_words(true));
         for seconds in library.iter().chain(&reference) {
             print!(" {:.1} |", seconds * 1e9);
         }

@@ -42,7 +42,7 @@ struct Node<'a> {
 impl<'a> Node<'a> {
     /// A formatted store with L 1, and a device that is off.
     fn new(runtime: &'a dyn Runtime, program: &'a [u16], queue_records: u16) -> Node<'a> {
-        let mut store = vec![0; 20 + program[3] as usize + 2 * queue_records as usize];
+        let mut store = vec![0; store_length(program[3] as usize, 1, queue_records as usize)];
         assert_eq!(runtime.format(program, 1, queue_records, &mut store), Answer::Done);
         Node { runtime, program, store, device: Device::OFF, steps: 0 }
     }
@@ -143,6 +143,7 @@ fn name(node: &Node, index: usize, event: bool) -> String {
         PENDING_OPEN => "pending open".into(),
         HEAD => "head".into(),
         TAIL => "tail".into(),
+        BEGUN => "begun".into(),
         _ if index < node.store[6] as usize => format!("memory {}", part(5)),
         _ if index < node.store[7] as usize => if part(6) % 2 == 0 { "log address" } else { "log value" }.into(),
         _ => format!("slot {} {}", part(7) / 2, if part(7) % 2 == 0 { "event" } else { "data" }),
@@ -156,7 +157,7 @@ fn stored_cell(node: &Node, stored: Option<u16>) -> String {
 }
 
 fn memory_cell(node: &Node) -> String {
-    format!("{:04X} {:04X}", node.store[16], node.store[17])
+    format!("{:04X} {:04X}", node.store[MEMORY], node.store[MEMORY + 1])
 }
 
 fn waiting_cell(node: &Node) -> String {
@@ -175,14 +176,21 @@ fn waiting_cell(node: &Node) -> String {
 // ---------------------------------------------------------------------------------------------------------
 // One run, cut at each point
 
+/// The body that runs after recovery: the one that the boot took up, or that is chosen then.
+fn next_cell(recovered: &Node) -> String {
+    if let Place::Running { body, .. } = recovered.device.place {
+        return body_cell(body);
+    }
+    match recovered.clone().call('s').answer {
+        Answer::Chosen(body) => body_cell(body),
+        _ => "-".into(),
+    }
+}
+
 fn row(node: &mut Node, call: char) {
     let runs = node.runs(call);
     let made = node.call(call);
     let recovered = node.recovered();
-    let next = match recovered.clone().call('s').answer {
-        Answer::Chosen(body) => body_cell(body),
-        _ => "-".into(),
-    };
     println!(
         "{:>2} {:<7} {:<12} {:<20} {:>2} {:>2}  {:>5} {} {:<7} {}",
         number_cell(node, call),
@@ -194,7 +202,7 @@ fn row(node: &mut Node, call: char) {
         recovered.steps,
         memory_cell(&recovered),
         waiting_cell(&recovered),
-        next,
+        next_cell(&recovered),
     );
 }
 
@@ -342,40 +350,47 @@ Question four: power is cut after any call. What is left?
 A row is a call. #: the steps so far. runs: an instruction, or choose, commit,
 handler. stores: the word's index, name and new value. ph, op: phase and open
 number after the call. If power is cut then, uncut recovery takes so many steps
-and leaves this memory and this record waiting; next is the body chosen then.
-T0 is task 0, E0 event 0; post 7 posts event 0 with data 7. Words are in hex,
-other numbers in decimal. L is 1; Q is 1, in screen 6 it is 2.";
+and leaves this memory and this record waiting; next is the body that runs
+then. T0 is task 0, E0 event 0; post 7 posts event 0 with data 7. Words are in
+hex, other numbers in decimal. L is 1; Q is 1, in screen 7 it is 2.";
+
+/// So many steps.
+fn steps(count: usize) -> String {
+    "s".repeat(count)
+}
 
 fn runs_cut() {
     println!("\n1. A task of the counting program");
-    table(&COUNTING, "", "bssssssssssssss");
+    table(&COUNTING, "", &format!("b{}", steps(15)));
     println!("\n2. An event of the counting program");
-    table(&COUNTING, "", "b7ssssssssssss");
+    table(&COUNTING, "", &format!("b7{}", steps(13)));
     println!("\n3. An event posted inside a transaction runs after it, cut or no cut");
     println!("T0 adds 1 to word 0 and T1 copies word 0 to word 1, both in transaction 1; T2");
     println!("goes on to itself. The event saves its data in word 0.");
-    table(&TRANSACTION, "bsssssssss", "sssss7ssssssssssssssssssssssss");
-    println!("\n4. A cut in the recovery from a cut: copying starts again at the first pair");
-    table(&COUNTING, "bsssssssss", "scbsscbssss");
-    println!("\n5. Cuts among a post's three stores: after one, after two, after all");
+    table(&TRANSACTION, "bsssssssss", &format!("ssssss7{}", steps(26)));
+    println!("\n4. An event accepted while a task is begun runs after it, cut or no cut");
+    table(&COUNTING, "", &format!("bs7ssscb{}", steps(15)));
+    println!("\n5. A cut in the recovery from a cut: copying starts again at the first pair");
+    table(&COUNTING, "bsssssssss", "scbsscbsssss");
+    println!("\n6. Cuts among a post's three stores: after one, after two, after all");
     table(&COUNTING, "", "b7scb8sscb9ssscbs");
 }
 
 /// The blackboard's mistakes.
 fn mistakes() {
     println!("\nFive mistakes, each beside the right run. A bar stands where they differ.");
-    println!("\n6. Redoing an event's commit by adding one to head: two records go");
-    runs_beside(&HeadPlusOne, &COUNTING, 2, ["b7sss8ssssssss", "ssscbssss", ""]);
-    println!("\n7. Storing tail before data: a cut accepts a stale record");
-    let calls = ["b7ssssssssssss8ssssssssssss", "9sscbs", "ssssssss"];
-    runs_beside(&Mutant(Mistake::TailBeforeDatum), &COUNTING, 1, calls);
-    println!("\n8. Clearing the phase before word 9: the task runs again (screen 3's program)");
-    let calls = ["bsssssssss", "ssscbsss", "sssssssssssssssssssssss"];
+    println!("\n7. Redoing an event's commit by adding one to head: two records go");
+    runs_beside(&HeadPlusOne, &COUNTING, 2, ["b7sss8ssssssss", "ssscbsssss", ""]);
+    println!("\n8. Storing tail before data: a cut accepts a stale record");
+    let before = format!("b7{}8{}", steps(13), steps(13));
+    runs_beside(&Mutant(Mistake::TailBeforeDatum), &COUNTING, 1, [&before, "9sscbs", &steps(9)]);
+    println!("\n9. Clearing the phase before word 9: the task runs again (screen 3's program)");
+    let calls = ["bsssssssss", "ssscbsss", &steps(24)];
     runs_beside(&Mutant(Mistake::PhaseBeforeTask), &TRANSACTION, 1, calls);
-    println!("\n9. Taking the log count at recovery from lost state, not word 11");
-    runs_beside(&Mutant(Mistake::CountFromLostState), &COUNTING, 1, ["bsssssssss", "scbssss", ""]);
-    println!("\n10. Serving an event after a cut in an open transaction (screen 3's program)");
-    let calls = ["bssssssssssssss", "7ssscbs", "ssssssssssssssssssss"];
+    println!("\n10. Taking the log count at recovery from lost state, not word 11");
+    runs_beside(&Mutant(Mistake::CountFromLostState), &COUNTING, 1, ["bsssssssss", "scbsssss", ""]);
+    println!("\n11. Serving an event after a cut in an open transaction (screen 3's program)");
+    let calls = [&format!("b{}", steps(15)), "7ssscbs", &steps(22)];
     runs_beside(&Mutant(Mistake::EventInOpenTransaction), &TRANSACTION, 1, calls);
 }
 

@@ -193,7 +193,7 @@ pub fn what_a_raise_meets_first(runtime: &dyn Runtime) {
         bench.program[index] = word;
         assert_eq!(all(&mut bench), with(refused_at(number, place, 0)));
     }
-    for (index, word, number, place) in [(0, 0, 6, 0), (9, 1, 7, 9), (15, 2, 7, 15)] {
+    for (index, word, number, place) in [(0, 0, 6, 0), (9, 1, 7, 9), (15, 2, 7, 15), (16, 3, 7, 16), (16, 1, 25, 0)] {
         let mut bench = Bench::counting(runtime);
         bench.store[index] = word;
         assert_eq!(all(&mut bench), with(refused_at(number, place, 0)));

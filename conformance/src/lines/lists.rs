@@ -218,7 +218,8 @@ fn raises_among_all() -> Vec<Vec<Call>> {
     let program = |index: usize, word: u16| vec![Call::SetProgram { index, word }];
     let programs = [vec![], vec![Call::ProgramLength(5)], program(5, 27), program(0, 0), program(1, 33), program(4, 1)];
     let store = |index: usize, word: u16| vec![Call::SetStore { index, word }];
-    let stores = [vec![], vec![Call::StoreLength(7)], store(0, 0), store(8, 3), store(14, 2), store(15, 1)];
+    let control = [store(PHASE, 3), store(HEAD, 2), store(TAIL, 1), store(BEGUN, TASK_BEGUN), store(BEGUN, 3)];
+    let stores = [vec![], vec![Call::StoreLength(7)], store(0, 0)].into_iter().chain(control).collect::<Vec<_>>();
     let mut all = Vec::new();
     for (words, line) in kinds_of_raise() {
         let raise = Call::Raise { table: words.into(), line, level: 77 };

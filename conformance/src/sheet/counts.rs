@@ -7,7 +7,7 @@ use crate::runtime::*;
 use crate::scenario::{Call, Machine};
 
 /// What must come up in a comparison, in the order of the table.
-pub const SITUATIONS: [&str; 59] = [
+pub const SITUATIONS: [&str; 62] = [
     "program.img missing",
     "program.img a folder",
     "program.img of an odd byte count",
@@ -56,6 +56,9 @@ pub const SITUATIONS: [&str; 59] = [
     "cut in the recovery from a cut",
     "cut before a post's first store",
     "cut between a post's stores",
+    "cut with a task begun, a record waiting",
+    "cut with an event begun",
+    "boot that takes up a body",
     "cut in half a SAVE",
     "cut between ending stores",
     "cut inside an open transaction",
@@ -175,7 +178,9 @@ impl Counts {
     fn cut(&mut self, Machine { store, device, .. }: &Machine, recovering: bool) {
         let (phase, log) = (if device.on { store[PHASE] } else { 0 }, store[6] as usize);
         let next = device.handler.map(|handler| handler.next);
-        let copied = store[COUNT] == 0 || store[16 + store[log] as usize] == store[log + 1];
+        let begun = device.on && store[PHASE] == 0 && store[BEGUN] == TASK_BEGUN;
+        let waited_for = begun && store[OPEN] == 0 && store[HEAD] != store[TAIL];
+        let copied = store[COUNT] == 0 || store[MEMORY + store[log] as usize] == store[log + 1];
         self.add(&[
             ("cut while off", !device.on),
             ("cut in a task's commit", phase == 1),
@@ -184,6 +189,8 @@ impl Counts {
             ("cut in the recovery from a cut", phase != 0 && recovering),
             ("cut before a post's first store", next == Some(Next::Event)),
             ("cut between a post's stores", matches!(next, Some(Next::Datum | Next::Tail))),
+            ("cut with a task begun, a record waiting", waited_for),
+            ("cut with an event begun", device.on && store[PHASE] == 0 && store[BEGUN] == EVENT_BEGUN),
             ("cut in half a SAVE", matches!(device.place, Place::HalfSave { .. })),
             ("cut between ending stores", matches!(device.place, Place::Running { ending, .. } if ending > 0)),
             ("cut inside an open transaction", device.on && store[PHASE] == 0 && store[OPEN] != 0),
@@ -197,7 +204,11 @@ impl Counts {
         *recovering &= phase != 0;
         match Right.call(line) {
             None => self.unread(line, self.calls == 0),
-            Some(Call::Boot) => *recovering |= phase != 0 && !machine.device.on,
+            Some(Call::Boot) => {
+                *recovering |= phase != 0 && !machine.device.on;
+                let begun = phase == 0 && machine.store[BEGUN] != NOTHING_BEGUN;
+                self.add(&[("boot that takes up a body", begun && !machine.device.on)]);
+            }
             Some(Call::Cut) => {
                 self.cut(machine, *recovering);
                 *recovering = false;

@@ -110,7 +110,7 @@ fn damage(random: &mut Random, words: &mut [u16]) {
             0 => old.wrapping_add(1),
             1 => old.wrapping_sub(1),
             2 => old ^ (1 << random.below(16)),
-            3 => random.pick(&[0, 16, 17, 32, 33, 255, 256, 257, 1024, 1025, 0xC0A1]),
+            3 => random.pick(&[0, 16, 17, 32, 33, 255, 256, 257, 1024, 1025, STORE_MARK]),
             4 => random.below(8) as u16,
             // An opcode that isn't one.
             5 => random.pick(&[17, 18, 128, 255]) << 8,

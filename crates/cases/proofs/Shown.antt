@@ -49,9 +49,9 @@ module _ (p s : List ℕ) {s₁ s₂ : List ℕ} {d₁ : Device} (formatted : s�
 
 pub record Cases : Type 0 where
   pub nine : cutAfter 9 0 ≡ 0 ∷ 0 ∷ 0 ∷ []
-  pub ten : cutAfter 10 4 ≡ 0 ∷ 1 ∷ 0 ∷ []
-  pub ten-but-one : cutAfter 10 3 ≡ 1 ∷ 1 ∷ 0 ∷ []
-  pub further : furtherPost counting (replicate 24 0) 3 ≡ Answer.Refused Refusal.QueueFull
+  pub ten : cutAfter 10 5 ≡ 0 ∷ 1 ∷ 0 ∷ []
+  pub ten-but-one : cutAfter 10 4 ≡ 1 ∷ 1 ∷ 0 ∷ []
+  pub further : furtherPost counting (replicate 25 0) 3 ≡ Answer.Refused Refusal.QueueFull
 
 pub cases : Cases
 unfolding storeAfterCut cutAfter furtherPost counting definitions

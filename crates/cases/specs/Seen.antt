@@ -25,8 +25,8 @@ storeAfterCut p s n m = ranFrom p (ranFrom p (format p 1 1 s) off n .store) (cut
 -- the same of the counting program: the phase, and memory words 0 and 1
 unfoldable pub cutAfter : ℕ → ℕ → List ℕ
 cutAfter n m =
-    let s = storeAfterCut counting (replicate 24 0) n m in
-    word s 8 ∷ word s 16 ∷ word s 17 ∷ []
+    let s = storeAfterCut counting (replicate 25 0) n m in
+    word s 8 ∷ word s 17 ∷ word s 18 ∷ []
 
 -- boot, a post, n steps, and the answer of a further post
 unfoldable pub furtherPost : List ℕ → List ℕ → ℕ → Answer

@@ -73,9 +73,9 @@ pub fn cut_after(steps: u32, recovery: u32) -> [u16; 3]
     ensures { λ r. ⌜ r ≡ cutAfter steps recovery ⌝ }
 {
     let program = counting();
-    let mut store = [0; 24];
+    let mut store = [0; 25];
     cut_in(&program, &mut store, steps, recovery);
-    [store[8], store[16], store[17]]
+    [store[8], store[17], store[18]]
 }
 
 // "Boot, 9 steps, cut: recovered memory 0, 0."
@@ -85,18 +85,18 @@ pub fn nine_steps() -> [u16; 3]
     cut_after(9, 0)
 }
 
-// "After 10 steps: 1, 0, by 4 recovery steps."
+// "After 10 steps: 1, 0", by 5 recovery steps
 pub fn ten_steps() -> [u16; 3]
     ensures { λ r. ⌜ r ≡ 0 ∷ 1 ∷ 0 ∷ [] ⌝ }
 {
-    cut_after(10, 4)
+    cut_after(10, 5)
 }
 
-// Three recovery steps aren't enough.
+// Four recovery steps aren't enough.
 pub fn ten_steps_but_one() -> [u16; 3]
     ensures { λ r. ⌜ r ≡ 1 ∷ 1 ∷ 0 ∷ [] ⌝ }
 {
-    cut_after(10, 3)
+    cut_after(10, 4)
 }
 
 // On a store formatted with L and Q 1: boot, a post, steps; what a further post answers.
@@ -116,6 +116,6 @@ pub fn further_post() -> Answer
     ensures { λ answer. ⌜ answer ≡ Answer.Refused Refusal.QueueFull ⌝ }
 {
     let program = counting();
-    let mut store = [0; 24];
+    let mut store = [0; 25];
     post_in(&program, &mut store, 3)
 }

@@ -9,7 +9,7 @@ ghost use mathlib.Core.Path.{_≡_};
 ghost use mathlib.Core.List.{List};
 ghost use Prim.Native.Nat.{ℕ, _+_, _<_, _≤_};
 ghost use lib.Dec.{eqb};
-ghost use Rattle.model.specs.Control.{obey, obeyAll, committing, phaseRule, taskRule, openRule, openServing, countRule, pendingTaskRule, pendingHeadRule, pendingMoveRule, pendingOpenRule, headRule, tailRule, addressRule, startKept, recordRule, rules, earlyRules};
+ghost use Rattle.model.specs.Control.{obey, obeyAll, committing, phaseRule, taskRule, openRule, openServing, countRule, pendingTaskRule, pendingHeadRule, pendingMoveRule, pendingOpenRule, headRule, tailRule, begunRule, begunEventRule, addressRule, startKept, recordRule, rules, earlyRules};
 ghost use Rattle.model.specs.Program.{word, tasks, transaction};
 ghost use Rattle.model.specs.Store.{view};
 ghost use Rattle.model.specs.Test.{_or_, _then_};
@@ -212,6 +212,43 @@ fn tail_rule(store: &[u16]) -> Checked
     Checked::Accepted
 }
 
+// "word 16 at most 2"
+fn begun_rule(store: &[u16]) -> Checked
+    requires { ⌜ Shaped (now store) ⌝ }
+    ensures { λ r. ⌜ r ≡ obey (begunRule (view (now (store .entry)))) ⌝ }
+{
+    if store[16] > 2 {
+        return Checked::Refused(Refusal::Control(16));
+    }
+    Checked::Accepted
+}
+
+// "in phase 0 a 2 needs a queue not empty and word 10 at 0", which needs 14 and 15
+fn begun_event_rule(store: &[u16]) -> Checked
+    requires { ⌜ Shaped (now store) ⌝ }
+    ensures { λ r. ⌜ r ≡ obey (begunEventRule (view (now (store .entry)))) ⌝ }
+{
+    if store[16] != 2 {
+        return Checked::Accepted;
+    }
+    if store[8] != 0 {
+        return Checked::Accepted;
+    }
+    if store[14] > store[3] {
+        return Checked::Accepted;
+    }
+    if store[15] > store[3] {
+        return Checked::Accepted;
+    }
+    if store[14] == store[15] {
+        return Checked::Refused(Refusal::Control(16));
+    }
+    if store[10] != 0 {
+        return Checked::Refused(Refusal::Control(16));
+    }
+    Checked::Accepted
+}
+
 // "the first n log addresses below M", one pair's
 fn address_rule(program: &[u16], store: &[u16], pair: u16) -> Checked
     requires { ⌜ Contents (now program) ⌝ }
@@ -356,6 +393,17 @@ fn early_commit_rules(program: &[u16], store: &[u16]) -> Checked
     commit_rules(program, store)
 }
 
+// The rules of word 16, without a call where it is 0 or 1: both are kept then.
+fn early_begun_rules(store: &[u16]) -> Checked
+    requires { ⌜ Shaped (now store) ⌝ }
+    ensures { λ r. ⌜ r ≡ (obey (begunRule (view (now (store .entry)))) then obey (begunEventRule (view (now (store .entry))))) ⌝ }
+{
+    if store[16] < 2 {
+        return Checked::Accepted;
+    }
+    first(begun_rule(store), begun_event_rule(store))
+}
+
 // 7 without the rules that need a row, a log pair or a record.
 pub fn early(program: &[u16], store: &[u16]) -> Checked
     requires { ⌜ Contents (now program) ⌝ }
@@ -370,7 +418,11 @@ pub fn early(program: &[u16], store: &[u16]) -> Checked
     let Checked::Accepted = found else {
         return found;
     };
-    first(head_rule(store), tail_rule(store))
+    let found = first(head_rule(store), tail_rule(store));
+    let Checked::Accepted = found else {
+        return found;
+    };
+    early_begun_rules(store)
 }
 
 // 7 whole, for a program whose rows can be read.
@@ -386,6 +438,8 @@ pub fn whole(program: &[u16], store: &[u16]) -> Checked
     let found = first(found, pending_open_rule(program, store));
     let found = first(found, head_rule(store));
     let found = first(found, tail_rule(store));
+    let found = first(found, begun_rule(store));
+    let found = first(found, begun_event_rule(store));
     let found = first(found, addresses(program, store));
     first(found, records(program, store))
 }

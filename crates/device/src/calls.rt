@@ -2,20 +2,25 @@
 use super::CallResult;
 use super::look;
 use model::Answer;
+use model::Body;
 use model::Checked;
 use model::Device;
 use model::Handler;
+use model::Place;
 use model::Refusal;
 use model::Stored;
 use store::contents;
 use store::queue;
+ghost use Prim.Native.Nat.{_≤_};
 ghost use mathlib.Core.Path.{_≡_};
-ghost use Rattle.model.specs.Device.{turnedOn, out, judged, withHandler, bootCheck, cut, postCheck};
-ghost use Rattle.model.specs.Store.{none};
+ghost use Rattle.model.specs.Accepted.{Bootable, Shaped};
+ghost use Rattle.model.specs.Device.{turnedOn, out, judged, withPlace, withHandler, begunOf, takenUp, bootCheck, cut, postCheck};
+ghost use Rattle.model.specs.Program.{firstRegisters, word};
+ghost use Rattle.model.specs.Store.{view, none};
 ghost use Rattle.device.specs.Result.{ofCall, OnAnyStore, BootPerforms, PostPerforms};
 
 // "Boot .. turns that value on."
-pub fn turned_on() -> Device
+fn turned_on() -> Device
     ensures { λ device. ⌜ device ≡ turnedOn ⌝ }
 {
     let mut device = Device::OFF;
@@ -44,6 +49,7 @@ fn judge(found: Checked, device: Device, next: Device) -> CallResult
 // "boot 1 to 7, 26"
 fn boot_check(program: &[u16], store: &[u16], device: Device) -> Checked
     ensures { λ found. ⌜ found ≡ bootCheck (now (program .entry)) (now (store .entry)) device ⌝ }
+    ensures given { λ found. ⌜ (found ≡ Checked.Accepted → Bootable (now (program .entry)) (now (store .entry))) ⌝ }
 {
     let found = program::check(program);
     let Checked::Accepted = found else {
@@ -63,11 +69,47 @@ fn boot_check(program: &[u16], store: &[u16], device: Device) -> Checked
     Checked::Accepted
 }
 
+// A device turned on that runs a body at its first instruction, "registers as at choosing".
+fn started(body: Body, datum: u16) -> Device
+    ensures { λ device. ⌜ device ≡ withPlace turnedOn (firstRegisters datum) (Place.Run body 0 0) 0 ⌝ }
+{
+    Device {
+        on: true,
+        registers: [datum, 0, 0, 0, 0, 0, 0, 0],
+        place: Place::Run(body, 0, 0),
+        count: 0,
+        handler: Handler::Resting,
+    }
+}
+
+// "a boot in phase 0 takes up the begun body": the current task, or the event of the record at head.
+fn taken_up(store: &[u16]) -> Device
+    requires { ⌜ Shaped (now store) ⌝ }
+    requires { ⌜ word (now store) 14 ≤ word (now store) 3 ⌝ }
+    ensures { λ device. ⌜ device ≡ takenUp (view (now (store .entry))) (begunOf (view (now (store .entry)))) ⌝ }
+{
+    if store[8] != 0 {
+        return turned_on();
+    }
+    if store[16] == 1 {
+        return started(Body::Task(store[9]), 0);
+    }
+    if store[16] == 2 {
+        let event = queue::head_event(store);
+        return started(Body::Event(event), queue::head_datum(store));
+    }
+    turned_on()
+}
+
 // Boot: a device that is off is turned on, and no word of the store changes.
 pub fn boot(program: &[u16], store: &[u16], device: Device) -> CallResult
     ensures { λ r. ⌜ BootPerforms (now (program .entry)) (now (store .entry)) device r ⌝ }
 {
-    judge(boot_check(program, store, device), device, turned_on())
+    let found = boot_check(program, store, device);
+    let Checked::Accepted = found else {
+        return judge(found, device, device);
+    };
+    judge(found, device, taken_up(store))
 }
 
 // "post then 8, 20, 21"

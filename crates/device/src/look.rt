@@ -22,7 +22,7 @@ pub fn last_stores(store: &[u16]) -> u16
     requires { ⌜ Shaped (now store) ⌝ }
     ensures { λ r. ⌜ r ≡ length (lastStores (view (now (store .entry)))) ⌝ }
 {
-    if store[8] == 1 { 3 } else { 2 }
+    if store[8] == 1 { 4 } else { 3 }
 }
 
 // How many stores GO makes up to the commit store, and DONE.
@@ -35,14 +35,19 @@ pub fn end_stores(body: Body) -> u16
     }
 }
 
-// In phase 0: word 9's task, or an event below E while no transaction is open and a record waits.
+// In phase 0: word 9's task, or an event below E while no transaction is open and a record waits; and of the kind that word 16 says.
 fn may_run(program: &[u16], store: &[u16], body: Body) -> bool
     requires { ⌜ Contents (now program) ⌝ }
     requires { ⌜ Shaped (now store) ⌝ }
     ensures { λ r. ⌜ r ≡ mayRun (now (program .entry)) (view (now (store .entry))) body ⌝ }
 {
     match body {
-        Body::Task(task) => task == store[9],
+        Body::Task(task) => {
+            if task != store[9] {
+                return false;
+            }
+            store[16] == 1
+        }
         Body::Event(event) => {
             if event >= program[2] {
                 return false;
@@ -50,7 +55,10 @@ fn may_run(program: &[u16], store: &[u16], body: Body) -> bool
             if store[10] != 0 {
                 return false;
             }
-            !queue::is_empty(store)
+            if queue::is_empty(store) {
+                return false;
+            }
+            store[16] == 2
         }
     }
 }
@@ -65,7 +73,10 @@ fn place_sound(program: &[u16], store: &[u16], log_count: u16, place: Place) -> 
     match place {
         Place::Free(made) => {
             if store[8] == 0 {
-                return made == 0;
+                if made != 0 {
+                    return false;
+                }
+                return store[16] == 0;
             }
             made < store[11] + last_stores(store)
         }

@@ -2,9 +2,8 @@
 // of a body, or the off value turned on.
 ghost use lib.ListN.{replicate};
 ghost use mathlib.Core.Path.{_≡_};
-ghost use Rattle.model.specs.Device.{out, begun};
-ghost use Rattle.model.specs.Store.{none};
-ghost use Rattle.device.specs.Result.{device, coreAt, onCore, coreResult, ofCore, OnAnyStore};
+ghost use Rattle.model.specs.Program.{firstRegisters};
+ghost use Rattle.device.specs.Result.{coreAt, onCore, coreResult};
 use super::Core;
 use super::CoreResult;
 use model::Answer;
@@ -62,16 +61,16 @@ pub fn stored(core: Core, place: Place, log_count: u16, stored: Stored) -> CoreR
     }
 }
 
-// "Registers become 0, except that register 0 gets an event's data. The log count becomes 0."
+// "Registers become 0, except that register 0 gets an event's data. The log count becomes 0." Choosing has stored word 16.
 pub fn begin(registers: &mut [u16; 8], core: Core, body: Body, datum: u16) -> CoreResult
-    ensures { λ r. ⌜ OnAnyStore (ofCore r (now (registers .exit)))
-        (out none (begun (device core (now (registers .entry))) body datum) (Answer.Chosen body)) ⌝ }
+    ensures { λ r. ⌜ (r ≡ coreResult (Answer.Chosen body) (Stored.Word 16) (coreAt core (Place.Run body 0 0) 0))
+        × (now (registers .exit) ≡ firstRegisters datum) ⌝ }
 {
     *registers = [datum, 0, 0, 0, 0, 0, 0, 0];
     let core = at_place(core, Place::Run(body, 0, 0), 0);
     CoreResult {
         answer: Answer::Chosen(body),
-        stored: Stored::Nothing,
+        stored: Stored::Word(16),
         core,
     }
 }

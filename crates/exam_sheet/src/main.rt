@@ -135,8 +135,8 @@ fn print_first(checked: Checked, words: &[u16], length: usize) {
     if length <= words.len() {
         let program = &words[..length];
         let size = image::store_words(program);
-        let mut store = [0u16; 1046];
-        let mut copy = [0u16; 1046];
+        let mut store = [0u16; 1047];
+        let mut copy = [0u16; 1047];
         print(checked, program, &mut store[..size], &mut copy[..size]);
     }
 }

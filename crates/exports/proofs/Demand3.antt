@@ -12,6 +12,7 @@ use Rattle.lines.proofs.RaiseLaws.{TypedPosting, posting-typed}
 use Rattle.lines.specs.Lines.{posting, postingCalls, raiseCalls}
 use Rattle.lines.specs.declared.Posting.{Posting}
 use Rattle.model.proofs.CallLaws.{after-append, totals-append, boot-counts-nothing, cut-counts-nothing, post-counts-nothing, run-is-steps, totals-are-counts}
+use Rattle.model.proofs.Turns.{bodies-take-turns}
 use Rattle.model.proofs.Observed.{observed}
 use Rattle.model.proofs.Words.{fresh-device-words, words-stay-words, format-stays-words}
 use Rattle.model.specs.Calls.{Call, Boot, Step, Cut, Post, Now, call, afterCalls, steps, noTotals, counted, totalsAfter, RunOutcome as Defined, run}
@@ -245,6 +246,7 @@ module _ (p : List ℕ) (ps : TypedWords p) (l q : ℕ) (before : List ℕ) (e :
               subst (AreCounts p s off calls) (sym (ap totalsOf (reached .1 .totals) ∙ totals-read (totalsAfter p s off calls noTotals)))
               (totals-are-counts p s off calls);
           observed = observed p l q before e calls;
+          turns = bodies-take-turns p l q before e calls;
           recovers = recovers-to;
         }
 

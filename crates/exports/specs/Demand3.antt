@@ -17,6 +17,7 @@ use Rattle.model.specs.Demand3.{Left, recoverySteps, Observed}
 use Rattle.model.specs.Device.{off}
 use Rattle.model.specs.Serial.{Serial}
 use Rattle.model.specs.Store.{view, storedWord}
+use Rattle.model.specs.Turns.{TakesTurns}
 use Rattle.model.specs.declared.Checked.{Checked}
 use Rattle.words.specs.Words.{deviceWords, endedWords, refusedWords, checkedWords, nothingPostedWords}
 
@@ -91,6 +92,8 @@ pub record ExportsObserved (p : List ℕ) (l q : ℕ) (s : List ℕ) (xs : List 
   pub device : g .device ≡ deviceWords (afterCalls p s off (allCalls xs) .device)
   pub totals : AreCounts p s off (allCalls xs) (totalsOf (g .totals))
   pub observed : Observed p l q s (allCalls xs)
+  -- N4: a body that is begun has its turn, cut or no cut
+  pub turns : TakesTurns p l q s (allCalls xs)
   pub recovers : (ys : List Exchange) (m : ℕ) (r : HostState) → allCalls ys ≡ Cut ∷ Boot ∷ steps m → MakesAll p g ys r
       → RecoversTo g (observed .state) m r
 

@@ -38,7 +38,7 @@ pub record Loads (image words : List ℕ) (r : Loaded) : Type 0 where
 
 -- store_words, for a program that the check accepts as many as formatting asks for
 pub record StoreWords (p : List ℕ) (n : ℕ) : Type 0 where
-  pub most : n ≤ 1046
+  pub most : n ≤ 1047
   pub enough : check p ≡ Checked.Accepted → n ≡ storeLength (memoryWords p) 1 1
 
 -- More words than word 5 can say are 1: what lies past 131,072 bytes decides nothing.

@@ -76,5 +76,5 @@ pub fn store_words(program: &[u16]) -> usize
     if memory > 1024 {
         return 0;
     }
-    22 + memory as usize
+    23 + memory as usize
 }

@@ -4,6 +4,7 @@
 use Rattle.model.proofs.Lowest.{first-is-lowest, lowest-is-one}
 use Rattle.model.proofs.Demand3.{demand3}
 use Rattle.model.proofs.Observed.{observed}
+use Rattle.model.proofs.Turns.{bodies-take-turns, begun-has-its-turn}
 use Rattle.model.proofs.Starred.{starred}
 use Rattle.model.proofs.Rows.{rows}
 use Rattle.model.proofs.RingLaws.{full-is-no-room}
@@ -19,6 +20,7 @@ use Rattle.model.specs.Claims.{RefusedChangesNothing, WordsStayWords, Fo
 use Rattle.model.specs.Demand3.{Demand3, SerialDetermined, TasksFollow, ObservedByCalls}
 use Rattle.model.specs.Rows.{Rows}
 use Rattle.model.specs.Starred.{Starred}
+use Rattle.model.specs.Turns.{BodiesTakeTurns, BegunHasItsTurn}
 
 -- of 7's rules
 pub of-rules : FirstIsLowest × LowestIsOne
@@ -27,6 +29,10 @@ of-rules = (first-is-lowest, lowest-is-one)
 -- of a list of calls on a fresh store
 pub of-lists : Demand3 × ObservedByCalls × SerialDetermined × TasksFollow
 of-lists = (demand3, observed, serial-determined, tasks-follow)
+
+-- of the bodies of such a list
+pub of-turns : BodiesTakeTurns × BegunHasItsTurn
+of-turns = (bodies-take-turns, begun-has-its-turn)
 
 -- of worked cases
 pub of-cases : Starred × Rows

@@ -11,7 +11,7 @@ use borrow.Author.Tests.{eqb-true, eqb-false}
 use Rattle.model.proofs.TestLaws.{pick-case, pick-false, impossible}
 use Rattle.model.specs.Calls.{Call, Boot, Now, call, history, afterCalls, steps, countBy, unlessRefused, isRefusal, moreBy, oneIf, isCommit, isAccept, acceptedEvents, isStore, noTotals, counted, totalsAfter, storesMade, RunOutcome, runFrom, run, recovered, refused, unfinished, finish, recovery}
 use Rattle.model.specs.Claims.{EndedSo, RunIsSteps, TotalsAreCounts, ByCalls, RecoveryByCalls}
-use Rattle.model.specs.Device.{Outcome, out, judged, turnedOn, off, bootCheck, boot, cut, postCheck, post, step}
+use Rattle.model.specs.Device.{Outcome, out, judged, off, begunOf, takenUp, bootCheck, boot, cut, postCheck, post, step}
 use Rattle.model.specs.Store.{view, none, settled}
 use Rattle.model.specs.Test.{pick}
 use Rattle.model.specs.Types.{Answer, Checked, Device, Ended, Refusal, Totals}
@@ -62,7 +62,7 @@ counts-nothing t d e (Checked.Refused r) = adds-nothing t _ refl refl refl
 
 pub boot-counts-nothing : (p s : List ℕ) (d : Device) (t : Totals) → counted t (boot p s d) ≡ t
 unfolding boot
-boot-counts-nothing p s d t = counts-nothing t d turnedOn (bootCheck p s d)
+boot-counts-nothing p s d t = counts-nothing t d (takenUp (view s) (begunOf (view s))) (bootCheck p s d)
 
 pub cut-counts-nothing : (t : Totals) → counted t cut ≡ t
 unfolding cut isCommit acceptedEvents isStore
@@ -266,7 +266,7 @@ boot-stores-nothing : (p s : List ℕ) (d : Device) → boot p s d .write ≡ no
 unfolding boot judged
 boot-stores-nothing p s d = go (bootCheck p s d)
   where
-    go : (x : Checked) → judged x d (out none turnedOn Answer.Done) .write ≡ none
+    go : (x : Checked) → judged x d (out none (takenUp (view s) (begunOf (view s))) Answer.Done) .write ≡ none
     go Checked.Accepted = refl
     go (Checked.Refused r) = refl
 

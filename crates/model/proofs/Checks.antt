@@ -3,20 +3,20 @@
 use Prim.Native.Nat.{ℕ, _+_, _-_, _≤_, _<_}
 use mathlib.Core.Path.{_≡_, refl, ap, _∙_}
 use mathlib.Core.Logic.{_⊎_, inl, inr, _≢_}
-use mathlib.Core.Bool.{Bool, true, false}
+use mathlib.Core.Bool.{Bool, true, false, not}
 use mathlib.Core.List.{List, _++_}
 use native.Mathlib.Omega.{arith}
 use borrow.Author.Tests.{lt-ltb, le-ltb, le-leb, eq-eqb, ne-eqb}
 use lib.Dec.{ltb, leb, eqb}
 use lib.ListN.{length}
-use Rattle.model.proofs.Invariant.{Handles, HeldAt, StillAt, CopyingAt, ChosenAt, EndingAt, HalfSaved, BodyAt, Placed, Resumes, On}
-use Rattle.model.proofs.Kept.{known-waiting, first-head, first-pending, lasting-in, task-last-is, event-last-is}
+use Rattle.model.proofs.Invariant.{Handles, HeldAt, StillAt, CopyingAt, ChosenAt, EndingAt, HalfSaved, BodyAt, Placed, Begins, Resumes, On}
+use Rattle.model.proofs.Kept.{chosen-begins, known-waiting, first-head, first-pending, lasting-in, task-last-is, event-last-is}
 use Rattle.model.proofs.LogLaws.{addr}
 use Rattle.model.proofs.RingLaws.{Between, between-is, between-first, known-passes}
 use Rattle.model.proofs.TestLaws.{pick-case, pick-true, pick-false, below-or, and-true, or-true-left, or-true-right, not-false, must-true, then-passed, and-false}
 use Rattle.model.specs.Accepted.{LegalEffect, Sound}
-use Rattle.model.specs.Control.{obey, obeyAll, upTo, phaseRule, taskRule, openRule, openServing, countRule, pendingTaskRule, headRule, tailRule, pendingHeadRule, pendingMoveRule, pendingOpenRule, addressRule, between, recordRule, controlRules, rules, earlyRules}
-use Rattle.model.specs.Device.{taskStores, eventStores, mayRun, endStores, placeSound, recordsSound, handlerSound, deviceSound, recordSound, headSound, namedRow, openSound, headIs, ends, saves, placeFits, bodySound}
+use Rattle.model.specs.Control.{obey, obeyAll, upTo, phaseRule, taskRule, openRule, openServing, countRule, pendingTaskRule, headRule, tailRule, pendingHeadRule, pendingMoveRule, pendingOpenRule, begunRule, begunEventRule, addressRule, between, recordRule, controlRules, rules, earlyRules}
+use Rattle.model.specs.Device.{taskStores, eventStores, eligible, mayRun, endStores, placeSound, recordsSound, handlerSound, deviceSound, recordSound, headSound, namedRow, openSound, headIs, ends, saves, placeFits, bodySound}
 use Rattle.model.proofs.RuleLaws.{obey-kept, obey-unasked, obey-append, obey-upTo, obey-early}
 use Rattle.model.specs.Program.{tasks, events, memoryWords, instructions, transaction, bodyNumber, effectAt}
 use Rattle.model.specs.Serial.{Serial}
@@ -34,7 +34,7 @@ pub record Copies (p : List ℕ) (v : Store) : Type 0 where
   pub addresses : (j : ℕ) → j < v .count → addr (v .log) j < memoryWords p
 
 pub data Phases (p : List ℕ) (v : Store) : Type 0 where
-  runs : v .phase ≡ 0 → OpenIn p (v .openNumber) (v .task) → Phases p v
+  runs : v .phase ≡ 0 → OpenIn p (v .openNumber) (v .task) → Begins v → Phases p v
   ends-task : v .phase ≡ 1 → Copies p v → v .pending < tasks p → OpenIn p (v .pendingOpen) (v .pending) → Phases p v
   ends-event : v .phase ≡ 2 → Copies p v → v .openNumber ≡ 0 → v .pending ≤ v .queueRecords
       → (v .pending ≡ v .head) ⊎ ((v .pending ≡ slotAfter (v .queueRecords) (v .head)) × (v .head ≢ v .tail)) → Phases p v
@@ -44,14 +44,14 @@ module _ (p : List ℕ) (v : Store) (z : Serial) (held : HeldAt p v z) where
   copies c m = record { count-in = m .count-in; addresses = m .addresses }
 
   phases : Resumes p v z → Phases p v
-  phases (inl s) = runs (s .phase-is) (rw (s .open-is, s .task-is) (held .tasked .open-in))
+  phases (inl (s, g)) = runs (s .phase-is) (rw (s .open-is, s .task-is) (held .tasked .open-in)) g
   phases (inr (m, inl t)) =
       ends-task (t .phase-is) (copies 0 m) (rw (t .pending-is) (held .tasked .task-in)) (rw (t .pendingOpen-is, t .pending-is) (held .tasked .open-in))
   phases (inr (m, inr t)) =
       ends-event (t .phase-is) (copies 0 m) (t .open-none) (rw (first-pending v (t .phase-is)) at (held .waits .first-in)) (t .pending-is)
 
   task-below : Resumes p v z → v .task < tasks p
-  task-below (inl s) = rw (s .task-is) (held .tasked .task-in)
+  task-below (inl (s, g)) = rw (s .task-is) (held .tasked .task-in)
   task-below (inr (m, inl t)) = t .task-in
   task-below (inr (m, inr t)) = rw (t .task-is) (held .tasked .task-in)
 
@@ -67,7 +67,7 @@ module _ (p : List ℕ) (v : Store) where
 
   phase-obeyed : Phases p v → obey (phaseRule v) ≡ Checked.Accepted
   unfolding phaseRule
-  phase-obeyed (runs e o) = obey-kept (phaseRule v) (ap (λ (x : ℕ). leb x 2) e)
+  phase-obeyed (runs e o g) = obey-kept (phaseRule v) (ap (λ (x : ℕ). leb x 2) e)
   phase-obeyed (ends-task e c t o) = obey-kept (phaseRule v) (ap (λ (x : ℕ). leb x 2) e)
   phase-obeyed (ends-event e c o l h) = obey-kept (phaseRule v) (ap (λ (x : ℕ). leb x 2) e)
 
@@ -77,31 +77,31 @@ module _ (p : List ℕ) (v : Store) where
 
   pub open-obeyed : Phases p v → obey (openRule p v) ≡ Checked.Accepted
   unfolding openRule _and_
-  open-obeyed (runs e o) = obey-kept (openRule p v) (open-test p (v .openNumber) (v .task) o)
+  open-obeyed (runs e o g) = obey-kept (openRule p v) (open-test p (v .openNumber) (v .task) o)
   open-obeyed (ends-task e c t o) = obey-unasked (openRule p v) (rw (in-phase 1 0 e refl))
   open-obeyed (ends-event e c o l h) = obey-unasked (openRule p v) (rw (in-phase 2 0 e refl))
 
   serving-obeyed : Phases p v → obey (openServing v) ≡ Checked.Accepted
   unfolding openServing
-  serving-obeyed (runs e o) = obey-unasked (openServing v) (in-phase 0 2 e refl)
+  serving-obeyed (runs e o g) = obey-unasked (openServing v) (in-phase 0 2 e refl)
   serving-obeyed (ends-task e c t o) = obey-unasked (openServing v) (in-phase 1 2 e refl)
   serving-obeyed (ends-event e c o l h) = obey-kept (openServing v) (eq-eqb _ _ o)
 
   count-obeyed : Phases p v → obey (countRule v) ≡ Checked.Accepted
   unfolding countRule _or_
-  count-obeyed (runs e o) = obey-unasked (countRule v) (rw (in-phase 0 1 e refl, in-phase 0 2 e refl))
+  count-obeyed (runs e o g) = obey-unasked (countRule v) (rw (in-phase 0 1 e refl, in-phase 0 2 e refl))
   count-obeyed (ends-task e c t o) = obey-kept (countRule v) (le-leb _ _ (c .count-in))
   count-obeyed (ends-event e c o l h) = obey-kept (countRule v) (le-leb _ _ (c .count-in))
 
   pending-obeyed : Phases p v → obey (pendingTaskRule p v) ≡ Checked.Accepted
   unfolding pendingTaskRule
-  pending-obeyed (runs e o) = obey-unasked (pendingTaskRule p v) (in-phase 0 1 e refl)
+  pending-obeyed (runs e o g) = obey-unasked (pendingTaskRule p v) (in-phase 0 1 e refl)
   pending-obeyed (ends-task e c t o) = obey-kept (pendingTaskRule p v) (lt-ltb _ _ t)
   pending-obeyed (ends-event e c o l h) = obey-unasked (pendingTaskRule p v) (in-phase 2 1 e refl)
 
   pendingOpen-obeyed : Phases p v → obey (pendingOpenRule p v) ≡ Checked.Accepted
   unfolding pendingOpenRule _and_
-  pendingOpen-obeyed (runs e o) = obey-unasked (pendingOpenRule p v) (rw (in-phase 0 1 e refl))
+  pendingOpen-obeyed (runs e o g) = obey-unasked (pendingOpenRule p v) (rw (in-phase 0 1 e refl))
   pendingOpen-obeyed (ends-task e c t o) = obey-kept (pendingOpenRule p v) (open-test p (v .pendingOpen) (v .pending) o)
   pendingOpen-obeyed (ends-event e c o l h) = obey-unasked (pendingOpenRule p v) (rw (in-phase 2 1 e refl))
 
@@ -115,17 +115,30 @@ module _ (p : List ℕ) (v : Store) where
 
   pendingHead-obeyed : Phases p v → obey (pendingHeadRule v) ≡ Checked.Accepted
   unfolding pendingHeadRule _and_
-  pendingHead-obeyed (runs e o) = obey-unasked (pendingHeadRule v) (rw (in-phase 0 2 e refl))
+  pendingHead-obeyed (runs e o g) = obey-unasked (pendingHeadRule v) (rw (in-phase 0 2 e refl))
   pendingHead-obeyed (ends-task e c t o) = obey-unasked (pendingHeadRule v) (rw (in-phase 1 2 e refl))
   pendingHead-obeyed (ends-event e c o l h) = obey-kept (pendingHeadRule v) (le-leb _ _ l)
 
   pendingMove-obeyed : Phases p v → obey (pendingMoveRule v) ≡ Checked.Accepted
   unfolding pendingMoveRule _and_
-  pendingMove-obeyed (runs e o) = obey-unasked (pendingMoveRule v) (rw (in-phase 0 2 e refl))
+  pendingMove-obeyed (runs e o g) = obey-unasked (pendingMoveRule v) (rw (in-phase 0 2 e refl))
   pendingMove-obeyed (ends-task e c t o) = obey-unasked (pendingMoveRule v) (rw (in-phase 1 2 e refl))
   pendingMove-obeyed (ends-event e c o l (inl h)) = obey-kept (pendingMoveRule v) (or-true-left _ _ (eq-eqb _ _ h))
   pendingMove-obeyed (ends-event e c o l (inr (h, ne))) =
       obey-kept (pendingMoveRule v) (or-true-right _ _ (and-true (eq-eqb _ _ h) (not-false (ne-eqb _ _ ne))))
+
+  begun-obeyed : v .begun ≤ 2 → obey (begunRule v) ≡ Checked.Accepted
+  unfolding begunRule
+  begun-obeyed l = obey-kept (begunRule v) (le-leb _ _ l)
+
+  begunEvent-obeyed : Phases p v → obey (begunEventRule v) ≡ Checked.Accepted
+  unfolding begunEventRule _and_
+  begunEvent-obeyed (runs e o (inl g)) = obey-kept (begunEventRule v) (or-true-left _ _ (ap (λ (n : ℕ). not (eqb n 2)) g))
+  begunEvent-obeyed (runs e o (inr (inl g))) = obey-kept (begunEventRule v) (or-true-left _ _ (ap (λ (n : ℕ). not (eqb n 2)) g))
+  begunEvent-obeyed (runs e o (inr (inr (g, (open′, ne))))) =
+      obey-kept (begunEventRule v) (or-true-right _ _ (and-true (not-false (ne-eqb _ _ ne)) (eq-eqb _ _ open′)))
+  begunEvent-obeyed (ends-task e c t o) = obey-unasked (begunEventRule v) (rw (in-phase 1 0 e refl))
+  begunEvent-obeyed (ends-event e c o l h) = obey-unasked (begunEventRule v) (rw (in-phase 2 0 e refl))
 
   address-in : Copies p v → (j : ℕ) → obey (addressRule p v j) ≡ Checked.Accepted
   unfolding addressRule
@@ -135,7 +148,7 @@ module _ (p : List ℕ) (v : Store) where
 
   address-obeyed : Phases p v → (j : ℕ) → obey (addressRule p v j) ≡ Checked.Accepted
   unfolding addressRule _and_ _or_
-  address-obeyed (runs e o) j = obey-unasked (addressRule p v j) (rw (in-phase 0 1 e refl, in-phase 0 2 e refl))
+  address-obeyed (runs e o g) j = obey-unasked (addressRule p v j) (rw (in-phase 0 1 e refl, in-phase 0 2 e refl))
   address-obeyed (ends-task e c t o) j = address-in c j
   address-obeyed (ends-event e c o l h) j = address-in c j
 
@@ -168,7 +181,9 @@ module _ (p : List ℕ) (v : Store) (z : Serial) (held : HeldAt p v z) (resumes 
       (then-passed (pendingHead-obeyed p v ph)
       (then-passed (pendingMove-obeyed p v ph)
       (then-passed (pendingOpen-obeyed p v ph)
-      (then-passed (head-obeyed p v (held .head-in)) (then-passed (tail-obeyed p v (held .waits .tail-in)) refl))))))))))
+      (then-passed (head-obeyed p v (held .head-in))
+      (then-passed (tail-obeyed p v (held .waits .tail-in))
+      (then-passed (begun-obeyed p v (held .begun-in)) (then-passed (begunEvent-obeyed p v ph) refl))))))))))))
 
   pub rules-obeyed : obeyAll (rules p v) ≡ Checked.Accepted
   unfolding rules
@@ -185,12 +200,16 @@ module _ (p : List ℕ) (v : Store) (z : Serial) (held : HeldAt p v z) (resumes 
 -- ---- 25
 
 module _ (p : List ℕ) (v : Store) (d : Device) (z : Serial) (k : ℕ) (i : On p v d z k) where
-  may-run : (b : Body) (x : ℕ) → ChosenAt v x b → bodyNumber p b < tasks p + events p → mayRun p v b ≡ true
-  unfolding mayRun bodyNumber
-  may-run (Body.Task t) x m l = eq-eqb _ _ (m .0)
-  may-run (Body.Event e) x m l =
+  is-eligible : (b : Body) (x : ℕ) → ChosenAt v x b → bodyNumber p b < tasks p + events p → eligible p v b ≡ true
+  unfolding eligible bodyNumber
+  is-eligible (Body.Task t) x (m, g) l = eq-eqb _ _ (m .0)
+  is-eligible (Body.Event e) x (m, g) l =
       let below : e < events p = omega arith in
       and-true (lt-ltb _ _ below) (and-true (eq-eqb _ _ (m .0)) (not-false (ne-eqb _ _ (m .1 .0))))
+
+  may-run : (b : Body) (x : ℕ) → ChosenAt v x b → bodyNumber p b < tasks p + events p → mayRun p v b ≡ true
+  unfolding mayRun
+  may-run b x m l = and-true (is-eligible b x m l) (eq-eqb _ _ (m .1))
 
   -- stores of a body's end that are made
   ends-four : (b : Body) (c : ℕ) (f : Effect) → EndingAt p v d b c f → c < 4
@@ -229,7 +248,7 @@ module _ (p : List ℕ) (v : Store) (d : Device) (z : Serial) (k : ℕ) (i : On 
 
   place-sound : Sound p → (x : Place) → Placed p v d z k x → placeSound p v (d .count) x ≡ true
   unfolding placeSound
-  place-sound sound (Free c) (inl (s, e)) = pick-true _ _ (eq-eqb _ _ (s .phase-is)) ∙ eq-eqb _ _ e
+  place-sound sound (Free c) (inl (s, (e, g))) = pick-true _ _ (eq-eqb _ _ (s .phase-is)) ∙ and-true (eq-eqb _ _ e) (eq-eqb _ _ g)
   place-sound sound (Free c) (inr (m, inl t)) =
       pick-false _ _ (in-phase p v 1 0 (t .phase-is) refl)
       ∙ ap (λ (ws : List Write). ltb c (v .count + length ws)) (task-last-is v (t .phase-is))
@@ -243,7 +262,8 @@ module _ (p : List ℕ) (v : Store) (d : Device) (z : Serial) (k : ℕ) (i : On 
       (and-true (may-run b x m (r .body-in))
       (lt-ltb _ _ (ends-in b j c (effectAt p (bodyNumber p b) j (d .registers)) (sound .legal (bodyNumber p b) j (d .registers) (r .body-in) (r .place-in)) e)))
   place-sound sound (Half b j) ((s, (x, m, r)), e) =
-      and-true (eq-eqb _ _ (s .phase-is)) (and-true (may-run b x m (r .body-in)) (lt-ltb _ _ (half-in (d .count) (effectAt p (bodyNumber p b) j (d .registers)) e)))
+      and-true (eq-eqb _ _ (s .phase-is))
+      (and-true (may-run b x m (r .body-in)) (lt-ltb _ _ (half-in (d .count) (effectAt p (bodyNumber p b) j (d .registers)) e)))
 
   handler-sound : (h : Handler) → Handles p (v .queue) (v .queueRecords) (v .head) (v .tail) (z .posted) h → handlerSound p v h ≡ true
   unfolding handlerSound recordsSound room
@@ -266,17 +286,17 @@ module _ (p : List ℕ) (v : Store) (d : Device) (z : Serial) (k : ℕ) (i : On 
   head-sound (Body.Event e) x s m =
       must-true _
       (lt-ltb _ _
-      (known-waiting (i .held .waits) (v .head) (i .held .head-in) (rw (first-head v 0 (s .phase-is) refl) (between-first (v .head) (v .tail) (m .1 .0)))))
+      (known-waiting (i .held .waits) (v .head) (i .held .head-in) (rw (first-head v 0 (s .phase-is) refl) (between-first (v .head) (v .tail) (m .0 .1 .0)))))
 
-  open-sound : (b : Body) → StillAt v z → openSound p v b ≡ Checked.Accepted
+  open-sound : (b : Body) → StillAt v z → Begins v → openSound p v b ≡ Checked.Accepted
   unfolding openSound
-  open-sound (Body.Task t) s = open-obeyed p v (phases p v z (i .held) (inl s))
-  open-sound (Body.Event e) s = refl
+  open-sound (Body.Task t) s g = open-obeyed p v (phases p v z (i .held) (inl (s, g)))
+  open-sound (Body.Event e) s g = refl
 
   head-is : (b : Body) (x : ℕ) → ChosenAt v x b → headIs v b ≡ true
   unfolding headIs
   head-is (Body.Task t) x m = refl
-  head-is (Body.Event e) x m = eq-eqb _ _ (m .1 .1 .0)
+  head-is (Body.Event e) x m = eq-eqb _ _ (m .0 .1 .1 .0)
 
   named-row : Sound p → (n j : ℕ) (f : Effect) → LegalEffect p n j f → namedRow p f ≡ Checked.Accepted
   unfolding namedRow
@@ -301,7 +321,7 @@ module _ (p : List ℕ) (v : Store) (d : Device) (z : Serial) (k : ℕ) (i : On 
       (pick-true _ _ there
       ∙ then-passed (sound .rule n j (r .body-in) (r .place-in))
       (named-row sound n j _ (sound .legal n j (d .registers) (r .body-in) (r .place-in))))
-      (then-passed (open-sound b s) (must-true _ (and-true there (and-true (head-is b x m) fits)))))))
+      (then-passed (open-sound b s (chosen-begins v b x m)) (must-true _ (and-true there (and-true (head-is b x m) fits)))))))
 
   pub run-fits : (b : Body) (j c : ℕ) (f : Effect) → EndingAt p v d b c f → placeFits (Run b j c) f ≡ true
   unfolding placeFits ends

@@ -22,12 +22,12 @@ use Rattle.model.specs.Store.{waiting, settled, formatted}
 use Rattle.model.specs.Types.{Device}
 
 -- after a list of calls that begins with the invariant, and k calls before it
-record SlotAfter (p : List ℕ) (l q : ℕ) (s : List ℕ) (d : Device) (z : Serial) (k : ℕ) (cs : List Call) : Type 0 where
-  state : Serial
-  ran : (fuel : ℕ) → k + length cs ≤ fuel → serialFrom fuel (given p l q) z (history p s d cs) ≡ some state
-  inv : InvWords p l q (afterCalls p s d cs .store) (afterCalls p s d cs .device) state (k + length cs)
+pub record CallsKept (p : List ℕ) (l q : ℕ) (s : List ℕ) (d : Device) (z : Serial) (k : ℕ) (cs : List Call) : Type 0 where
+  pub state : Serial
+  pub ran : (fuel : ℕ) → k + length cs ≤ fuel → serialFrom fuel (given p l q) z (history p s d cs) ≡ some state
+  pub inv : InvWords p l q (afterCalls p s d cs .store) (afterCalls p s d cs .device) state (k + length cs)
 
-calls-kept : (p : List ℕ) → Sound p → (l q : ℕ) (cs : List Call) (s : List ℕ) (d : Device) (z : Serial) (k : ℕ) → InvWords p l q s d z k → SlotAfter p l q s d z k cs
+pub calls-kept : (p : List ℕ) → Sound p → (l q : ℕ) (cs : List Call) (s : List ℕ) (d : Device) (z : Serial) (k : ℕ) → InvWords p l q s d z k → CallsKept p l q s d z k cs
 unfolding serialFrom history afterCalls andThen
 calls-kept p sound l q [] s d z k i = record { state = z; ran = λ fuel h. refl; inv = rw add-zero i }
 calls-kept p sound l q (c ∷ cs) s d z k i =

@@ -17,9 +17,9 @@ use Rattle.model.proofs.Passed.{look-passed, body-passed}
 use Rattle.model.proofs.TestLaws.{pick-case, pick-true, pick-false, clash, same-or, below-or}
 use Rattle.model.specs.Accepted.{LegalEffect, MayRun, Stands, Attends, Looked}
 use Rattle.model.specs.Calls.{unlessRefused, isRefusal}
-use Rattle.model.specs.Device.{Outcome, out, refuse, judged, turnedOn, withPlace, withHandler, storing, recordStores, taskStores, eventStores, taskLastStores, eventLastStores, lastStores, endStores, look, bootCheck, boot, postCheck, post, handlerStep, pairSound, copyStep, begun, recordSound, chooseStep, saves, placeFits, bodySound, shown, saveStep, act, saveRest, placeStep, nextStep, step}
+use Rattle.model.specs.Device.{Outcome, out, refuse, judged, turnedOn, withPlace, withHandler, storing, recordStores, taskStores, eventStores, taskLastStores, eventLastStores, lastStores, currentTask, oldestEvent, endStores, look, bootCheck, boot, postCheck, post, handlerStep, pairSound, copyStep, recordSound, eventNext, choosing, chooseStep, saves, placeFits, bodySound, shown, saveStep, act, saveRest, placeStep, nextStep, step}
 use Rattle.model.specs.Program.{events, memoryWords, transaction, bodyNumber, effectAt, newOpen}
-use Rattle.model.specs.Store.{Store, view, address, value, event, datum, empty, carried, slotAfter, find, logAt, queueAt, Phase, Task, Open, Count, Pending, PendingOpen, Head, Tail, Memory, Address, Value, Event, Write, none, to}
+use Rattle.model.specs.Store.{Store, view, address, value, event, empty, carried, slotAfter, find, logAt, queueAt, Phase, Task, Open, Count, Pending, PendingOpen, Head, Tail, Begun, Memory, Address, Value, Event, Write, none, to}
 use Rattle.model.specs.Test.{pick, _and_, must}
 use Rattle.model.specs.Types.{Answer, Body, Checked, Device, Effect, Found, Free, Half, Handler, Place, Refusal, Resting, Run, Storing}
 
@@ -83,25 +83,22 @@ module _ (p : List ℕ) (v : Store) (d : Device) (n : ℕ) where
   free-copies e = pick-false _ _ (ne-eqb (v .phase) 0 e)
 
 module _ (p : List ℕ) (v : Store) (d : Device) where
-  abbrev task-begun : Outcome
-  task-begun = out none (begun d (Body.Task (v .task)) 0) (Answer.Chosen (Body.Task (v .task)))
-
-  pub choose-open : v .openNumber ≢ 0 → chooseStep p v d ≡ task-begun
-  unfolding chooseStep _and_
+  pub choose-open : v .openNumber ≢ 0 → chooseStep p v d ≡ choosing v d (currentTask v)
+  unfolding chooseStep eventNext _and_
   choose-open ne = rw (ne-eqb (v .openNumber) 0 ne) (pick-false _ _ refl)
 
-  pub choose-empty : v .openNumber ≡ 0 → empty v ≡ true → chooseStep p v d ≡ task-begun
-  unfolding chooseStep _and_
+  pub choose-empty : v .openNumber ≡ 0 → empty v ≡ true → chooseStep p v d ≡ choosing v d (currentTask v)
+  unfolding chooseStep eventNext _and_
   choose-empty e f = pick-false _ _ (rw (eq-eqb (v .openNumber) 0 e, f))
 
   pub choose-refused : v .openNumber ≡ 0 → empty v ≡ false → events p ≤ event v (v .head)
       → chooseStep p v d ≡ refuse d (Refusal.Control (queueAt (memoryWords p) (v .logPairs) + 2 * v .head))
-  unfolding chooseStep judged recordSound must _and_
+  unfolding chooseStep eventNext judged recordSound must _and_
   choose-refused e f l = pick-true _ _ (rw (eq-eqb (v .openNumber) 0 e, f)) ∙ rw (le-ltb (event v (v .head)) (events p) l)
 
   pub choose-event : v .openNumber ≡ 0 → empty v ≡ false → event v (v .head) < events p
-      → chooseStep p v d ≡ out none (begun d (Body.Event (event v (v .head))) (datum v (v .head))) (Answer.Chosen (Body.Event (event v (v .head))))
-  unfolding chooseStep judged recordSound must _and_
+      → chooseStep p v d ≡ choosing v d (oldestEvent v)
+  unfolding chooseStep eventNext judged recordSound must _and_
   choose-event e f l = pick-true _ _ (rw (eq-eqb (v .openNumber) 0 e, f)) ∙ rw (lt-ltb (event v (v .head)) (events p) l)
 
 -- ---- a commit's stores in phases 1 and 2, n of which are made since the commit store
@@ -133,18 +130,18 @@ module _ (p : List ℕ) (v : Store) (d : Device) (n : ℕ) where
   event-last l e = pick-false _ _ (le-ltb n (v .count) l) ∙ ap last (pick-false _ _ (ne-eqb (v .phase) 1 e))
 
 -- how many stores come after the copies
-pub task-lasts : (v : Store) → v .phase ≡ 1 → length (lastStores v) ≡ 3
+pub task-lasts : (v : Store) → v .phase ≡ 1 → length (lastStores v) ≡ 4
 unfolding lastStores taskLastStores
 task-lasts v e = ap length (pick-true _ _ (eq-eqb (v .phase) 1 e))
 
-pub event-lasts : (v : Store) → v .phase ≢ 1 → length (lastStores v) ≡ 2
+pub event-lasts : (v : Store) → v .phase ≢ 1 → length (lastStores v) ≡ 3
 unfolding lastStores eventLastStores
 event-lasts v e = ap length (pick-false _ _ (ne-eqb (v .phase) 1 e))
 
-pub most-last : (v : Store) → length (lastStores v) ≤ 3
+pub most-last : (v : Store) → length (lastStores v) ≤ 4
 most-last v = same-or (v .phase) 1 (λ e. omega (arith, task-lasts v e)) (λ ne. omega (arith, event-lasts v ne))
 
-pub least-last : (v : Store) → 2 ≤ length (lastStores v)
+pub least-last : (v : Store) → 3 ≤ length (lastStores v)
 least-last v = same-or (v .phase) 1 (λ e. omega (arith, task-lasts v e)) (λ ne. omega (arith, event-lasts v ne))
 
 -- ---- an instruction that 23 or 24 refuses
@@ -177,6 +174,7 @@ pub record Chooses (v : Store) (d : Device) : Type 0 where
   pub rests : d .handler ≡ Resting
   pub place : d .place ≡ Free 0
   pub phase : v .phase ≡ 0
+  pub none-begun : v .begun ≡ 0
 
 -- body b at place x, whose instruction j does f, with all its checks passed
 pub record Acts (p : List ℕ) (v : Store) (d : Device) (x : Place) (b : Body) (j : ℕ) (f : Effect) : Type 0 where
@@ -232,12 +230,13 @@ pub data Made (p : List ℕ) (v : Store) (d : Device) : Outcome → Type 0 where
       → Made p v d (out (to Open (v .pendingOpen)) (atPlace d (Free (c + 1))) Answer.Stored)
   commit-head : {c : ℕ} → Commits v d c → v .phase ≡ 2 → c ≡ v .count
       → Made p v d (out (to Head (v .pending)) (atPlace d (Free (c + 1))) Answer.Stored)
+  commit-begun : {c : ℕ} → Commits v d c → c + 2 ≡ v .count + length (lastStores v)
+      → Made p v d (out (to Begun 0) (atPlace d (Free (c + 1))) Answer.Stored)
   commit-phase : {c : ℕ} → Commits v d c → c + 1 ≡ v .count + length (lastStores v) → Made p v d (out (to Phase 0) turnedOn Answer.Stored)
   -- "With no body running, one is chosen"
   chosen-event : Chooses v d → v .openNumber ≡ 0 → v .head ≢ v .tail → event v (v .head) < events p
-      → Made p v d (out none (begun d (Body.Event (event v (v .head))) (datum v (v .head))) (Answer.Chosen (Body.Event (event v (v .head)))))
-  chosen-task : Chooses v d → (v .openNumber ≡ 0 → v .head ≡ v .tail)
-      → Made p v d (out none (begun d (Body.Task (v .task)) 0) (Answer.Chosen (Body.Task (v .task))))
+      → Made p v d (choosing v d (oldestEvent v))
+  chosen-task : Chooses v d → (v .openNumber ≡ 0 → v .head ≡ v .tail) → Made p v d (choosing v d (currentTask v))
   -- "One instruction runs."
   computed : {b : Body} {j c a x : ℕ} → RunsAt p v d b j c (Effect.Compute a x)
       → Made p v d (out none (withPlace d (set (d .registers) a x) (Run b (j + 1) 0) (d .count)) Answer.Worked)
@@ -317,14 +316,16 @@ module _ (p s : List ℕ) (d : Device) (early : Looked p s d) where
     unfolding storing taskLastStores pick isRefusal unlessRefused
     task-last-outcome zero e one = made early (commit-task h one (omega arith)) refl
     task-last-outcome (suc zero) e one = made early (commit-open h one e) refl
-    task-last-outcome (suc (suc zero)) e one = made early (commit-phase h (omega (arith, task-lasts v one))) refl
-    task-last-outcome (suc (suc (suc i))) e one = absurd (omega (arith, task-lasts v one, h .left))
+    task-last-outcome (suc (suc zero)) e one = made early (commit-begun h (omega (arith, task-lasts v one))) refl
+    task-last-outcome (suc (suc (suc zero))) e one = made early (commit-phase h (omega (arith, task-lasts v one))) refl
+    task-last-outcome (suc (suc (suc (suc i)))) e one = absurd (omega (arith, task-lasts v one, h .left))
 
     event-last-outcome : (i : ℕ) → c ≡ v .count + i → v .phase ≡ 2 → v .phase ≢ 1 → Is (storing (eventLastStores v) i (atPlace d (Free (c + 1))) turnedOn Answer.Stored)
     unfolding storing eventLastStores pick isRefusal unlessRefused
     event-last-outcome zero e two ne = made early (commit-head h two (omega arith)) refl
-    event-last-outcome (suc zero) e two ne = made early (commit-phase h (omega (arith, event-lasts v ne))) refl
-    event-last-outcome (suc (suc i)) e two ne = absurd (omega (arith, event-lasts v ne, h .left))
+    event-last-outcome (suc zero) e two ne = made early (commit-begun h (omega (arith, event-lasts v ne))) refl
+    event-last-outcome (suc (suc zero)) e two ne = made early (commit-phase h (omega (arith, event-lasts v ne))) refl
+    event-last-outcome (suc (suc (suc i))) e two ne = absurd (omega (arith, event-lasts v ne, h .left))
 
     copy-outcome : Is (copyStep p v d c)
     unfolding isRefusal unlessRefused
@@ -339,7 +340,7 @@ module _ (p s : List ℕ) (d : Device) (early : Looked p s d) where
         (λ ne. rw (event-last p v d c l ne) (event-last-outcome (c - v .count) e (omega (arith, h .phase, early .control .phase-in)) ne)))
 
   choose-outcome : Chooses v d → Is (chooseStep p v d)
-  unfolding isRefusal unlessRefused
+  unfolding choosing isRefusal unlessRefused
   choose-outcome h =
       same-or (v .openNumber) 0
       (λ o.
@@ -382,7 +383,7 @@ module _ (p s : List ℕ) (d : Device) (early : Looked p s d) where
       (λ q. refused (met early (h .rests) (save-above h (ltb-false _ _ q))))
   act-outcome (Body.Task t) j c (Effect.EndTask k) h = go-outcome t j k c (h .stands .2) h
   act-outcome (Body.Event e) j c (Effect.EndTask k) h = absurd (omega (arith, h .legal .1))
-  act-outcome (Body.Task t) j c Effect.EndEvent h = absurd (omega (arith, h .legal, h .stands .1, early .control .task-in))
+  act-outcome (Body.Task t) j c Effect.EndEvent h = absurd (omega (arith, h .legal, h .stands .1 .0, early .control .task-in))
   act-outcome (Body.Event e) j c Effect.EndEvent h = done-outcome e j c (h .stands .2) h
   act-outcome b j c Effect.Unknown h = absurd (h .legal)
 
@@ -407,7 +408,7 @@ module _ (p s : List ℕ) (d : Device) (early : Looked p s d) where
     place-outcome : (x : Place) → d .place ≡ x → Stands p v (d .count) x → Is (placeStep p v d x)
     unfolding placeStep
     place-outcome (Free c) q h =
-        pick-case Is (λ z. let e = eqb-true _ _ z in choose-outcome (record { rests = rests; place = q ∙ ap Free (h .0 e); phase = e }))
+        pick-case Is (λ z. let e = eqb-true _ _ z in choose-outcome (record { rests = rests; place = q ∙ ap Free (h .0 e .0); phase = e; none-begun = h .0 e .1 }))
         (λ z. let ne = eqb-false _ _ z in copy-outcome c (record { rests = rests; place = q; phase = ne; left = h .1 ne }))
     place-outcome (Run b j c) q h =
         judged-case Is _ (λ r e. refused (met early rests (by-body (Run b j c) b j _ q running (h .0) (h .1) e))) (λ e. act-outcome b j c _ (acts (Run b j c) b j q h e))

@@ -11,11 +11,11 @@ use lib.Dec.{eqb}
 use Rattle.model.proofs.Passed.{look-passed, early-are}
 use Rattle.model.proofs.RingLaws.{known-passes}
 use Rattle.model.proofs.RuleLaws.{obey-if}
-use Rattle.model.proofs.TestLaws.{pick-case, pick-true, clash, and-true, and-left, or-true-left, or-true-right, not-false, must-true, then-passed, then-first, then-rest}
-use Rattle.model.specs.Accepted.{ControlledBy, Controlled, MayRun, Stands, Attends, Looked}
+use Rattle.model.proofs.TestLaws.{pick-case, pick-true, clash, same-or, and-true, and-left, or-true-left, or-true-right, not-false, must-true, then-passed, then-first, then-rest}
+use Rattle.model.specs.Accepted.{ControlledBy, Controlled, EligibleBy, MayRun, Stands, Attends, Looked}
 use Rattle.model.specs.Check.{contentsRule}
-use Rattle.model.specs.Control.{obeyAll, phaseRule, taskRule, openServing, countRule, pendingTaskRule, headRule, tailRule, pendingHeadRule, pendingMoveRule, earlyRules}
-use Rattle.model.specs.Device.{withHandler, mayRun, placeSound, recordsSound, handlerSound, deviceSound, look}
+use Rattle.model.specs.Control.{obeyAll, phaseRule, taskRule, openServing, countRule, pendingTaskRule, headRule, tailRule, pendingHeadRule, pendingMoveRule, begunRule, begunEventRule, earlyRules}
+use Rattle.model.specs.Device.{withHandler, eligible, mayRun, placeSound, recordsSound, handlerSound, deviceSound, look}
 use Rattle.model.specs.Program.{tasks}
 use Rattle.model.specs.Store.{Store, view, carried, room, storeRule}
 use Rattle.model.specs.Test.{_or_}
@@ -29,7 +29,7 @@ commits zero e z = clash e refl
 commits (suc n) e z = omega arith
 
 pub control-passes : (p : List ℕ) (v : Store) → Controlled p v → obeyAll (earlyRules p v) ≡ Checked.Accepted
-unfolding obeyAll phaseRule taskRule openServing countRule pendingTaskRule pendingHeadRule pendingMoveRule headRule tailRule
+unfolding obeyAll phaseRule taskRule openServing countRule pendingTaskRule pendingHeadRule pendingMoveRule headRule tailRule begunRule begunEventRule
 control-passes p v h =
     ap obeyAll (early-are p v)
     ∙ then-passed (obey-if _ (λ _. le-leb _ _ (h .phase-in)))
@@ -39,17 +39,24 @@ control-passes p v h =
     (then-passed (obey-if _ (λ e. lt-ltb _ _ (h .pending-task (eqb-true _ _ e))))
     (then-passed (obey-if _ (λ e. le-leb _ _ (h .pending-head (eqb-true _ _ e))))
     (then-passed (obey-if _ (λ e. moves (eqb-true _ _ (and-left _ _ e))))
-    (then-passed (obey-if _ (λ _. le-leb _ _ (h .head-in))) (then-passed (obey-if _ (λ _. le-leb _ _ (h .tail-in))) refl))))))))
+    (then-passed (obey-if _ (λ _. le-leb _ _ (h .head-in)))
+    (then-passed (obey-if _ (λ _. le-leb _ _ (h .tail-in)))
+    (then-passed (obey-if _ (λ _. le-leb _ _ (h .begun-in))) (then-passed (obey-if _ (λ e. begins (eqb-true _ _ (and-left _ _ e)))) refl))))))))))
   where
     moves : v .phase ≡ 2 → pendingMoveRule v .kept ≡ true
     moves q =
         ⊎-elim (λ a. or-true-left _ _ (eq-eqb _ _ a))
         (λ a. or-true-right _ _ (and-true (eq-eqb _ _ (a .0)) (not-false (ne-eqb _ _ (a .1))))) (h .pending-is q)
 
+    begins : v .phase ≡ 0 → begunEventRule v .kept ≡ true
+    begins q =
+        same-or (v .begun) 2 (λ two. let a = h .begun-event q two in or-true-right _ _ (and-true (not-false (ne-eqb _ _ (a .0))) (eq-eqb _ _ (a .1))))
+        (λ ne. or-true-left _ _ (not-false (ne-eqb _ _ ne)))
+
 -- in phase 0 the words 11 to 13 are free
-pub control-still : (p : List ℕ) (l q phase task open′ n pending h t : ℕ) → phase ≡ 0 → task < tasks p → h ≤ q → t ≤ q
-    → ControlledBy p l q phase task open′ n pending h t
-control-still p l q phase task open′ n pending h t z a b c =
+pub control-still : (p : List ℕ) (l q phase task open′ n pending h t g : ℕ) → phase ≡ 0 → task < tasks p → h ≤ q → t ≤ q → g ≤ 2
+    → (g ≡ 2 → (h ≢ t) × (open′ ≡ 0)) → ControlledBy p l q phase task open′ n pending h t g
+control-still p l q phase task open′ n pending h t g z a b c kind event =
     record {
       phase-in = omega (arith, z);
       task-in = a;
@@ -60,19 +67,25 @@ control-still p l q phase task open′ n pending h t z a b c =
       pending-head = λ e. absurd (omega (arith, z, e));
       pending-is = λ e. absurd (omega (arith, z, e));
       open-none = λ e. absurd (omega (arith, z, e));
+      begun-in = kind;
+      begun-event = λ e. event;
     }
 
 -- ---- 25: the device
 
+eligible-pass : (p : List ℕ) (v : Store) (b : Body) → EligibleBy p (v .task) (v .openNumber) (v .head) (v .tail) b → eligible p v b ≡ true
+unfolding eligible
+eligible-pass p v (Body.Task t) m = eq-eqb _ _ m
+eligible-pass p v (Body.Event e) m = and-true (lt-ltb _ _ (m .0)) (and-true (eq-eqb _ _ (m .1)) (not-false (ne-eqb _ _ (m .2))))
+
 may-pass : (p : List ℕ) (v : Store) (b : Body) → MayRun p v b → mayRun p v b ≡ true
 unfolding mayRun
-may-pass p v (Body.Task t) m = eq-eqb _ _ m
-may-pass p v (Body.Event e) m = and-true (lt-ltb _ _ (m .0)) (and-true (eq-eqb _ _ (m .1)) (not-false (ne-eqb _ _ (m .2))))
+may-pass p v b m = and-true (eligible-pass p v b (m .0)) (eq-eqb _ _ (m .1))
 
 place-passes : (p : List ℕ) (v : Store) (l : ℕ) (x : Place) → Stands p v l x → placeSound p v l x ≡ true
 unfolding placeSound
 place-passes p v l (Free c) m =
-    pick-case (λ (b : Bool). b ≡ true) (λ e. eq-eqb _ _ (m .0 (eqb-true _ _ e))) (λ e. lt-ltb _ _ (m .1 (eqb-false _ _ e)))
+    pick-case (λ (b : Bool). b ≡ true) (λ e. let a = m .0 (eqb-true _ _ e) in and-true (eq-eqb _ _ (a .0)) (eq-eqb _ _ (a .1))) (λ e. lt-ltb _ _ (m .1 (eqb-false _ _ e)))
 place-passes p v l (Run b j c) m = and-true (eq-eqb _ _ (m .0)) (and-true (may-pass p v b (m .1)) (lt-ltb _ _ (m .2)))
 place-passes p v l (Half b j) m = and-true (eq-eqb _ _ (m .0)) (and-true (may-pass p v b (m .1)) (lt-ltb _ _ (m .2)))
 

@@ -4,22 +4,23 @@ use mathlib.Core.Path.{_≡_, refl, sym, ap, _∙_}
 use mathlib.Core.Logic.{inl}
 use mathlib.Core.Bool.{true}
 use mathlib.Core.List.{List, [], _∷_}
+use mathlib.Core.Option.{Option}
 use native.Mathlib.Nat.{not-suc-le-zero, suc-sub-suc, sub-zero, zero-sub}
 use native.Mathlib.Omega.{arith}
 use borrow.Author.Tests.{eq-eqb, le-leb}
 use lib.Dec.{eqb}
 use lib.ListN.{length, take, drop, replicate, length-replicate}
 use Rattle.model.proofs.Invariant.{Inv, Waiting}
-use Rattle.model.proofs.Kept.{first-head}
+use Rattle.model.proofs.Kept.{begun-nothing, first-head}
 use Rattle.model.proofs.KeptWords.{InvWords}
 use Rattle.model.proofs.ProgramLaws.{check-passed}
 use Rattle.model.proofs.StoreLaws.{viewAt, Sized}
 use Rattle.model.proofs.TestLaws.{must-passed, must-true, then-passed, then-first, then-rest}
 use Rattle.model.specs.Accepted.{Sound}
-use Rattle.model.specs.Device.{off, fresh}
+use Rattle.model.specs.Device.{off, fresh, begunOf}
 use Rattle.model.specs.Program.{word, memoryWords}
 use Rattle.model.specs.Serial.{given, serialStart}
-use Rattle.model.specs.Store.{Store, storeMark, storeContents, storeLength, controlAt, memoryAt, logAt, queueAt, formatted, sizesRule, formatCheck, formatStore, format, storeRule, recordsFrom, distance}
+use Rattle.model.specs.Store.{Store, view, storeMark, storeContents, storeLength, controlAt, memoryAt, logAt, queueAt, formatted, sizesRule, formatCheck, formatStore, format, storeRule, recordsFrom, distance}
 use Rattle.model.specs.Test.{pick, must}
 use Rattle.model.specs.Types.{Checked, Refusal}
 
@@ -82,7 +83,7 @@ module _ (p : List ℕ) (sound : Sound p) (l q : ℕ) (sizes : sizesRule l q ≡
 
   memory-is : v .memory ≡ replicate m 0
   unfolding formatted storeContents
-  memory-is = let r : m ≤ storeLength m l q - 10 - 6 = omega arith in ap (take m) (drop-zeros 6 (storeLength m l q - 10)) ∙ take-zeros m _ r
+  memory-is = let r : m ≤ storeLength m l q - 10 - 7 = omega arith in ap (take m) (drop-zeros 7 (storeLength m l q - 10)) ∙ take-zeros m _ r
 
   no-record : Waiting p (v .queue) q 0 0 []
   unfolding recordsFrom distance pick
@@ -103,14 +104,20 @@ module _ (p : List ℕ) (sound : Sound p) (l q : ℕ) (sizes : sizesRule l q ≡
             record {
               tasked = record { task-in = sound .rows .contents .entry-is; open-in = inl refl };
               head-in = omega (arith, behind 4);
+              begun-in = omega (arith, behind 6);
               waits = rw (first-head v 0 refl refl, behind 4, behind 5) no-record;
             };
-        resumes = inl (record { phase-is = refl; memory-is = memory-is; task-is = refl; open-is = behind 0 });
+        resumes = inl (record { phase-is = refl; memory-is = memory-is; task-is = refl; open-is = behind 0 }, inl (behind 6));
         is-off = refl;
       })
 
   pub fresh-words : InvWords p l q s off (serialStart (given p l q)) 0
   fresh-words = record { sized = sized; contents = contents; inv = fresh-inv }
+
+  -- no body is begun
+  pub nothing-begun : begunOf (view s) ≡ Option.none
+  unfolding formatted storeContents
+  nothing-begun = begun-nothing (view s) (behind 6)
 
 -- ---- formatting
 

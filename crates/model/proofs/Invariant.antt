@@ -5,16 +5,16 @@ use Prim.Native.Nat.{ℕ, _+_, _-_, _*_, _≤_, _<_, min}
 use mathlib.Core.Path.{_≡_}
 use mathlib.Core.Logic.{_⊎_, _≢_}
 use mathlib.Core.Bool.{true}
-use mathlib.Core.List.{List, _∷_}
-use lib.ListN.{length, replicate}
+use mathlib.Core.List.{List}
+use lib.ListN.{length}
 use Rattle.model.proofs.FirstStores.{First}
 use Rattle.model.proofs.LogLaws.{addr, overlay, Distinct}
 use Rattle.model.proofs.RingLaws.{RecordsMade}
 use Rattle.model.specs.Accepted.{Known}
-use Rattle.model.specs.Device.{off, recordStores, taskStores, eventStores, taskLastStores, eventLastStores}
-use Rattle.model.specs.Program.{word, tasks, events, memoryWords, instructions, transaction, bodyNumber, effectAt}
+use Rattle.model.specs.Device.{off, recordStores, taskStores, eventStores, taskLastStores, eventLastStores, kindOf}
+use Rattle.model.specs.Program.{firstRegisters, word, tasks, events, memoryWords, instructions, transaction, bodyNumber, effectAt}
 use Rattle.model.specs.Serial.{Serial, walk}
-use Rattle.model.specs.Store.{Store, Record, carried, slotAfter, firstWaiting, recordsFrom, distance, Phase, Task, Open, Count, Pending, PendingOpen, Head, Tail, Memory, Address, Value, Event, Datum, Write, none, to}
+use Rattle.model.specs.Store.{Store, Record, carried, slotAfter, firstWaiting, recordsFrom, distance, Phase, Task, Open, Count, Pending, PendingOpen, Head, Tail, Begun, Memory, Address, Value, Event, Datum, Write, none, to}
 use Rattle.model.specs.Types.{Body, Device, Effect, Free, Half, Handler, Place, Resting, Run, Storing}
 
 -- ---- the control words, but tail, which is the handler's
@@ -27,6 +27,7 @@ pub record Controls : Type 0 where
   pub pending : ℕ
   pub pendingOpen : ℕ
   pub head : ℕ
+  pub begun : ℕ
 
 abbrev pub controls : Store → Controls
 controls v =
@@ -38,6 +39,7 @@ controls v =
       pending = v .pending;
       pendingOpen = v .pendingOpen;
       head = v .head;
+      begun = v .begun;
     }
 
 -- what a write stores to a control word stands there
@@ -51,6 +53,7 @@ Has k (to Pending x) = k .pending ≡ x
 Has k (to PendingOpen x) = k .pendingOpen ≡ x
 Has k (to Head x) = k .head ≡ x
 Has k (to Tail x) = ⊥
+Has k (to Begun x) = k .begun ≡ x
 Has k (to (Memory a) x) = ⊥
 Has k (to (Address j) x) = ⊥
 Has k (to (Value j) x) = ⊥
@@ -89,11 +92,12 @@ abbrev pub Handles : List ℕ → List ℕ → ℕ → ℕ → ℕ → List Reco
 Handles p queue q h t posted Resting = Unit {0}
 Handles p queue q h t posted (Storing c e x) = AtWork p queue q h t posted c (carried e x)
 
--- ---- what holds of the store, whatever the device: of its head and waiting records, and of the serial run's task and open number
+-- ---- what holds of the store, whatever the device: of its head, waiting records and word 16, and of the serial run's task and open number
 
-pub record Held (p : List ℕ) (queue : List ℕ) (q h f t : ℕ) (records : List Record) (task open′ : ℕ) : Type 0 where
+pub record Held (p : List ℕ) (queue : List ℕ) (q h f t g : ℕ) (records : List Record) (task open′ : ℕ) : Type 0 where
   pub tasked : Tasked p task open′
   pub head-in : h ≤ q
+  pub begun-in : g ≤ 2
   pub waits : Waiting p queue q f t records
 
 -- ---- phase 0: the store is as the serial run has it, with memory m, current task y and open number o
@@ -152,7 +156,7 @@ pub record Running (p : List ℕ) (memory log m : List ℕ) (k : ℕ) (b : Body)
   -- so many instructions without a log lead from choosing to here
   pub ran : ℕ
   pub ran-in : ran ≤ k
-  pub same : (f : ℕ) → walk (ran + f) p (bodyNumber p b) 0 (x ∷ replicate 7 0) m ≡ walk f p (bodyNumber p b) j r (overlay memory log l)
+  pub same : (f : ℕ) → walk (ran + f) p (bodyNumber p b) 0 (firstRegisters x) m ≡ walk f p (bodyNumber p b) j r (overlay memory log l)
 
 -- the first c stores of the body's end are made, at GO those of ws, at DONE those of us
 abbrev pub Ending : Controls → (ℕ → List Write) → List Write → ℕ → Effect → Type 0
@@ -177,7 +181,7 @@ HalfSaved p log pairs l Effect.Unknown = ⊥
 -- ---- the whole, for the store v, the device d and the serial state z after k calls
 
 abbrev pub HeldAt : List ℕ → Store → Serial → Type 0
-HeldAt p v z = Held p (v .queue) (v .queueRecords) (v .head) (firstWaiting v) (v .tail) (z .records) (z .task) (z .openNumber)
+HeldAt p v z = Held p (v .queue) (v .queueRecords) (v .head) (firstWaiting v) (v .tail) (v .begun) (z .records) (z .task) (z .openNumber)
 
 abbrev pub StillAt : Store → Serial → Type 0
 StillAt v z = Still (v .phase) (v .task) (v .openNumber) (v .memory) (z .task) (z .openNumber) (z .memory)
@@ -195,8 +199,9 @@ EventCommitAt v z c = EventCommit (controls v) (eventLastStores v) (v .queueReco
 abbrev pub CommitAt : List ℕ → Store → Serial → ℕ → Type 0
 CommitAt p v z c = CopyingAt p v z c × (TaskCommitAt p v z c ⊎ EventCommitAt v z c)
 
+-- and word 16 has its kind
 abbrev pub ChosenAt : Store → ℕ → Body → Type 0
-ChosenAt v x b = ChosenBody (v .task) (v .openNumber) (v .head) (v .tail) (v .queue) x b
+ChosenAt v x b = ChosenBody (v .task) (v .openNumber) (v .head) (v .tail) (v .queue) x b × (v .begun ≡ kindOf b)
 
 abbrev pub BodyAt : List ℕ → Store → Device → Serial → ℕ → Body → ℕ → Type 0
 BodyAt p v d z k b j =
@@ -206,13 +211,17 @@ abbrev pub EndingAt : List ℕ → Store → Device → Body → ℕ → Effect 
 EndingAt p v d b c f = Ending (controls v) (λ a. taskStores p (bodyNumber p b) a (d .count)) (eventStores v (d .count)) c f
 
 abbrev pub Placed : List ℕ → Store → Device → Serial → ℕ → Place → Type 0
-Placed p v d z k (Free c) = (StillAt v z × (c ≡ 0)) ⊎ CommitAt p v z c
+Placed p v d z k (Free c) = (StillAt v z × ((c ≡ 0) × (v .begun ≡ 0))) ⊎ CommitAt p v z c
 Placed p v d z k (Run b j c) = BodyAt p v d z k b j × EndingAt p v d b c (effectAt p (bodyNumber p b) j (d .registers))
 Placed p v d z k (Half b j) = BodyAt p v d z k b j × HalfSaved p (v .log) (v .logPairs) (d .count) (effectAt p (bodyNumber p b) j (d .registers))
 
--- what a boot finds: nothing begun, or a commit to be made from its first pair on
+-- in phase 0: nothing is begun, or the current task, or the event of the record at head
+abbrev pub Begins : Store → Type 0
+Begins v = (v .begun ≡ 0) ⊎ ((v .begun ≡ 1) ⊎ ((v .begun ≡ 2) × ((v .openNumber ≡ 0) × (v .head ≢ v .tail))))
+
+-- what a boot finds: that, or a commit to be made from its first pair on
 abbrev pub Resumes : List ℕ → Store → Serial → Type 0
-Resumes p v z = StillAt v z ⊎ CommitAt p v z 0
+Resumes p v z = (StillAt v z × Begins v) ⊎ CommitAt p v z 0
 
 pub record Off (p : List ℕ) (v : Store) (d : Device) (z : Serial) : Type 0 where
   pub held : HeldAt p v z

@@ -5,26 +5,27 @@ use mathlib.Core.Path.{_≡_, refl, sym, ap, subst, _∙_}
 use mathlib.Core.Logic.{_⊎_, inl, inr, ⊎-elim, _≢_}
 use mathlib.Core.Bool.{true, false}
 use mathlib.Core.List.{List, _++_}
-use mathlib.Core.Option.{some}
+use mathlib.Core.Option.{Option, some}
 use native.Mathlib.Numerals.{add-one}
 use native.Mathlib.Omega.{arith}
 use lib.Dec.{eqb}
 use lib.ListN.{length, getD, set}
 use borrow.Author.Tests.{lt-ltb, le-ltb, eq-eqb}
 use Rattle.model.proofs.FirstStores.{First, storing-goes, storing-ends}
-use Rattle.model.proofs.Invariant.{Controls, controls, Has, Lengths, Waiting, AtWork, Handles, HeldAt, Lasting, Copying, CopyingAt, TaskCommitAt, EventCommitAt, CommitAt, ChosenAt, Running, Placed, On, Inv}
+use Rattle.model.proofs.Invariant.{Controls, controls, Has, Lengths, Waiting, AtWork, Handles, HeldAt, Lasting, Copying, CopyingAt, TaskCommitAt, EventCommitAt, CommitAt, ChosenAt, Running, Placed, Begins, On, Inv}
 use Rattle.model.proofs.LogLaws.{overlay, overlay-suc}
 use Rattle.model.proofs.RingLaws.{Between, known-between, forward, forward-le, distance-some, distance-head, forward-distance, distance-forward, tail-apart, slot-apart, records-append, records-same, known-append, RecordStore, event-store, datum-store, record-store, tail-store, record-stores, records-made, queueAfter, slot-stays, next-made}
-use Rattle.model.proofs.StoreLaws.{apply, withQueue, withNext, Inside}
-use Rattle.model.proofs.TestLaws.{pick-true, pick-false, below-or, must-true}
+use Rattle.model.proofs.StoreLaws.{apply, withPhase, withBegun, withQueue, withNext, Inside}
+use Rattle.model.proofs.TestLaws.{pick-case, pick-true, pick-false, below-or, must-true}
 use Rattle.model.specs.Demand3.{Expected}
 use Rattle.model.specs.Calls.{Call, Step, acceptedEvents}
 use Rattle.model.specs.Accepted.{Known}
-use Rattle.model.specs.Device.{Outcome, out, refuse, judged, fresh, withHandler, withPlace, recordStores, handlerStep, storing, taskStores, eventStores, taskLastStores, eventLastStores, lastStores, pairSound, copyStep}
+use Rattle.model.specs.Device.{Outcome, out, refuse, judged, fresh, withHandler, withPlace, recordStores, handlerStep, storing, taskStores, eventStores, taskLastStores, eventLastStores, lastStores, kindOf, begunOf, pairSound, copyStep}
 use Rattle.model.specs.Program.{word, tasks, events, memoryWords}
 use Rattle.model.specs.Serial.{Serial, given, tell, withRecords, accept}
-use Rattle.model.specs.Store.{Store, address, value, logAt, Record, carried, slotAfter, distance, firstWaiting, slot, Phase, Task, Open, Head, Tail, Memory, Write, none, to}
+use Rattle.model.specs.Store.{Store, address, value, event, logAt, Record, carried, slotAfter, distance, firstWaiting, slot, Phase, Task, Open, Head, Tail, Begun, Memory, Write, none, to}
 use Rattle.model.specs.Test.{pick}
+use Rattle.model.specs.Turns.{begunAfter, InTurn}
 use Rattle.model.specs.Types.{Answer, Body, Checked, Device, Free, Half, Handler, Place, Refusal, Resting, Run, Storing}
 
 -- a store to a word that is there
@@ -37,13 +38,46 @@ pub record Kept (p : List ℕ) (v : Store) (z : Serial) (k : ℕ) (c : Call) (o 
   pub serial : Serial
   pub tells : (fuel : ℕ) → k < fuel → tell fuel (given p (v .logPairs) (v .queueRecords)) z c (o .answer) ≡ some serial
   pub expected : Expected c (o .answer)
+  pub turn : InTurn z (begunOf v) (o .answer)
+  pub begins : begunOf (apply v (o .write)) ≡ begunAfter (begunOf v) (o .answer)
   pub inv : Inv p (apply v (o .write)) (o .device) serial (suc k)
 
 -- a step that stores a word and leaves the serial run where it was
-pub stored-kept : {p : List ℕ} {v : Store} {z : Serial} {k : ℕ} (w : Write) (e : Device) → InsideOf p v w → Inv p (apply v w) e z (suc k)
-    → Kept p v z k Step (out w e Answer.Stored)
-unfolding tell
-stored-kept {z = z} w e inside i = record { inside = inside; serial = z; tells = λ fuel l. refl; expected = tt; inv = i }
+pub stored-kept : {p : List ℕ} {v : Store} {z : Serial} {k : ℕ} (w : Write) (e : Device) → InsideOf p v w → begunOf (apply v w) ≡ begunOf v
+    → Inv p (apply v w) e z (suc k) → Kept p v z k Step (out w e Answer.Stored)
+unfolding tell begunAfter
+stored-kept {z = z} w e inside same i =
+    record { inside = inside; serial = z; tells = λ fuel l. refl; expected = tt; turn = tt; begins = same; inv = i }
+
+-- ---- the body that is begun, by the store
+
+pub begun-nothing : (v : Store) → v .begun ≡ 0 → begunOf v ≡ Option.none
+unfolding begunOf
+begun-nothing v e =
+    pick-case (λ (g : Option Body). g ≡ Option.none) (λ _. pick-false _ _ (ap (λ (n : ℕ). eqb n 1) e) ∙ pick-false _ _ (ap (λ (n : ℕ). eqb n 2) e)) (λ _. refl)
+
+pub begun-committing : (v : Store) (n : ℕ) → v .phase ≡ n → eqb n 0 ≡ false → begunOf v ≡ Option.none
+unfolding begunOf
+begun-committing v n e f = pick-false _ _ (ap (λ (x : ℕ). eqb x 0) e ∙ f)
+
+pub begun-task : (v : Store) → v .phase ≡ 0 → v .begun ≡ 1 → begunOf v ≡ Option.some (Body.Task (v .task))
+unfolding begunOf
+begun-task v e g = pick-true _ _ (ap (λ (x : ℕ). eqb x 0) e) ∙ pick-true _ _ (ap (λ (n : ℕ). eqb n 1) g)
+
+pub begun-event : (v : Store) → v .phase ≡ 0 → v .begun ≡ 2 → begunOf v ≡ Option.some (Body.Event (event v (v .head)))
+unfolding begunOf
+begun-event v e g =
+    pick-true _ _ (ap (λ (x : ℕ). eqb x 0) e) ∙ pick-false _ _ (ap (λ (n : ℕ). eqb n 1) g) ∙ pick-true _ _ (ap (λ (n : ℕ). eqb n 2) g)
+
+pub begun-chosen : (v : Store) → v .phase ≡ 0 → (x : ℕ) (b : Body) → ChosenAt v x b → begunOf v ≡ Option.some b
+unfolding kindOf
+begun-chosen v e x (Body.Task t) (m, g) = begun-task v e g ∙ ap (λ (n : ℕ). Option.some (Body.Task n)) (sym (m .0))
+begun-chosen v e x (Body.Event n) (m, g) = begun-event v e g ∙ ap (λ (n : ℕ). Option.some (Body.Event n)) (m .1 .1 .0)
+
+pub chosen-begins : (v : Store) (b : Body) (x : ℕ) → ChosenAt v x b → Begins v
+unfolding kindOf
+chosen-begins v (Body.Task t) x (m, g) = inr (inl g)
+chosen-begins v (Body.Event e) x (m, g) = inr (inr (g, (m .0, m .1 .0)))
 
 -- ---- one call later
 
@@ -78,8 +112,9 @@ inv-later p v d z k (inr i) =
 
 -- a refused call
 pub refused-kept : (p : List ℕ) (v : Store) (d : Device) (z : Serial) (k : ℕ) (c : Call) (r : Refusal) → Expected c (Answer.Refused r) → Inv p v d z k → Kept p v z k c (refuse d r)
-unfolding tell apply
-refused-kept p v d z k c r e i = record { inside = tt; serial = z; tells = λ fuel l. refl; expected = e; inv = inv-later p v d z k i }
+unfolding tell apply begunAfter
+refused-kept p v d z k c r e i =
+    record { inside = tt; serial = z; tells = λ fuel l. refl; expected = e; turn = tt; begins = refl; inv = inv-later p v d z k i }
 
 -- ---- where the waiting records start
 
@@ -153,6 +188,14 @@ module _ (p : List ℕ) (v : Store) (d : Device) (z : Serial) (k : ℕ) (queue :
   placed-queue h rs y f g (Run b j c) ((s, (x, m, r)), e) = ((s, (x, f b x m, running-later r)), e)
   placed-queue h rs y f g (Half b j) ((s, (x, m, r)), e) = ((s, (x, f b x m, running-later r)), e)
 
+  -- what is begun stays
+  pub begun-queue : ChosenStays → (x : Place) → Placed p v d z k x → begunOf (withQueue v queue t) ≡ begunOf v
+  begun-queue f (Free c) (inl (s, (e, g))) = begun-nothing (withQueue v queue t) g ∙ sym (begun-nothing v g)
+  begun-queue f (Free c) (inr (m, inl s)) = begun-committing (withQueue v queue t) 1 (s .phase-is) refl ∙ sym (begun-committing v 1 (s .phase-is) refl)
+  begun-queue f (Free c) (inr (m, inr s)) = begun-committing (withQueue v queue t) 2 (s .phase-is) refl ∙ sym (begun-committing v 2 (s .phase-is) refl)
+  begun-queue f (Run b j c) ((s, (x, m, r)), e) = begun-chosen (withQueue v queue t) (s .phase-is) x b (f b x m) ∙ sym (begun-chosen v (s .phase-is) x b m)
+  begun-queue f (Half b j) ((s, (x, m, r)), e) = begun-chosen (withQueue v queue t) (s .phase-is) x b (f b x m) ∙ sym (begun-chosen v (s .phase-is) x b m)
+
 -- the stores of a handler at work on the records rs, c of which are made
 module _ (p : List ℕ) (v : Store) (lengths : Lengths p v) (d : Device) (z : Serial) (k : ℕ) (i : On p v d z k) (rs : List Record) (c : ℕ)
     (a : AtWork p (v .queue) (v .queueRecords) (v .head) (v .tail) (z .posted) c rs) where
@@ -196,9 +239,9 @@ module _ (p : List ℕ) (v : Store) (lengths : Lengths p v) (d : Device) (z : Se
     chosen-stays : ChosenStays p v d z k queue′ (v .tail)
     unfolding slot
     chosen-stays (Body.Task n) x m = m
-    chosen-stays (Body.Event e) x (o, (ne, (f, g))) =
+    chosen-stays (Body.Event e) x ((o, (ne, (f, g))), kind) =
         let same = slot-stays (v .queue) (v .queueRecords) (v .tail) rs w s (v .head) (head-apart ne) in
-        (o, (ne, (ap (λ (r : Record). r .event) same ∙ f, ap (λ (r : Record). r .datum) same ∙ g)))
+        ((o, (ne, (ap (λ (r : Record). r .event) same ∙ f, ap (λ (r : Record). r .datum) same ∙ g))), kind)
 
     waits-stay : Waiting p queue′ (v .queueRecords) (firstWaiting v) (v .tail) (z .records)
     waits-stay =
@@ -215,11 +258,11 @@ module _ (p : List ℕ) (v : Store) (lengths : Lengths p v) (d : Device) (z : Se
     pub record-kept : (h : Handler) → Handles p queue′ (v .queueRecords) (v .head) (v .tail) (z .posted) h → Kept p v z k Step (out w (withHandler d h) Answer.Stored)
     unfolding withHandler firstWaiting
     record-kept h hs =
-        stored-kept w (withHandler d h) store-inside
+        stored-kept w (withHandler d h) store-inside (rw store-is (begun-queue p v d z k queue′ (v .tail) chosen-stays (d .place) (i .placed)))
         (rw store-is
         (inr
         (record {
-          held = record { tasked = i .held .tasked; head-in = i .held .head-in; waits = waits-stay };
+          held = record { tasked = i .held .tasked; head-in = i .held .head-in; begun-in = i .held .begun-in; waits = waits-stay };
           on = i .on;
           handles = hs;
           count-in = i .count-in;
@@ -247,6 +290,7 @@ module _ (p : List ℕ) (v : Store) (lengths : Lengths p v) (d : Device) (z : Se
         record {
           tasked = i .held .tasked;
           head-in = i .held .head-in;
+          begun-in = i .held .begun-in;
           waits =
               record {
                 first-in = q .first-in;
@@ -259,6 +303,10 @@ module _ (p : List ℕ) (v : Store) (lengths : Lengths p v) (d : Device) (z : Se
               };
         }
 
+    chosen-tail : ChosenStays p v d z k (v .queue) tail′
+    chosen-tail (Body.Task n) y m = m
+    chosen-tail (Body.Event n) y ((o, (ne, m)), kind) = ((o, (tail-free, m)), kind)
+
     tail-stored : Inv p (withQueue v (v .queue) tail′) (withHandler d Resting) (withRecords z rs) (suc k)
     unfolding withHandler withRecords
     tail-stored =
@@ -268,21 +316,19 @@ module _ (p : List ℕ) (v : Store) (lengths : Lengths p v) (d : Device) (z : Se
           on = i .on;
           handles = tt;
           count-in = i .count-in;
-          placed = placed-queue p v d z k (v .queue) tail′ Resting (z .records ++ rs) (z .posted) chosen (λ _. tail-free) (d .place) (i .placed);
+          placed = placed-queue p v d z k (v .queue) tail′ Resting (z .records ++ rs) (z .posted) chosen-tail (λ _. tail-free) (d .place) (i .placed);
         })
-      where
-        chosen : ChosenStays p v d z k (v .queue) tail′
-        chosen (Body.Task n) y m = m
-        chosen (Body.Event n) y (o, (ne, m)) = (o, (tail-free, m))
 
     pub tail-kept : length rs ≡ acceptedEvents Answer.Accepted → Kept p v z k Step (out (to Tail tail′) (withHandler d Resting) Answer.Accepted)
-    unfolding apply tell accept
+    unfolding apply tell accept begunAfter
     tail-kept one =
         record {
           inside = tt;
           serial = withRecords z rs;
           tells = λ fuel l. pick-true _ _ (eq-eqb _ _ (ap length (a .posted-is) ∙ one)) ∙ ap (λ (xs : List Record). some (withRecords z xs)) (a .posted-is);
           expected = tt;
+          turn = tt;
+          begins = begun-queue p v d z k (v .queue) tail′ chosen-tail (d .place) (i .placed);
           inv = tail-stored;
         }
 
@@ -394,10 +440,10 @@ module _ (p : List ℕ) (v : Store) (d : Device) (rest : d .handler ≡ Resting)
       record { phase-is = s .phase-is; task-is = s .task-is; open-is = s .open-is; open-none = s .open-none; pending-is = s .pending-is; lasting = l }
 
   copy-kept : (TaskCommitAt p v z c ⊎ EventCommitAt v z c) → c < v .count → Kept p v z k Step (copyStep p v d c)
-  unfolding apply firstWaiting taskLastStores eventLastStores
+  unfolding apply firstWaiting taskLastStores eventLastStores begunOf
   copy-kept t h =
       rw (copy-is h)
-      (stored-kept (to (Memory (address v c)) (value v c)) further (m .addresses c h)
+      (stored-kept (to (Memory (address v c)) (value v c)) further (m .addresses c h) refl
       (goes-on (apply v (to (Memory (address v c)) (value v c))) (i .held) refl (
         copied-one h,
         ⊎-elim (λ s. inl (task-on s (copies-left (omega arith) (omega arith)))) (λ s. inr (event-on s (copies-left (omega arith) (omega arith)))) t,
@@ -424,14 +470,19 @@ module _ (p : List ℕ) (v : Store) (d : Device) (rest : d .handler ≡ Resting)
   -- ---- the last stores of a task's commit
 
   module _ (h : v .count ≤ c) (s : TaskCommitAt p v z c) where
-    -- words 9 and 10 become y and o, the first j + 1 of these stores are made
-    task-stored : (w : Write) (y o j : ℕ) → InsideOf p v w → apply v w ≡ withNext v y o (v .head) → y < tasks p → c - v .count ≡ j → suc j < length (taskLastStores v)
-        → First (Has (controls (withNext v y o (v .head)))) (suc j) (taskLastStores v) → Kept p v z k Step (out w further Answer.Stored)
+    -- words 9, 10 and 16 become y, o and g, the first j + 1 of these stores are made
+    abbrev next : ℕ → ℕ → ℕ → Store
+    next y o g = withBegun (withNext v y o (v .head)) g
+
+    task-stored : (w : Write) (y o g j : ℕ) → InsideOf p v w → apply v w ≡ next y o g → y < tasks p → g ≤ 2 → c - v .count ≡ j → suc j < length (taskLastStores v)
+        → First (Has (controls (next y o g))) (suc j) (taskLastStores v) → Kept p v z k Step (out w further Answer.Stored)
     unfolding taskLastStores firstWaiting
-    task-stored w y o j inside is below at more made =
+    task-stored w y o g j inside is below kind at more made =
+        let held = i .held in
         stored-kept w further inside
+        (rw is (begun-committing (next y o g) 1 (s .phase-is) refl ∙ sym (begun-committing v 1 (s .phase-is) refl)))
         (rw is
-        (goes-on (withNext v y o (v .head)) (i .held) refl (
+        (goes-on (next y o g) (record { tasked = held .tasked; head-in = held .head-in; begun-in = kind; waits = held .waits }) refl (
           copied-further h,
           inl
               (record {
@@ -443,13 +494,19 @@ module _ (p : List ℕ) (v : Store) (d : Device) (rest : d .handler ≡ Resting)
               }),
         )))
 
-    task-ended : v .task ≡ v .pending → v .openNumber ≡ v .pendingOpen → Kept p v z k Step (out (to Phase 0) (fresh true) Answer.Stored)
+    task-ended : v .task ≡ v .pending → v .openNumber ≡ v .pendingOpen → v .begun ≡ 0 → Kept p v z k Step (out (to Phase 0) (fresh true) Answer.Stored)
     unfolding apply fresh firstWaiting pick
-    task-ended task open′ =
-        stored-kept (to Phase 0) (fresh true) tt
+    task-ended task open′ begun =
+        stored-kept (to Phase 0) (fresh true) tt (begun-nothing (withPhase v 0) begun ∙ sym (begun-nothing v begun))
         (inr
         (record {
-          held = record { tasked = i .held .tasked; head-in = i .held .head-in; waits = rw (first-head v 1 (s .phase-is) refl) at (i .held .waits) };
+          held =
+              record {
+                tasked = i .held .tasked;
+                head-in = i .held .head-in;
+                begun-in = i .held .begun-in;
+                waits = rw (first-head v 1 (s .phase-is) refl) at (i .held .waits);
+              };
           on = refl;
           handles = tt;
           count-in = omega arith;
@@ -461,7 +518,7 @@ module _ (p : List ℕ) (v : Store) (d : Device) (rest : d .handler ≡ Resting)
                   task-is = task ∙ s .pending-is;
                   open-is = open′ ∙ s .pendingOpen-is;
                 },
-                refl,
+                (refl, begun),
               );
         }))
 
@@ -469,11 +526,13 @@ module _ (p : List ℕ) (v : Store) (d : Device) (rest : d .handler ≡ Resting)
         → Kept p v z k Step (storing (taskLastStores v) j further (fresh true) Answer.Stored)
     unfolding taskLastStores storing pick apply
     task-last-kept zero at more made =
-        task-stored (to Task (v .pending)) (v .pending) (v .openNumber) 0 tt refl (rw (s .pending-is) (i .held .tasked .task-in)) at (omega arith) (refl, tt)
+        task-stored (to Task (v .pending)) (v .pending) (v .openNumber) (v .begun) 0 tt refl (rw (s .pending-is) (i .held .tasked .task-in)) (i .held .begun-in) at (omega arith) (refl, tt)
     task-last-kept (suc zero) at more (task, _) =
-        task-stored (to Open (v .pendingOpen)) (v .task) (v .pendingOpen) 1 tt refl (s .task-in) at (omega arith) (task, (refl, tt))
-    task-last-kept (suc (suc zero)) at more (task, (open′, _)) = task-ended task open′
-    task-last-kept (suc (suc (suc j))) at more made = absurd (omega arith)
+        task-stored (to Open (v .pendingOpen)) (v .task) (v .pendingOpen) (v .begun) 1 tt refl (s .task-in) (i .held .begun-in) at (omega arith) (task, (refl, tt))
+    task-last-kept (suc (suc zero)) at more (task, (open′, _)) =
+        task-stored (to Begun 0) (v .task) (v .openNumber) 0 2 tt refl (s .task-in) (omega arith) at (omega arith) (task, (open′, (refl, tt)))
+    task-last-kept (suc (suc (suc zero))) at more (task, (open′, (begun, _))) = task-ended task open′ begun
+    task-last-kept (suc (suc (suc (suc j)))) at more made = absurd (omega arith)
 
   -- ---- the last stores of an event's commit
 
@@ -484,8 +543,8 @@ module _ (p : List ℕ) (v : Store) (d : Device) (rest : d .handler ≡ Resting)
         let u = apply v (to Head (v .pending)) in
         let waits : Waiting p (v .queue) (v .queueRecords) (firstWaiting u) (v .tail) (z .records) =
         rw (first-pending u (s .phase-is)) (rw (first-pending v (s .phase-is)) at (i .held .waits)) in
-        stored-kept (to Head (v .pending)) further tt
-        (goes-on u (record { tasked = i .held .tasked; head-in = rw (first-pending v (s .phase-is)) at (i .held .waits .first-in); waits = waits }) refl (
+        stored-kept (to Head (v .pending)) further tt (begun-committing u 2 (s .phase-is) refl ∙ sym (begun-committing v 2 (s .phase-is) refl))
+        (goes-on u (record { tasked = i .held .tasked; head-in = rw (first-pending v (s .phase-is)) at (i .held .waits .first-in); begun-in = i .held .begun-in; waits = waits }) refl (
           copied-further h,
           inr
               (record {
@@ -498,30 +557,51 @@ module _ (p : List ℕ) (v : Store) (d : Device) (rest : d .handler ≡ Resting)
               }),
         ))
 
-    event-ended : v .head ≡ v .pending → Kept p v z k Step (out (to Phase 0) (fresh true) Answer.Stored)
+    begun-cleared : c - v .count ≡ 1 → v .head ≡ v .pending → Kept p v z k Step (out (to Begun 0) further Answer.Stored)
+    unfolding apply eventLastStores firstWaiting
+    begun-cleared at head =
+        let u = apply v (to Begun 0) in
+        let held = i .held in
+        stored-kept (to Begun 0) further tt (begun-committing u 2 (s .phase-is) refl ∙ sym (begun-committing v 2 (s .phase-is) refl))
+        (goes-on u (record { tasked = held .tasked; head-in = held .head-in; begun-in = omega arith; waits = held .waits }) refl (
+          copied-further h,
+          inr
+              (record {
+                phase-is = s .phase-is;
+                task-is = s .task-is;
+                open-is = s .open-is;
+                open-none = s .open-none;
+                pending-is = s .pending-is;
+                lasting = record { last = 2; last-is = omega arith; inside = omega arith; made = (head, (refl, tt)) };
+              }),
+        ))
+
+    event-ended : v .head ≡ v .pending → v .begun ≡ 0 → Kept p v z k Step (out (to Phase 0) (fresh true) Answer.Stored)
     unfolding apply fresh firstWaiting pick
-    event-ended head =
-        stored-kept (to Phase 0) (fresh true) tt
+    event-ended head begun =
+        stored-kept (to Phase 0) (fresh true) tt (begun-nothing (withPhase v 0) begun ∙ sym (begun-nothing v begun))
         (inr
         (record {
           held =
               record {
                 tasked = i .held .tasked;
                 head-in = i .held .head-in;
+                begun-in = i .held .begun-in;
                 waits = rw (first-pending v (s .phase-is) ∙ sym head) at (i .held .waits);
               };
           on = refl;
           handles = tt;
           count-in = omega arith;
-          placed = inl (record { phase-is = refl; memory-is = memory-whole h; task-is = s .task-is; open-is = s .open-is }, refl);
+          placed = inl (record { phase-is = refl; memory-is = memory-whole h; task-is = s .task-is; open-is = s .open-is }, (refl, begun));
         }))
 
     event-last-kept : (j : ℕ) → c - v .count ≡ j → j < length (eventLastStores v) → First (Has (controls v)) j (eventLastStores v)
         → Kept p v z k Step (storing (eventLastStores v) j further (fresh true) Answer.Stored)
     unfolding eventLastStores storing pick
     event-last-kept zero at more made = head-stored at
-    event-last-kept (suc zero) at more (head, _) = event-ended head
-    event-last-kept (suc (suc j)) at more made = absurd (omega arith)
+    event-last-kept (suc zero) at more (head, _) = begun-cleared at head
+    event-last-kept (suc (suc zero)) at more (head, (begun, _)) = event-ended head begun
+    event-last-kept (suc (suc (suc j))) at more made = absurd (omega arith)
 
   last-kept : (TaskCommitAt p v z c ⊎ EventCommitAt v z c) → v .count ≤ c → Kept p v z k Step (copyStep p v d c)
   last-kept (inl s) h =
@@ -555,7 +635,8 @@ module _ (p : List ℕ) (v : Store) (d : Device) (rest : d .handler ≡ Resting)
   unfolding taskLastStores eventLastStores lastStores apply withPlace storing pick fresh
   leaves-task h e zero at more r n = record { answer-is = refl; on = i .on; rests = rest; place = c + 1; place-is = refl; remaining = less-left r n }
   leaves-task h e (suc zero) at more r n = record { answer-is = refl; on = i .on; rests = rest; place = c + 1; place-is = refl; remaining = less-left r n }
-  leaves-task h e (suc (suc zero)) at more r n =
+  leaves-task h e (suc (suc zero)) at more r n = record { answer-is = refl; on = i .on; rests = rest; place = c + 1; place-is = refl; remaining = less-left r n }
+  leaves-task h e (suc (suc (suc zero))) at more r n =
       record {
         answer-is = refl;
         on = refl;
@@ -564,13 +645,14 @@ module _ (p : List ℕ) (v : Store) (d : Device) (rest : d .handler ≡ Resting)
         place-is = refl;
         remaining = inl (refl, none-left h _ (task-last-is v e) (omega arith) r n);
       }
-  leaves-task h e (suc (suc (suc j))) at more r n = absurd (omega arith)
+  leaves-task h e (suc (suc (suc (suc j)))) at more r n = absurd (omega arith)
 
   leaves-event : v .count ≤ c → v .phase ≡ 2 → (j : ℕ) → c - v .count ≡ j → j < length (eventLastStores v) → (r : ℕ) → Remaining v c (suc r)
       → LeavesStores v (storing (eventLastStores v) j further (fresh true) Answer.Stored) r
   unfolding taskLastStores eventLastStores lastStores apply withPlace storing pick fresh
   leaves-event h e zero at more r n = record { answer-is = refl; on = i .on; rests = rest; place = c + 1; place-is = refl; remaining = less-left r n }
-  leaves-event h e (suc zero) at more r n =
+  leaves-event h e (suc zero) at more r n = record { answer-is = refl; on = i .on; rests = rest; place = c + 1; place-is = refl; remaining = less-left r n }
+  leaves-event h e (suc (suc zero)) at more r n =
       record {
         answer-is = refl;
         on = refl;
@@ -579,7 +661,7 @@ module _ (p : List ℕ) (v : Store) (d : Device) (rest : d .handler ≡ Resting)
         place-is = refl;
         remaining = inl (refl, none-left h _ (event-last-is v e) (omega arith) r n);
       }
-  leaves-event h e (suc (suc j)) at more r n = absurd (omega arith)
+  leaves-event h e (suc (suc (suc j))) at more r n = absurd (omega arith)
 
   leaves-last : (TaskCommitAt p v z c ⊎ EventCommitAt v z c) → (r : ℕ) → Remaining v c (suc r) → v .count ≤ c → LeavesStores v (copyStep p v d c) r
   leaves-last (inl s) r n h =

@@ -2,29 +2,31 @@
 use Prim.Native.Nat.{ℕ, zero, suc, _+_, _-_, _*_, _≤_, _<_, min}
 use mathlib.Core.Path.{_≡_, refl, sym, ap, subst, _∙_}
 use mathlib.Core.Logic.{_⊎_, inl, inr, _≢_}
-use mathlib.Core.Bool.{true}
-use mathlib.Core.List.{List, _∷_}
+use mathlib.Core.Bool.{Bool, true, false, not}
+use mathlib.Core.List.{List, [], _∷_}
 use native.Mathlib.Nat.{zero-add, add-suc, suc-add}
 use native.Mathlib.Numerals.{add-one}
 use native.Mathlib.Omega.{arith}
 use borrow.Author.Tests.{lt-ltb, eqb-true, eqb-false, eq-eqb, ltb-true, not-true}
-use lib.ListN.{length, set, replicate}
+use lib.Dec.{eqb}
+use lib.ListN.{length, set}
 use lib.Seq.{getD-set-other, getD-set-same}
-use Rattle.model.proofs.Invariant.{Lengths, Waiting, StillAt, Copying, ChosenAt, Running, EndingAt, HalfSaved, On, Inv}
-use Rattle.model.proofs.Kept.{Kept, refused-kept, stored-kept, copies-left, running-later, known-waiting, first-head, first-pending}
+use Rattle.model.proofs.Invariant.{Lengths, Waiting, Handles, HeldAt, StillAt, Copying, ChosenAt, Running, EndingAt, HalfSaved, On, Inv}
+use Rattle.model.proofs.Kept.{Kept, refused-kept, stored-kept, begun-nothing, begun-committing, begun-chosen, copies-left, running-later, known-waiting, first-head, first-pending}
 use Rattle.model.proofs.LogLaws.{addr, overlay, overlay-zero, overlay-other, overlay-elsewhere, overlay-pair, overlay-overwrite, overlay-append, Distinct, find-pair, find-nothing}
-use Rattle.model.proofs.RingLaws.{slot-after-le, between-first, records-head}
-use Rattle.model.proofs.StoreLaws.{apply, withData, withCommit, Inside}
-use Rattle.model.proofs.TestLaws.{pick-case, pick-true, below-or, and-true, and-left, and-right, must-true}
+use Rattle.model.proofs.RingLaws.{slot-after-le, distance-none, between-first, records-head}
+use Rattle.model.proofs.StoreLaws.{apply, withPhase, withBegun, withData, withCommit, Inside}
+use Rattle.model.proofs.TestLaws.{pick-case, pick-true, pick-false, clash, below-or, and-true, and-left, and-right, must-true}
 use Rattle.model.specs.Accepted.{Known, LegalEffect, Sound}
 use Rattle.model.specs.Answer.{refusal}
 use Rattle.model.specs.Calls.{Step}
 use Rattle.model.specs.Demand3.{isIn, mayMeet}
-use Rattle.model.specs.Device.{Outcome, out, judged, fresh, withPlace, begun, storing, taskStores, eventStores, taskLastStores, eventLastStores, recordSound, chooseStep, shown, saveStep, act, saveRest}
-use Rattle.model.specs.Program.{word, tasks, events, memoryWords, instructions, transaction, bodyNumber, effectAt, newOpen}
+use Rattle.model.specs.Device.{Outcome, out, judged, fresh, withPlace, storing, taskStores, eventStores, taskLastStores, eventLastStores, kindOf, currentTask, oldestEvent, begunOf, dataFor, started, recordSound, eventNext, choosing, chooseStep, shown, saveStep, act, saveRest}
+use Rattle.model.specs.Program.{firstRegisters, word, tasks, events, memoryWords, instructions, transaction, bodyNumber, effectAt, newOpen}
 use Rattle.model.specs.Serial.{Serial, went, advance, walk, walkBody, afterTask, afterEvent, serveOldest, runBody, tell}
-use Rattle.model.specs.Store.{Store, event, datum, slotAfter, firstWaiting, slot, recordsFrom, distance, find, Word, Phase, Count, Pending, PendingOpen, Address, Value, none, to}
-use Rattle.model.specs.Test.{pick, _or_}
+use Rattle.model.specs.Store.{Store, event, datum, Record, slotAfter, empty, firstWaiting, slot, recordsFrom, distance, find, Word, Phase, Count, Pending, PendingOpen, Address, Value, none, to}
+use Rattle.model.specs.Test.{pick, _and_, _or_}
+use Rattle.model.specs.Turns.{begunAfter, oldestOr, nextBody}
 use Rattle.model.specs.Types.{Answer, Body, Checked, Device, Effect, Found, Half, Refusal, Run}
 
 -- no store of a body's end is made
@@ -60,44 +62,126 @@ module _ (p : List ℕ) (sound : Sound p) (v : Store) (lengths : Lengths p v) (d
         );
       })
 
-  -- ---- choosing
+-- ---- beginning a body: choosing it, and taking it up
 
-  begins : (b : Body) (x : ℕ) → ChosenAt v x b → bodyNumber p b < tasks p + events p
-      → Kept p v z k Step (out none (begun d b x) (Answer.Chosen b))
-  unfolding begun tell apply
-  begins b x chosen h =
+module _ (p : List ℕ) (sound : Sound p) (v : Store) (d : Device) (z : Serial) (k : ℕ) (held : HeldAt p v z) (still : StillAt v z) where
+  -- at its first instruction, register 0 with x, where the device is on
+  pub begins : d .on ≡ true → Handles p (v .queue) (v .queueRecords) (v .head) (v .tail) (z .posted) (d .handler) → (b : Body) (x : ℕ)
+      → ChosenAt v x b → bodyNumber p b < tasks p + events p → On p v (withPlace d (firstRegisters x) (Run b 0 0) 0) z (suc k)
+  unfolding withPlace
+  begins on handles b x chosen h =
+      record {
+        held = held;
+        on = on;
+        handles = handles;
+        count-in = omega arith;
+        placed = (
+          (
+            still,
+            (
+              x,
+              chosen,
+              record {
+                body-in = h;
+                place-in = sound .some-instruction (bodyNumber p b) h;
+                addresses = λ n l. absurd (omega arith);
+                distinct = record { apart = λ n m l s. absurd (omega arith) };
+                ran = 0;
+                ran-in = omega arith;
+                same = λ f. rw (zero-add, overlay-zero, still .memory-is);
+              },
+            ),
+          ),
+          ending-none p v (withPlace d (firstRegisters x) (Run b 0 0) 0) b (bodyNumber p b) 0 (effectAt p (bodyNumber p b) 0 (firstRegisters x))
+              (sound .legal (bodyNumber p b) 0 (firstRegisters x) h (sound .some-instruction (bodyNumber p b) h)),
+        );
+      }
+
+  -- the current task, and the event of the record at head, are bodies of the program
+  pub task-in : bodyNumber p (currentTask v) < tasks p + events p
+  unfolding bodyNumber
+  task-in = rw (still .task-is) (omega (arith, held .tasked .task-in))
+
+  pub event-known : v .head ≢ v .tail → event v (v .head) < events p
+  event-known some-record =
+      known-waiting (held .waits) (v .head) (held .head-in) (rw (first-head v 0 (still .phase-is) refl) (between-first (v .head) (v .tail) some-record))
+
+  pub event-in : v .head ≢ v .tail → bodyNumber p (oldestEvent v) < tasks p + events p
+  unfolding bodyNumber
+  event-in some-record = omega (arith, event-known some-record)
+
+  waits-at-head : Waiting p (v .queue) (v .queueRecords) (v .head) (v .tail) (z .records)
+  waits-at-head = rw (first-head v 0 (still .phase-is) refl) at (held .waits)
+
+  -- it is the turn of the event of the record at head, or else of the current task
+  event-next : v .openNumber ≡ 0 → v .head ≢ v .tail → oldestEvent v ≡ nextBody z
+  unfolding nextBody oldestOr slot
+  event-next open′ some-record =
+      let waits = waits-at-head in
+      let records-are = sym (waits .same) ∙ records-head (v .queue) (v .queueRecords) (v .head) (v .tail) (held .head-in) (waits .tail-in) some-record in
+      sym
+      (pick-true _ _ (eq-eqb _ _ (sym (still .open-is) ∙ open′))
+      ∙ ap (λ (rs : List Record). oldestOr rs (Body.Task (z .task))) records-are)
+
+  no-records : v .head ≡ v .tail → z .records ≡ []
+  unfolding recordsFrom
+  no-records e =
+      let waits = waits-at-head in
+      let far : distance (v .queueRecords) (v .head) (v .tail) ≡ 0 =
+      ap (distance (v .queueRecords) (v .head)) (sym e) ∙ distance-none (v .queueRecords) (v .head) in
+      sym (waits .same) ∙ ap (recordsFrom (v .queue) (v .queueRecords) (v .head)) far
+
+  task-next : eventNext v ≡ false → currentTask v ≡ nextBody z
+  unfolding eventNext nextBody oldestOr _and_
+  task-next e = go (eqb (v .openNumber) 0) refl (empty v) refl e
+    where
+      same : Body.Task (v .task) ≡ Body.Task (z .task)
+      same = ap Body.Task (still .task-is)
+
+      go : (a : Bool) → eqb (v .openNumber) 0 ≡ a → (b : Bool) → empty v ≡ b → (a and not b) ≡ false → currentTask v ≡ nextBody z
+      go true o true n f =
+          same
+          ∙ sym (pick-true _ _ (ap (λ (x : ℕ). eqb x 0) (sym (still .open-is)) ∙ o)
+          ∙ ap (λ (rs : List Record). oldestOr rs (Body.Task (z .task))) (no-records (eqb-true _ _ n)))
+      go true o false n f = clash refl f
+      go false o b n f = same ∙ sym (pick-false _ _ (ap (λ (x : ℕ). eqb x 0) (sym (still .open-is)) ∙ o))
+
+-- "Choosing stores it and still answers chosen"
+module _ (p : List ℕ) (sound : Sound p) (v : Store) (d : Device) (z : Serial) (k : ℕ) (i : On p v d z k) (still : StillAt v z) (nothing : v .begun ≡ 0) where
+  choosing-kept : (b : Body) (x : ℕ) → dataFor v b ≡ x → ChosenAt (withBegun v (kindOf b)) x b → bodyNumber p b < tasks p + events p → kindOf b ≤ 2
+      → b ≡ nextBody z → Kept p v z k Step (choosing v d b)
+  unfolding choosing started tell apply begunAfter firstWaiting
+  choosing-kept b x is chosen h kind turn =
+      let u = withBegun v (kindOf b) in
+      let held = i .held in
       record {
         inside = tt;
         serial = z;
         tells = λ fuel l. refl;
         expected = tt;
+        turn = (begun-nothing v nothing, turn);
+        begins = begun-chosen u (still .phase-is) x b chosen;
         inv =
-            runs (v .log) b x 0 (x ∷ replicate 7 0) 0 chosen
-            (record {
-              body-in = h;
-              place-in = sound .some-instruction (bodyNumber p b) h;
-              addresses = λ n l. absurd (omega arith);
-              distinct = record { apart = λ n m l s. absurd (omega arith) };
-              ran = 0;
-              ran-in = omega arith;
-              same = λ f. rw (zero-add, overlay-zero, still .memory-is);
-            }) (omega arith);
+            inr
+            (rw is
+            (begins p sound u d z k (record { tasked = held .tasked; head-in = held .head-in; begun-in = kind; waits = held .waits }) still
+            (i .on) (i .handles) b x chosen h));
       }
 
   pub choose-kept : Kept p v z k Step (chooseStep p v d)
-  unfolding chooseStep judged recordSound bodyNumber
+  unfolding chooseStep eventNext judged recordSound dataFor kindOf
   choose-kept =
       pick-case (λ (o : Outcome). Kept p v z k Step o)
       (λ e.
       let open′ : v .openNumber ≡ 0 = eqb-true _ _ (and-left _ _ e) in
       let some-record : v .head ≢ v .tail = eqb-false _ _ (not-true _ (and-right _ _ e)) in
-      let known : event v (v .head) < events p =
-      known-waiting (i .held .waits) (v .head) (i .held .head-in)
-      (rw (first-head v 0 (still .phase-is) refl) (between-first (v .head) (v .tail) some-record)) in
-      let passed : recordSound p v ≡ Checked.Accepted = must-true _ (lt-ltb _ _ known) in
+      let passed : recordSound p v ≡ Checked.Accepted = must-true _ (lt-ltb _ _ (event-known p sound v d z k (i .held) still some-record)) in
       rw passed
-      (begins (Body.Event (event v (v .head))) (datum v (v .head)) (open′, (some-record, (refl, refl))) (omega arith)))
-      (λ e. begins (Body.Task (v .task)) 0 (refl, refl) (rw (still .task-is) (omega (arith, i .held .tasked .task-in))))
+      (choosing-kept (oldestEvent v) (datum v (v .head)) refl ((open′, (some-record, (refl, refl))), refl)
+      (event-in p sound v d z k (i .held) still some-record) (omega arith) (event-next p sound v d z k (i .held) still open′ some-record)))
+      (λ e.
+      choosing-kept (currentTask v) 0 refl ((refl, refl), refl) (task-in p sound v d z k (i .held) still) (omega arith)
+      (task-next p sound v d z k (i .held) still e))
 
 -- ---- one instruction
 
@@ -129,9 +213,9 @@ module _ (p : List ℕ) (sound : Sound p) (v : Store) (lengths : Lengths p v) (d
   seen = overlay (v .memory) (v .log) (d .count)
 
   walked : (f : Effect) → effectAt p n j (d .registers) ≡ f → (g : ℕ)
-      → walk (suc (h .ran) + g) p n 0 (x ∷ replicate 7 0) (z .memory) ≡ advance p j (d .registers) seen (λ a s o. walk g p n a s o) f
+      → walk (suc (h .ran) + g) p n 0 (firstRegisters x) (z .memory) ≡ advance p j (d .registers) seen (λ a s o. walk g p n a s o) f
   walked f e g =
-      ap (λ (a : ℕ). walk a p n 0 (x ∷ replicate 7 0) (z .memory)) (suc-add (h .ran) g ∙ sym (add-suc (h .ran) g))
+      ap (λ (a : ℕ). walk a p n 0 (firstRegisters x) (z .memory)) (suc-add (h .ran) g ∙ sym (add-suc (h .ran) g))
       ∙ h .same (suc g)
       ∙ walk-step p n j (d .registers) seen g (h .place-in)
       ∙ ap (advance p j (d .registers) seen (λ a s o. walk g p n a s o)) e
@@ -157,13 +241,15 @@ module _ (p : List ℕ) (sound : Sound p) (v : Store) (lengths : Lengths p v) (d
   works : (f : Effect) → effectAt p n j (d .registers) ≡ f → (a : ℕ) (r : List ℕ) → a < instructions p n
       → ((g : ℕ) → advance p j (d .registers) seen (λ c s o. walk g p n c s o) f ≡ walk g p n a r seen)
       → Kept p v z k Step (out none (withPlace d r (Run b a 0) (d .count)) Answer.Worked)
-  unfolding tell apply
+  unfolding tell apply begunAfter
   works f e a r place same =
       record {
         inside = tt;
         serial = z;
         tells = λ fuel l. refl;
         expected = tt;
+        turn = tt;
+        begins = refl;
         inv = goes-on f e (v .log) a r (d .count) place (h .addresses) (h .distinct) (i .count-in) same;
       }
 
@@ -171,12 +257,12 @@ module _ (p : List ℕ) (sound : Sound p) (v : Store) (lengths : Lengths p v) (d
   half-saved : (y w : ℕ) → effectAt p n j (d .registers) ≡ Effect.Save y w → y < memoryWords p
       → ((m : ℕ) → m < d .count → addr (v .log) m ≢ y) → d .count < v .logPairs
       → Kept p v z k Step (out (to (Address (d .count)) y) (withPlace d (d .registers) (Half b j) (d .count)) Answer.Stored)
-  unfolding tell apply withPlace firstWaiting
+  unfolding tell apply withPlace firstWaiting begunOf
   half-saved y w e below new room =
       let l = d .count in
       let log = set (v .log) (2 * l) y in
       let keeps : (m : ℕ) → m < l → addr log m ≡ addr (v .log) m = λ m s. getD-set-other (v .log) (2 * l) (2 * m) y 0 (omega arith) in
-      stored-kept (to (Address l) y) _ room
+      stored-kept (to (Address l) y) _ room refl
       (inr
       (record {
         held = i .held;
@@ -212,11 +298,11 @@ module _ (p : List ℕ) (sound : Sound p) (v : Store) (lengths : Lengths p v) (d
 
   save-kept : (y w : ℕ) → effectAt p n j (d .registers) ≡ Effect.Save y w → j + 1 < instructions p n → y < memoryWords p
       → (f : Found) → find (v .log) (d .count) y ≡ f → Kept p v z k Step (saveStep v d b j y w f)
-  unfolding saveStep tell apply withPlace advance refusal isIn mayMeet _or_
+  unfolding saveStep tell apply withPlace advance refusal isIn mayMeet _or_ begunOf
   save-kept y w e place below (Found.Pair a) q =
       let pair = find-pair (v .log) (d .count) y a q in
       let keeps : (m : ℕ) → addr (set (v .log) (2 * a + 1) w) m ≡ addr (v .log) m = λ m. getD-set-other (v .log) (2 * a + 1) (2 * m) w 0 (omega arith) in
-      stored-kept (to (Value a) w) _ (omega (arith, pair .0, i .count-in))
+      stored-kept (to (Value a) w) _ (omega (arith, pair .0, i .count-in)) refl
       (goes-on (Effect.Save y w) e (set (v .log) (2 * a + 1) w) (j + 1) (d .registers) (d .count) place
       (λ m l. rw (keeps m) (h .addresses m l))
       (record { apart = λ m o l s. rw (keeps m, keeps o) (h .distinct .apart m o l s) }) (i .count-in)
@@ -230,7 +316,7 @@ module _ (p : List ℕ) (sound : Sound p) (v : Store) (lengths : Lengths p v) (d
       (λ s. refused-kept p v d z k Step Refusal.LogFull refl (inr i))
 
   pub rest-kept : (f : Effect) → effectAt p n j (d .registers) ≡ f → LegalEffect p n j f → HalfSaved p (v .log) (v .logPairs) (d .count) f → Kept p v z k Step (saveRest d b j f)
-  unfolding saveRest tell apply advance
+  unfolding saveRest tell apply advance begunAfter begunOf
   rest-kept (Effect.Compute a y) e leads t = absurd t
   rest-kept (Effect.Jump a) e leads t = absurd t
   rest-kept (Effect.Load a y) e leads t = absurd t
@@ -243,6 +329,8 @@ module _ (p : List ℕ) (sound : Sound p) (v : Store) (lengths : Lengths p v) (d
         serial = z;
         tells = λ fuel s. refl;
         expected = tt;
+        turn = tt;
+        begins = refl;
         inv =
             goes-on (Effect.Save y w) e log (j + 1) (d .registers) (l + 1) leads
             (λ m s. rw (keeps m) (below-or m l (h .addresses m) (λ t. let f : m ≡ l = omega arith in rw (f, stored) below)))
@@ -265,10 +353,10 @@ module _ (p : List ℕ) (sound : Sound p) (v : Store) (lengths : Lengths p v) (d
 
   -- the serial run of the whole body
   walk-ends : (f : Effect) → effectAt p n j (d .registers) ≡ f → (fuel : ℕ) → k < fuel
-      → walk fuel p n 0 (x ∷ replicate 7 0) (z .memory) ≡ advance p j (d .registers) seen (λ a s o. walk (fuel - suc (h .ran)) p n a s o) f
+      → walk fuel p n 0 (firstRegisters x) (z .memory) ≡ advance p j (d .registers) seen (λ a s o. walk (fuel - suc (h .ran)) p n a s o) f
   walk-ends f e fuel l =
       let q : fuel ≡ suc (h .ran) + (fuel - suc (h .ran)) = omega (arith, h .ran-in) in
-      ap (λ (a : ℕ). walk a p n 0 (x ∷ replicate 7 0) (z .memory)) q ∙ walked f e (fuel - suc (h .ran))
+      ap (λ (a : ℕ). walk a p n 0 (firstRegisters x) (z .memory)) q ∙ walked f e (fuel - suc (h .ran))
 
   waits-head : Waiting p (v .queue) (v .queueRecords) (v .head) (v .tail) (z .records)
   waits-head = rw (first-head v 0 (still .phase-is) refl) at (i .held .waits)
@@ -279,7 +367,7 @@ module _ (p : List ℕ) (sound : Sound p) (v : Store) (lengths : Lengths p v) (d
       → Kept p v z k Step (out (to w y) (withPlace d (d .registers) (Run b j c) (d .count)) Answer.Stored)
   unfolding withPlace
   staged w y c a o m s q f e t =
-      stored-kept (to w y) _ s
+      stored-kept (to w y) _ s (rw q (begun-chosen (withCommit v a o m) (still .phase-is) x b chosen ∙ sym (begun-chosen v (still .phase-is) x b chosen)))
       (rw q
       (inr
       (record {
@@ -287,6 +375,7 @@ module _ (p : List ℕ) (sound : Sound p) (v : Store) (lengths : Lengths p v) (d
             record {
               tasked = i .held .tasked;
               head-in = i .held .head-in;
+              begun-in = i .held .begun-in;
               waits = rw (first-head (withCommit v a o m) 0 (still .phase-is) refl) waits-head;
             };
         on = i .on;
@@ -319,12 +408,12 @@ task-commits : (p : List ℕ) (sound : Sound p) (v : Store) (lengths : Lengths p
     → effectAt p t j (d .registers) ≡ Effect.EndTask a → a < tasks p → v .count ≡ d .count → v .pending ≡ a
     → v .pendingOpen ≡ newOpen (transaction p t) (transaction p a)
     → Kept p v z k Step (out (to Phase 1) (fresh true) (Answer.Committed (Body.Task t)))
-unfolding tell apply fresh runBody afterTask walkBody bodyNumber advance taskLastStores
+unfolding tell apply fresh runBody afterTask walkBody bodyNumber advance taskLastStores begunAfter
 task-commits p sound v lengths d z k i still t j x chosen h a e below count pending pendingOpen =
-    let is : t ≡ z .task = chosen .0 ∙ still .task-is in
+    let is : t ≡ z .task = chosen .0 .0 ∙ still .task-is in
     let w = overlay (v .memory) (v .log) (d .count) in
-    let ends : (fuel : ℕ) → k < fuel → walk fuel p t 0 (0 ∷ replicate 7 0) (z .memory) ≡ went a w =
-    λ fuel l. ap (λ (y : ℕ). walk fuel p t 0 (y ∷ replicate 7 0) (z .memory)) (sym (chosen .1)) ∙ walk-ends p sound v lengths d z k i still (Body.Task t) j x chosen h (Effect.EndTask a) e fuel l in
+    let ends : (fuel : ℕ) → k < fuel → walk fuel p t 0 (firstRegisters 0) (z .memory) ≡ went a w =
+    λ fuel l. ap (λ (y : ℕ). walk fuel p t 0 (firstRegisters y) (z .memory)) (sym (chosen .0 .1)) ∙ walk-ends p sound v lengths d z k i still (Body.Task t) j x chosen h (Effect.EndTask a) e fuel l in
     record {
       inside = tt;
       serial =
@@ -337,6 +426,8 @@ task-commits p sound v lengths d z k i still t j x chosen h a e below count pend
           };
       tells = λ fuel l. pick-true _ _ (eq-eqb _ _ is) ∙ ap (afterTask p z) (ends fuel l);
       expected = tt;
+      turn = begun-chosen v (still .phase-is) x (Body.Task t) chosen;
+      begins = begun-committing (withPhase v 1) 1 refl refl;
       inv =
           inr
           (record {
@@ -344,6 +435,7 @@ task-commits p sound v lengths d z k i still t j x chosen h a e below count pend
                 record {
                   tasked = record { task-in = below; open-in = new-open-in p (transaction p (z .task)) a };
                   head-in = i .held .head-in;
+                  begun-in = i .held .begun-in;
                   waits =
                       rw (first-head (apply v (to Phase 1)) 1 refl refl)
                       (waits-head p sound v lengths d z k i still (Body.Task t) j x chosen h);
@@ -373,12 +465,12 @@ event-commits : (p : List ℕ) (sound : Sound p) (v : Store) (lengths : Lengths 
     (h : Running p (v .memory) (v .log) (z .memory) k (Body.Event e) x j (d .registers) (d .count))
     → effectAt p (tasks p + e) j (d .registers) ≡ Effect.EndEvent → v .count ≡ d .count → v .pending ≡ slotAfter (v .queueRecords) (v .head)
     → Kept p v z k Step (out (to Phase 2) (fresh true) (Answer.Committed (Body.Event e)))
-unfolding tell apply fresh runBody serveOldest afterEvent walkBody bodyNumber advance slot eventLastStores
+unfolding tell apply fresh runBody serveOldest afterEvent walkBody bodyNumber advance slot eventLastStores begunAfter
 event-commits p sound v lengths d z k i still e j x chosen h ends count pending =
     let q = v .queueRecords in
     let waits = waits-head p sound v lengths d z k i still (Body.Event e) j x chosen h in
     let w = overlay (v .memory) (v .log) (d .count) in
-    let some-record = chosen .1 .0 in
+    let some-record = chosen .0 .1 .0 in
     let rest = recordsFrom (v .queue) q (slotAfter q (v .head)) (distance q (slotAfter q (v .head)) (v .tail)) in
     let records-are : z .records ≡ slot (v .queue) (v .head) ∷ rest =
     sym (waits .same) ∙ records-head (v .queue) q (v .head) (v .tail) (i .held .head-in) (waits .tail-in) some-record in
@@ -388,11 +480,13 @@ event-commits p sound v lengths d z k i still e j x chosen h ends count pending 
       tells =
           λ fuel l.
           ap (serveOldest fuel p z e) records-are
-          ∙ pick-true _ _ (and-true (eq-eqb _ _ (chosen .1 .1 .0)) (eq-eqb _ _ (sym (still .open-is) ∙ chosen .0)))
+          ∙ pick-true _ _ (and-true (eq-eqb _ _ (chosen .0 .1 .1 .0)) (eq-eqb _ _ (sym (still .open-is) ∙ chosen .0 .0)))
           ∙ ap (afterEvent z rest)
-          (ap (λ (y : ℕ). walk fuel p (tasks p + e) 0 (y ∷ replicate 7 0) (z .memory)) (chosen .1 .1 .1)
+          (ap (λ (y : ℕ). walk fuel p (tasks p + e) 0 (firstRegisters y) (z .memory)) (chosen .0 .1 .1 .1)
           ∙ walk-ends p sound v lengths d z k i still (Body.Event e) j x chosen h Effect.EndEvent ends fuel l);
       expected = tt;
+      turn = begun-chosen v (still .phase-is) x (Body.Event e) chosen;
+      begins = begun-committing (withPhase v 2) 2 refl refl;
       inv =
           inr
           (record {
@@ -400,6 +494,7 @@ event-commits p sound v lengths d z k i still e j x chosen h ends count pending 
                 record {
                   tasked = i .held .tasked;
                   head-in = i .held .head-in;
+                  begun-in = i .held .begun-in;
                   waits =
                       rw (first-pending (apply v (to Phase 2)) refl ∙ pending)
                       (record {
@@ -420,7 +515,7 @@ event-commits p sound v lengths d z k i still e j x chosen h ends count pending 
                         phase-is = refl;
                         task-is = still .task-is;
                         open-is = still .open-is;
-                        open-none = chosen .0;
+                        open-none = chosen .0 .0;
                         pending-is = inr (pending, some-record);
                         lasting = copies-left (omega arith) (omega arith);
                       }),
@@ -451,7 +546,7 @@ event-last : (p : List ℕ) (sound : Sound p) (v : Store) (lengths : Lengths p v
     → Kept p v z k Step (out (to Phase 2) (fresh true) (Answer.Committed b))
 unfolding bodyNumber
 event-last p sound v lengths d z k i still (Body.Task t) j x chosen h e leads count pending =
-    absurd (omega (arith, leads, chosen .0, still .task-is, i .held .tasked .task-in))
+    absurd (omega (arith, leads, chosen .0 .0, still .task-is, i .held .tasked .task-in))
 event-last p sound v lengths d z k i still (Body.Event n) j x chosen h e leads count pending =
     event-commits p sound v lengths d z k i still n j x chosen h e count pending
 

@@ -1,24 +1,26 @@
 -- Boot, step, post and cut keep the invariant, over the parts of a store. Assumes nothing.
 use Prim.Native.Nat.{ℕ, suc, _≤_, _<_, min}
-use mathlib.Core.Path.{_≡_, refl, sym, ap, _∙_}
-use mathlib.Core.Logic.{_⊎_, inl, inr, ⊎-elim}
+use mathlib.Core.Path.{_≡_, refl, sym, ap, subst, _∙_}
+use mathlib.Core.Logic.{_⊎_, inl, inr}
 use mathlib.Core.List.{List}
+use mathlib.Core.Option.{Option}
 use native.Mathlib.Omega.{arith}
 use lib.Dec.{eqb}
 use Rattle.model.proofs.Checks.{body-sound, run-fits, half-fits}
 use Rattle.model.proofs.Invariant.{Lengths, Handles, HeldAt, CopyingAt, TaskCommitAt, EventCommitAt, Placed, Resumes, On, Inv}
-use Rattle.model.proofs.Kept.{Kept, placed-queue, handler-kept, copies-left, commit-kept}
-use Rattle.model.proofs.KeptBody.{choose-kept, act-kept, rest-kept}
+use Rattle.model.proofs.Kept.{Kept, begun-nothing, begun-committing, begun-task, begun-event, chosen-begins, placed-queue, handler-kept, copies-left, commit-kept}
+use Rattle.model.proofs.KeptBody.{begins, task-in, event-in, choose-kept, act-kept, rest-kept}
 use Rattle.model.proofs.LogLaws.{overlay, overlay-zero, overlay-again}
 use Rattle.model.proofs.StoreLaws.{apply}
 use Rattle.model.proofs.TestLaws.{pick-true, pick-false}
 use Rattle.model.specs.Accepted.{Sound}
 use Rattle.model.specs.Calls.{Boot, Step, Cut, Post}
-use Rattle.model.specs.Device.{out, judged, fresh, off, turnedOn, withHandler, recordStores, taskLastStores, eventLastStores, placeStep, nextStep}
+use Rattle.model.specs.Device.{out, judged, fresh, off, turnedOn, withHandler, recordStores, taskLastStores, eventLastStores, kindOf, begunOf, dataFor, started, takenUp, placeStep, nextStep}
 use Rattle.model.specs.Program.{bodyNumber, effectAt, events}
 use Rattle.model.specs.Serial.{Serial, tell, afterDone}
-use Rattle.model.specs.Store.{Store, none, carried, room}
-use Rattle.model.specs.Types.{Answer, Device, Free, Half, Handler, Place, Resting, Run, Storing}
+use Rattle.model.specs.Store.{Store, event, datum, none, carried, room}
+use Rattle.model.specs.Turns.{begunAfter}
+use Rattle.model.specs.Types.{Answer, Body, Device, Free, Half, Handler, Place, Resting, Run, Storing}
 
 -- ---- a step, past its early checks
 
@@ -26,8 +28,8 @@ module _ (p : List ℕ) (sound : Sound p) (v : Store) (lengths : Lengths p v) (d
     (i : On p v d z k) where
   place-kept : d .handler ≡ Resting → (x : Place) → Placed p v d z k x → Kept p v z k Step (placeStep p v d x)
   unfolding placeStep judged
-  place-kept rest (Free c) (inl (s, e)) =
-      rw (pick-true {b = eqb (v .phase) 0} _ _ (ap (λ (n : ℕ). eqb n 0) (s .phase-is))) (choose-kept p sound v lengths d z k i s)
+  place-kept rest (Free c) (inl (s, (e, g))) =
+      rw (pick-true {b = eqb (v .phase) 0} _ _ (ap (λ (n : ℕ). eqb n 0) (s .phase-is))) (choose-kept p sound v d z k i s g)
   place-kept rest (Free c) (inr (m, inl t)) =
       rw (pick-false {b = eqb (v .phase) 0} _ _ (ap (λ (n : ℕ). eqb n 0) (t .phase-is))) (commit-kept p v d rest z k i c m (inl t))
   place-kept rest (Free c) (inr (m, inr t)) =
@@ -91,10 +93,10 @@ module _ (p : List ℕ) (v : Store) (d : Device) (z : Serial) (k : ℕ) where
       })
 
   resumes-from : (x : Place) → Placed p v d z k x → Resumes p v z
-  resumes-from (Free c) (inl (s, e)) = inl s
+  resumes-from (Free c) (inl (s, (e, g))) = inl (s, inl g)
   resumes-from (Free c) (inr (m, t)) = inr (copying-again c m, commit-again c t)
-  resumes-from (Run b j c) ((s, r), e) = inl s
-  resumes-from (Half b j) ((s, r), e) = inl s
+  resumes-from (Run b j c) ((s, (x, m, r)), e) = inl (s, chosen-begins v b x m)
+  resumes-from (Half b j) ((s, (x, m, r)), e) = inl (s, chosen-begins v b x m)
 
   pub resumes-of : Inv p v d z k → Resumes p v z
   resumes-of (inl o) = o .resumes
@@ -103,29 +105,57 @@ module _ (p : List ℕ) (v : Store) (d : Device) (z : Serial) (k : ℕ) where
   pub off-inv : Inv p v d z k → Inv p v off z (suc k)
   off-inv i = inl (record { held = held-of i; resumes = resumes-of i; is-off = refl })
 
-  pub on-inv : HeldAt p v z → Resumes p v z → On p v turnedOn z (suc k)
+  -- a boot takes up the begun body; where none is begun, and in phases 1 and 2, the device is the off value turned on
+  idle : HeldAt p v z → Placed p v turnedOn z (suc k) (Free 0) → On p v turnedOn z (suc k)
   unfolding fresh
-  on-inv held resumes = record { held = held; on = refl; handles = tt; count-in = omega arith; placed = ⊎-elim (λ s. inl (s, refl)) inr resumes }
+  idle held placed = record { held = held; on = refl; handles = tt; count-in = omega arith; placed = placed }
+
+  abbrev Boots : Option Body → Type 0
+  Boots g = On p v (takenUp v g) z (suc k)
+
+  pub on-inv : Sound p → HeldAt p v z → Resumes p v z → Boots (begunOf v)
+  unfolding takenUp started dataFor kindOf fresh
+  on-inv sound held (inl (s, inl g)) = subst Boots (sym (begun-nothing v g)) (idle held (inl (s, (refl, g))))
+  on-inv sound held (inl (s, inr (inl g))) =
+      subst Boots (sym (begun-task v (s .phase-is) g))
+      (begins p sound v turnedOn z k held s refl tt (Body.Task (v .task)) 0 ((refl, refl), g) (task-in p sound v turnedOn z k held s))
+  on-inv sound held (inl (s, inr (inr (g, (open′, ne))))) =
+      subst Boots (sym (begun-event v (s .phase-is) g))
+      (begins p sound v turnedOn z k held s refl tt (Body.Event (event v (v .head))) (datum v (v .head)) ((open′, (ne, (refl, refl))), g)
+      (event-in p sound v turnedOn z k held s ne))
+  on-inv sound held (inr (m, inl t)) = subst Boots (sym (begun-committing v 1 (t .phase-is) refl)) (idle held (inr (m, inl t)))
+  on-inv sound held (inr (m, inr t)) = subst Boots (sym (begun-committing v 2 (t .phase-is) refl)) (idle held (inr (m, inr t)))
 
   pub turned-off-kept : Inv p v d z k → Kept p v z k Cut (out none off Answer.Done)
-  unfolding tell apply afterDone
-  turned-off-kept i = record { inside = tt; serial = z; tells = λ fuel l. refl; expected = tt; inv = off-inv i }
+  unfolding tell apply afterDone begunAfter
+  turned-off-kept i = record { inside = tt; serial = z; tells = λ fuel l. refl; expected = tt; turn = tt; begins = refl; inv = off-inv i }
 
-  pub turned-on-kept : Inv p v d z k → Kept p v z k Boot (out none turnedOn Answer.Done)
-  unfolding tell apply afterDone
-  turned-on-kept i = record { inside = tt; serial = z; tells = λ fuel l. refl; expected = tt; inv = inr (on-inv (held-of i) (resumes-of i)) }
+  pub turned-on-kept : Sound p → Inv p v d z k → Kept p v z k Boot (out none (takenUp v (begunOf v)) Answer.Done)
+  unfolding tell apply afterDone begunAfter
+  turned-on-kept sound i =
+      record {
+        inside = tt;
+        serial = z;
+        tells = λ fuel l. refl;
+        expected = tt;
+        turn = tt;
+        begins = refl;
+        inv = inr (on-inv sound (held-of i) (resumes-of i));
+      }
 
   -- ---- a post that is answered done
 
   pub posted-kept : On p v d z k → (e x : ℕ) → e < events p → 1 ≤ room v
       → Kept p v z k (Post e x) (out none (withHandler d (Storing 0 e x)) Answer.Done)
-  unfolding tell apply afterDone withHandler room carried recordStores
+  unfolding tell apply afterDone begunAfter withHandler room carried recordStores
   posted-kept i e x below fits =
       record {
         inside = tt;
         serial = afterDone z (Post e x);
         tells = λ fuel l. refl;
         expected = tt;
+        turn = tt;
+        begins = refl;
         inv =
             inr
             (record {

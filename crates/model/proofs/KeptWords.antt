@@ -19,10 +19,11 @@ use Rattle.model.specs.Answer.{refusal}
 use Rattle.model.specs.Calls.{Call, Boot, Step, Cut, Post, call}
 use Rattle.model.specs.Demand3.{isIn, mayMeet, Expected}
 use Rattle.model.specs.Control.{obeyAll, rules, earlyRules}
-use Rattle.model.specs.Device.{Outcome, out, refuse, judged, fresh, withHandler, atRest, zeros, isFresh, deviceSound, look, bootCheck, boot, cut, postCheck, post, nextStep, step}
+use Rattle.model.specs.Device.{Outcome, out, refuse, judged, fresh, withHandler, atRest, zeros, isFresh, deviceSound, look, begunOf, takenUp, bootCheck, boot, cut, postCheck, post, nextStep, step}
 use Rattle.model.specs.Program.{events, memoryWords}
 use Rattle.model.specs.Serial.{Serial, given, tell, afterDone}
 use Rattle.model.specs.Store.{Store, view, Write, none, to, settled, room, storeRule}
+use Rattle.model.specs.Turns.{begunAfter, InTurn}
 use Rattle.model.specs.Test.{pick, _and_, _or_, must, _then_}
 use Rattle.model.specs.Types.{Answer, Checked, Device, Refusal, Storing}
 
@@ -36,6 +37,8 @@ pub record KeptWords (p : List ℕ) (l q : ℕ) (s : List ℕ) (z : Serial) (k :
   pub serial : Serial
   pub tells : (fuel : ℕ) → k < fuel → tell fuel (given p l q) z c (o .answer) ≡ some serial
   pub expected : Expected c (o .answer)
+  pub turn : InTurn z (begunOf (view s)) (o .answer)
+  pub begins : begunOf (view (settled s (o .write))) ≡ begunAfter (begunOf (view s)) (o .answer)
   pub inv : InvWords p l q (settled s (o .write)) (o .device) serial (suc k)
   pub parts : viewAt (memoryWords p) l q (settled s (o .write)) ≡ apply (viewAt (memoryWords p) l q s) (o .write)
 
@@ -64,21 +67,28 @@ module _ (p : List ℕ) (sound : Sound p) (l q : ℕ) (s : List ℕ) (d : Device
   parts-are none inside = refl
   parts-are (to w x) inside = view-settled (memoryWords p) l q s (i .sized) w x inside
 
+  pub view-at : view s ≡ v
+  view-at = view-is (memoryWords p) l q s (i .sized)
+
   to-words : (c : Call) (o : Outcome) → Kept p v z k c o → KeptWords p l q s z k c o
   to-words c o h =
+      let inv = by-write (o .device) (h .serial) (o .write) (h .inside) (h .inv) in
+      let parts = parts-are (o .write) (h .inside) in
       record {
         serial = h .serial;
         tells = h .tells;
         expected = h .expected;
-        inv = by-write (o .device) (h .serial) (o .write) (h .inside) (h .inv);
-        parts = parts-are (o .write) (h .inside);
+        turn = rw view-at (h .turn);
+        begins =
+            ap begunOf (view-is (memoryWords p) l q (settled s (o .write)) (inv .sized) ∙ parts)
+            ∙ h .begins
+            ∙ ap (λ (u : Store). begunAfter (begunOf u) (o .answer)) (sym view-at);
+        inv = inv;
+        parts = parts;
       }
 
   lengths : Lengths p v
   lengths = let e = lengths-are (memoryWords p) l q s (i .sized) in record { memory-length = e .0; log-length = e .1; queue-length = e .2 }
-
-  pub view-at : view s ≡ v
-  view-at = view-is (memoryWords p) l q s (i .sized)
 
   -- ---- the checks come down to the last
 
@@ -127,8 +137,9 @@ module _ (p : List ℕ) (sound : Sound p) (l q : ℕ) (s : List ℕ) (d : Device
   pub boot-kept : KeptWords p l q s z k Boot (boot p s d)
   unfolding boot refusal isIn mayMeet _or_ afterDone
   boot-kept =
-      judged-words Boot (not (d .on)) Refusal.PowerOn (out none (fresh true) Answer.Done) (bootCheck p s d) boot-is refl
-      (λ e. to-words Boot _ (turned-on-kept p v d z k (i .inv)))
+      rw view-at
+      (judged-words Boot (not (d .on)) Refusal.PowerOn (out none (takenUp v (begunOf v)) Answer.Done) (bootCheck p s d) boot-is refl
+      (λ e. to-words Boot _ (turned-on-kept p v d z k sound (i .inv))))
 
   pub cut-kept : KeptWords p l q s z k Cut cut
   unfolding cut afterDone

@@ -15,6 +15,7 @@ pub mod SerialLaws
 pub mod Fresh
 pub mod Recovery
 pub mod Demand3
+pub mod Turns
 pub mod Passed
 pub mod Early
 pub mod DeviceLaws

@@ -1,26 +1,31 @@
 -- The early checks of a step pass again after a step that answered chosen, worked, stored or accepted, whatever the words and the
--- device state. What they ask of store and device is `Fit` (Looked); first how the stores of a step change it, then a line for each
+-- device state, if word 16 is 0 after a commit's last store. What they ask of store and device is `Fit` (Looked); first how the stores of a step change it, then a line for each
 -- case of a step (`Made` of DeviceLaws). A commit store isn't among them: its answer is committed. Assumes nothing.
 use Prim.Native.Nat.{ℕ, _+_, _≤_, _<_}
 use mathlib.Core.Path.{_≡_, refl, sym, subst, _∙_}
 use mathlib.Core.Logic.{_⊎_, inl, inr, ⊎-elim, _≢_}
-use mathlib.Core.Bool.{true}
+use mathlib.Core.Bool.{true, false, not}
 use mathlib.Core.List.{List}
 use native.Mathlib.Omega.{arith}
-use lib.ListN.{length}
-use Rattle.model.proofs.DeviceLaws.{atPlace, task-lasts, event-lasts, least-last, Commits, Made, record-made, tail-made, handler, commit-copy, commit-task, commit-open, commit-head, commit-phase, chosen-event, chosen-task, computed, jumped, loaded, overwritten, half-saved, saved, go-count, go-pending, go-open, go-phase, done-count, done-pending, done-phase, StepOutcome, refused, made, step-outcome}
+use borrow.Author.Tests.{eqb-true, not-true}
+use lib.Dec.{eqb}
+use lib.ListN.{length, set}
+use lib.Seq.{getD-set-other}
+use Rattle.model.proofs.DeviceLaws.{atPlace, task-lasts, event-lasts, least-last, Commits, Made, record-made, tail-made, handler, commit-copy, commit-task, commit-open, commit-head, commit-begun, commit-phase, chosen-event, chosen-task, computed, jumped, loaded, overwritten, half-saved, saved, go-count, go-pending, go-open, go-phase, done-count, done-pending, done-phase, StepOutcome, refused, made, step-outcome}
 use Rattle.model.proofs.Early.{control-still, Fit, early-fit, look-passes}
 use Rattle.model.proofs.Passed.{sized}
 use Rattle.model.proofs.Kept.{InsideOf}
 use Rattle.model.proofs.LogLaws.{find-pair}
 use Rattle.model.proofs.RingLaws.{forward, forward-le, tail-apart, event-store, datum-store, slot-in, carried-one}
-use Rattle.model.proofs.StoreLaws.{withPhase, withNext, withCommit, withQueue, withData, apply, view-after, rule-kept}
-use Rattle.model.proofs.TestLaws.{clash, then-first, then-rest}
-use Rattle.model.specs.Device.{Outcome, fresh, withPlace, withHandler, taskLastStores, eventLastStores, lastStores, endStores, look, begun, step}
-use Rattle.model.specs.Accepted.{ControlledBy, MayRunBy, MayRun, StandsBy, Stands, Attends, Looked}
+use Rattle.model.proofs.StoreLaws.{withPhase, withBegun, withNext, withCommit, withQueue, withData, apply, view-after, rule-kept}
+use Rattle.model.proofs.TestLaws.{clash, and-left, and-right, then-first, then-rest}
+use Rattle.model.specs.Device.{Outcome, fresh, withPlace, withHandler, taskLastStores, eventLastStores, lastStores, kindOf, started, endStores, look, choosing, step}
+use Rattle.model.specs.Accepted.{ControlledBy, EligibleBy, MayRunBy, MayRun, StandsBy, Stands, Attends, Looked}
 use Rattle.model.specs.Program.{tasks, memoryWords, word}
-use Rattle.model.specs.Store.{Store, view, carried, slotAfter, distance, Write, none, to, settled}
-use Rattle.model.specs.Types.{Body, Checked, Device, Free, Half, Handler, Place, Resting, Run}
+use Rattle.model.specs.Store.{Store, view, carried, slotAfter, distance, Phase, Write, none, to, index, settled, storedWord}
+use Rattle.model.specs.Calls.{isRefusal, unlessRefused, isCommit}
+use Rattle.model.specs.Test.{pick, _and_}
+use Rattle.model.specs.Types.{Answer, Body, Checked, Device, Free, Half, Handler, Place, Resting, Run}
 use Rattle.model.specs.Claims.{soundAfter, LookStays}
 
 some-end : (b : Body) → 0 < endStores b
@@ -47,8 +52,9 @@ module _ (p : List ℕ) (v : Store) (d : Device) (fit : Fit p v d) where
   -- other words 9, 10, 14 and 15
   control-other : (t o h x : ℕ) → t < tasks p → h ≤ v .queueRecords → x ≤ v .queueRecords
       → (v .phase ≡ 2 → (v .pending ≡ h) ⊎ ((v .pending ≡ slotAfter (v .queueRecords) h) × (h ≢ x))) → (v .phase ≡ 2 → o ≡ 0)
-      → ControlledBy p (v .logPairs) (v .queueRecords) (v .phase) t o (v .count) (v .pending) h x
-  control-other t o h x task head tail pending open′ =
+      → (v .phase ≡ 0 → v .begun ≡ 2 → (h ≢ x) × (o ≡ 0))
+      → ControlledBy p (v .logPairs) (v .queueRecords) (v .phase) t o (v .count) (v .pending) h x (v .begun)
+  control-other t o h x task head tail pending open′ begun =
       let c = fit .control in
       record {
         phase-in = c .phase-in;
@@ -60,6 +66,8 @@ module _ (p : List ℕ) (v : Store) (d : Device) (fit : Fit p v d) where
         pending-head = c .pending-head;
         pending-is = pending;
         open-none = open′;
+        begun-in = c .begun-in;
+        begun-event = begun;
       }
 
   -- a new tail, behind some records
@@ -70,12 +78,12 @@ module _ (p : List ℕ) (v : Store) (d : Device) (fit : Fit p v d) where
     apart : v .head ≢ x
     apart = tail-apart (v .queueRecords) (v .head) (v .tail) k (fit .control .head-in) (fit .control .tail-in) room (omega arith)
 
-    may-tail : (b : Body) → MayRun p v b → MayRunBy p (v .task) (v .openNumber) (v .head) x b
+    may-tail : (b : Body) → MayRun p v b → MayRunBy p (v .task) (v .openNumber) (v .head) x (v .begun) b
     may-tail (Body.Task t) h = h
-    may-tail (Body.Event e) h = (h .0, h .1, apart)
+    may-tail (Body.Event e) (h, kind) = ((h .0, h .1, apart), kind)
 
-    stands-tail : (n c : ℕ) (y : Place) → StandsBy p (v .logPairs) (v .phase) (v .task) (v .openNumber) (v .count) (v .head) (v .tail) c n y
-        → StandsBy p (v .logPairs) (v .phase) (v .task) (v .openNumber) (v .count) (v .head) x c n y
+    stands-tail : (n c : ℕ) (y : Place) → StandsBy p (v .logPairs) (v .phase) (v .task) (v .openNumber) (v .count) (v .head) (v .tail) (v .begun) c n y
+        → StandsBy p (v .logPairs) (v .phase) (v .task) (v .openNumber) (v .count) (v .head) x (v .begun) c n y
     stands-tail n c (Free i) h = h
     stands-tail n c (Run b j i) h = (h .0, may-tail b (h .1), h .2)
     stands-tail n c (Half b j) h = (h .0, may-tail b (h .1), h .2)
@@ -87,7 +95,7 @@ module _ (p : List ℕ) (v : Store) (d : Device) (fit : Fit p v d) where
         record {
           control =
               control-other (v .task) (v .openNumber) (v .head) x (c .task-in) (c .head-in) (forward-le (v .queueRecords) (v .tail) k (c .tail-in) (omega (arith, room)))
-              (λ q. ⊎-elim inl (λ a. inr (a .0, apart)) (c .pending-is q)) (c .open-none);
+              (λ q. ⊎-elim inl (λ a. inr (a .0, apart)) (c .pending-is q)) (c .open-none) (λ z two. (apart, c .begun-event z two .1));
           on = fit .on;
           count-in = fit .count-in;
           place = stands-tail (d .count) (length (lastStores v)) (d .place) (fit .place);
@@ -101,23 +109,63 @@ module _ (p : List ℕ) (v : Store) (d : Device) (fit : Fit p v d) where
   unfolding withPlace lastStores taskLastStores eventLastStores
   last-fits w t o h task head pending open′ left =
       record {
-        control = control-other t o h (v .tail) task head (fit .control .tail-in) pending open′;
+        control = control-other t o h (v .tail) task head (fit .control .tail-in) pending open′ (λ z. absurd (w .phase z));
         on = fit .on;
         count-in = fit .count-in;
         place = (λ z. absurd (w .phase z), λ _. left);
         handler = rw (w .rests) tt;
       }
 
-  over-fits : Fit p (withPhase v 0) (fresh true)
-  unfolding fresh
-  over-fits =
+  -- that of 0 to word 16, and the last one, which word 16 must be 0 for
+  cleared-fits : {c : ℕ} → Commits v d c → c + 1 < v .count + length (lastStores v) → Fit p (withBegun v 0) (atPlace d (Free (c + 1)))
+  unfolding withPlace lastStores taskLastStores eventLastStores
+  cleared-fits w left =
       let c = fit .control in
       record {
-        control = control-still p _ _ _ _ _ _ _ _ _ refl (c .task-in) (c .head-in) (c .tail-in);
+        control =
+            record {
+              phase-in = c .phase-in;
+              task-in = c .task-in;
+              head-in = c .head-in;
+              tail-in = c .tail-in;
+              count-in = c .count-in;
+              pending-task = c .pending-task;
+              pending-head = c .pending-head;
+              pending-is = c .pending-is;
+              open-none = c .open-none;
+              begun-in = omega arith;
+              begun-event = λ z. absurd (w .phase z);
+            };
+        on = fit .on;
+        count-in = fit .count-in;
+        place = (λ z. absurd (w .phase z), λ _. left);
+        handler = rw (w .rests) tt;
+      }
+
+  over-fits : v .begun ≡ 0 → Fit p (withPhase v 0) (fresh true)
+  unfolding fresh
+  over-fits begun =
+      let c = fit .control in
+      record {
+        control = control-still p _ _ _ _ _ _ _ _ _ _ refl (c .task-in) (c .head-in) (c .tail-in) (c .begun-in) (λ two. absurd (omega (arith, begun, two)));
         on = refl;
         count-in = omega arith;
-        place = (λ _. refl, λ z. absurd (z refl));
+        place = (λ _. (refl, begun), λ z. absurd (z refl));
         handler = tt;
+      }
+
+  -- a body is chosen
+  chosen-fits : (b : Body) → v .phase ≡ 0 → EligibleBy p (v .task) (v .openNumber) (v .head) (v .tail) b → kindOf b ≤ 2
+      → (kindOf b ≡ 2 → (v .head ≢ v .tail) × (v .openNumber ≡ 0)) → Fit p (withBegun v (kindOf b)) (started v d b)
+  unfolding started withPlace
+  chosen-fits b z may kind event =
+      let c = fit .control in
+      record {
+        control = control-still p _ _ _ _ _ _ _ _ _ _ z (c .task-in) (c .head-in) (c .tail-in) kind event;
+        on = fit .on;
+        count-in = omega arith;
+        place = (z, (may, refl), some-end b);
+        handler = fit .handler;
       }
 
   -- GO's and DONE's stores before the commit store, to words 11 to 13
@@ -127,7 +175,7 @@ module _ (p : List ℕ) (v : Store) (d : Device) (fit : Fit p v d) where
   noted-fits n w o b j c z may l =
       let h = fit .control in
       record {
-        control = control-still p _ _ _ _ _ _ _ _ _ z (h .task-in) (h .head-in) (h .tail-in);
+        control = control-still p _ _ _ _ _ _ _ _ _ _ z (h .task-in) (h .head-in) (h .tail-in) (h .begun-in) (h .begun-event z);
         on = fit .on;
         count-in = fit .count-in;
         place = (z, may, l);
@@ -136,11 +184,12 @@ module _ (p : List ℕ) (v : Store) (d : Device) (fit : Fit p v d) where
 
   -- ---- each case
 
+  -- a store of the phase isn't the commit store, and word 16 is 0
   abbrev Keeps : Outcome → Type 0
-  Keeps o = soundAfter (o .answer) ≡ true → InsideOf p v (o .write) × Fit p (apply v (o .write)) (o .device)
+  Keeps o = ((x : ℕ) → o .write ≡ to Phase x → (isCommit (o .answer) ≡ false) × (v .begun ≡ 0)) → InsideOf p v (o .write) × Fit p (apply v (o .write)) (o .device)
 
   keeps : (o : Outcome) → Made p v d o → Keeps o
-  unfolding apply begun endStores soundAfter
+  unfolding apply choosing kindOf endStores isCommit
   keeps o (handler q (record-made a (event-store n r l m))) _ = (slot-in (v .head) n (fit .control .tail-in) (a .room) l, handled-fits _ _ a)
   keeps o (handler q (record-made a (datum-store n r l m))) _ = (slot-in (v .head) n (fit .control .tail-in) (a .room) l, handled-fits _ _ a)
   keeps o (handler {e = e} {x = x} q (tail-made a)) _ =
@@ -153,9 +202,10 @@ module _ (p : List ℕ) (v : Store) (d : Device) (fit : Fit p v d) where
       (tt, last-fits h _ _ _ (fit .control .task-in) (fit .control .head-in) (fit .control .pending-is) (λ two. absurd (omega (arith, one, two))) (omega (arith, task-lasts v one)))
   keeps o (commit-head h two e) _ =
       (tt, last-fits h _ _ _ (fit .control .task-in) (fit .control .pending-head two) (λ _. inl refl) (fit .control .open-none) (omega (arith, event-lasts v (omega arith))))
-  keeps o (commit-phase h e) _ = (tt, over-fits)
-  keeps o (chosen-event h none-open some l) _ = (tt, runs-fits _ _ _ _ _ 0 0 (omega arith) (h .phase) (l, none-open, some))
-  keeps o (chosen-task h n) _ = (tt, runs-fits _ _ _ _ _ 0 0 (omega arith) (h .phase) refl)
+  keeps o (commit-begun h e) _ = (tt, cleared-fits h (omega arith))
+  keeps o (commit-phase h e) ends = (tt, over-fits (ends 0 refl .1))
+  keeps o (chosen-event h none-open some l) _ = (tt, chosen-fits _ (h .phase) (l, none-open, some) (omega arith) (λ _. (some, none-open)))
+  keeps o (chosen-task h n) _ = (tt, chosen-fits _ (h .phase) refl (omega arith) (λ two. absurd (omega (arith, two))))
   keeps o (computed h) _ = (tt, runs-fits _ _ _ _ _ _ _ (fit .count-in) (h .stands .0) (h .stands .1))
   keeps o (jumped h) _ = (tt, runs-fits _ _ _ _ _ _ _ (fit .count-in) (h .stands .0) (h .stands .1))
   keeps o (loaded h l) _ = (tt, runs-fits _ _ _ _ _ _ _ (fit .count-in) (h .stands .0) (h .stands .1))
@@ -167,10 +217,20 @@ module _ (p : List ℕ) (v : Store) (d : Device) (fit : Fit p v d) where
   keeps o (go-count h) _ = (tt, noted-fits _ _ _ _ _ 1 (h .stands .0) (h .stands .1) (omega arith))
   keeps o (go-pending h) _ = (tt, noted-fits _ _ _ _ _ 2 (h .stands .0) (h .stands .1) (omega arith))
   keeps o (go-open h) _ = (tt, noted-fits _ _ _ _ _ 3 (h .stands .0) (h .stands .1) (omega arith))
-  keeps o (go-phase h) e = clash e refl
+  keeps o (go-phase h) ends = clash refl (ends 1 refl .0)
   keeps o (done-count h) _ = (tt, noted-fits _ _ _ _ _ 1 (h .stands .0) (h .stands .1) (omega arith))
   keeps o (done-pending h) _ = (tt, noted-fits _ _ _ _ _ 2 (h .stands .0) (h .stands .1) (omega arith))
-  keeps o (done-phase h) e = clash e refl
+  keeps o (done-phase h) ends = clash refl (ends 2 refl .0)
+
+-- ---- what `soundAfter` says
+
+-- of a store to the phase
+phase-stored : (s : List ℕ) (a : Answer) (w : Write) (x : ℕ) → w ≡ to Phase x → soundAfter (storedWord s w) a (settled s w) ≡ true
+    → (isCommit a ≡ false) × (word s 16 ≡ 0)
+unfolding soundAfter storedWord settled index pick
+phase-stored s a w x is e =
+    let h : (not (isCommit a) and eqb (word (set s 8 x) 16) 0) ≡ true = rw is at e in
+    (not-true _ (and-left _ _ h), sym (getD-set-other s 8 16 x 0 (omega arith)) ∙ eqb-true _ _ (and-right _ _ h))
 
 -- ---- a step
 
@@ -182,10 +242,13 @@ module _ (p s : List ℕ) (d : Device) where
       look-passes p (settled s (to w x)) e (then-first _ _ (early .passed)) (rule-kept p s w x ∙ then-first _ _ (then-rest _ _ (early .passed)))
       (subst (λ (u : Store). Fit p u e) (sym (view-after (memoryWords p) (word s 2) (word s 3) s (sized (early .shaped)) w x inside)) fit)
 
-  stays : (o : Outcome) → StepOutcome p s d o → soundAfter (o .answer) ≡ true → look p (settled s (o .write)) (o .device) ≡ Checked.Accepted
-  unfolding soundAfter
-  stays o (refused w) e = clash e refl
-  stays o (made early m u) e = let k = keeps p (view s) d (early-fit early) o m e in look-after early (o .write) (o .device) (k .0) (k .1)
+  stays : (o : Outcome) → StepOutcome p s d o → isRefusal (o .answer) ≡ false → soundAfter (storedWord s (o .write)) (o .answer) (settled s (o .write)) ≡ true
+      → look p (settled s (o .write)) (o .device) ≡ Checked.Accepted
+  unfolding isRefusal unlessRefused
+  stays o (refused w) n e = clash refl n
+  stays o (made early m u) n e =
+      let k = keeps p (view s) d (early-fit early) o m (λ x is. phase-stored s (o .answer) (o .write) x is e) in
+      look-after early (o .write) (o .device) (k .0) (k .1)
 
 pub look-stays : LookStays
 look-stays p s d = stays p s d (step p s d) (step-outcome p s d)

@@ -9,7 +9,7 @@ use native.Mathlib.Nat.{le-refl}
 use native.Mathlib.Omega.{arith}
 use Rattle.model.proofs.TestLaws.{pick-case, clash, impossible}
 use Rattle.model.specs.Claims.{Among, LowestBroken, FirstLowest, LowestIsOne, NamesLowest, FirstIsLowest}
-use Rattle.model.specs.Control.{Rule, broken, obey, obeyAll, upTo, phaseRule, taskRule, openRule, openServing, countRule, pendingTaskRule, pendingHeadRule, pendingMoveRule, pendingOpenRule, headRule, tailRule, addressRule, recordRule, controlRules, rules, earlyOf, earlyRules}
+use Rattle.model.specs.Control.{Rule, broken, obey, obeyAll, upTo, phaseRule, taskRule, openRule, openServing, countRule, pendingTaskRule, pendingHeadRule, pendingMoveRule, pendingOpenRule, headRule, tailRule, begunRule, begunEventRule, addressRule, recordRule, controlRules, rules, earlyOf, earlyRules}
 use Rattle.model.specs.Program.{memoryWords}
 use Rattle.model.specs.Store.{Store, logAt, queueAt, storeLength}
 use Rattle.model.specs.Test.{must, _then_}
@@ -87,8 +87,8 @@ lowest-first a b (r ∷ rs) (l, t) w e =
 
 module _ (p : List ℕ) (v : Store) where
   control-rise : Rising 8 (logAt (memoryWords p)) (controlRules p v)
-  unfolding controlRules phaseRule taskRule openRule openServing countRule pendingTaskRule pendingHeadRule pendingMoveRule pendingOpenRule headRule tailRule
-  control-rise = (omega arith, (omega arith, (omega arith, (omega arith, (omega arith, (omega arith, (omega arith, (omega arith, (omega arith, (omega arith, (omega arith, omega arith)))))))))))
+  unfolding controlRules phaseRule taskRule openRule openServing countRule pendingTaskRule pendingHeadRule pendingMoveRule pendingOpenRule headRule tailRule begunRule begunEventRule
+  control-rise = (omega arith, (omega arith, (omega arith, (omega arith, (omega arith, (omega arith, (omega arith, (omega arith, (omega arith, (omega arith, (omega arith, (omega arith, (omega arith, omega arith)))))))))))))
 
   abbrev end : ℕ
   end = storeLength (memoryWords p) (v .logPairs) (v .queueRecords)

@@ -135,7 +135,7 @@ module _ (p s : List ℕ) (d : Device) where
     lowest-head z (Body.Task t) m = refuses-accepted
     lowest-head z (Body.Event e) m =
         let c = looked-at .control in
-        lowest-alone _ (recordRule p v (v .head)) (λ q. record-broken p v z (c .head-in) (c .tail-in) (m .2) (ltb-false _ _ q))
+        lowest-alone _ (recordRule p v (v .head)) (λ q. record-broken p v z (c .head-in) (c .tail-in) (m .0 .2) (ltb-false _ _ q))
 
     lowest-open : (b : Body) → Lowest (runningRule p v b ∷ []) (openSound p v b)
     unfolding openSound obey runningRule

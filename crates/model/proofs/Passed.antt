@@ -9,15 +9,15 @@ use native.Mathlib.Omega.{arith}
 use borrow.Author.Tests.{ltb-true, leb-true, eqb-true, eqb-false, eq-eqb, ne-eqb, not-true}
 use lib.Dec.{ltb}
 use lib.ListN.{length}
-use Rattle.model.proofs.ProgramLaws.{_&_, by-opcode, Fits, contents-passed, row-passed, instruction-leads}
+use Rattle.model.proofs.ProgramLaws.{_&_, by-opcode, Fits, check-passed, contents-passed, row-passed, instruction-leads}
 use Rattle.model.proofs.RingLaws.{known-passed}
-use Rattle.model.proofs.RuleLaws.{obeyed}
+use Rattle.model.proofs.RuleLaws.{obeyed, obey-early}
 use Rattle.model.proofs.StoreLaws.{Sized}
-use Rattle.model.proofs.TestLaws.{pick-true, pick-false, same-or, and-true, and-left, and-right, or-true-left, or-true-right, must-passed, must-then, then-first, then-rest}
-use Rattle.model.specs.Accepted.{Contents, Registers, Legal, Sizes, ShapedFor, Controlled, MayRun, Stands, Attends, Looked, BodyIs}
+use Rattle.model.proofs.TestLaws.{pick-true, pick-false, same-or, and-true, and-left, and-right, or-true-left, or-true-right, must-passed, must-then, then-first, then-rest, clash}
+use Rattle.model.specs.Accepted.{Contents, Registers, Legal, Sizes, ShapedFor, Controlled, Bootable, EligibleBy, MayRun, Stands, Attends, Looked, BodyIs}
 use Rattle.model.specs.Check.{fieldsFit, instructionRule}
-use Rattle.model.specs.Control.{obeyAll, phaseRule, taskRule, openServing, countRule, pendingTaskRule, headRule, tailRule, pendingHeadRule, pendingMoveRule, earlyRules, Rule, upTo, openRule, pendingOpenRule, addressRule, recordRule, controlRules, rules, earlyOf}
-use Rattle.model.specs.Device.{mayRun, placeSound, recordsSound, handlerSound, deviceSound, look, bodySound}
+use Rattle.model.specs.Control.{obeyAll, phaseRule, taskRule, openServing, countRule, pendingTaskRule, headRule, tailRule, pendingHeadRule, pendingMoveRule, begunRule, begunEventRule, earlyRules, Rule, upTo, openRule, pendingOpenRule, addressRule, recordRule, controlRules, rules, earlyOf}
+use Rattle.model.specs.Device.{eligible, mayRun, placeSound, recordsSound, handlerSound, deviceSound, look, bootCheck, bodySound}
 use Rattle.model.specs.Program.{word, tasks, memoryWords, instructions, bodyNumber, opcode, fieldA, fieldB, code, operand, bounds, decode}
 use Rattle.model.specs.Store.{Store, view, carried, room, logAt, queueAt, storeLength, storeRule, sizesRule}
 use Rattle.model.specs.Test.{_and_, _or_, pick}
@@ -122,15 +122,15 @@ early-upTo f late zero = refl
 early-upTo f late (suc n) = early-left (upTo f n) (f n ∷ []) (pick-false _ _ (late n)) ∙ early-upTo f late n
 
 -- which the early rules are
-pub early-are : (p : List ℕ) (v : Store) → earlyRules p v ≡ phaseRule v ∷ taskRule p v ∷ openServing v ∷ countRule v ∷ pendingTaskRule p v ∷ pendingHeadRule v ∷ pendingMoveRule v ∷ headRule v ∷ tailRule v ∷ []
-unfolding earlyRules earlyOf rules controlRules phaseRule taskRule openRule openServing countRule pendingTaskRule pendingHeadRule pendingMoveRule pendingOpenRule headRule tailRule addressRule recordRule pick
+pub early-are : (p : List ℕ) (v : Store) → earlyRules p v ≡ phaseRule v ∷ taskRule p v ∷ openServing v ∷ countRule v ∷ pendingTaskRule p v ∷ pendingHeadRule v ∷ pendingMoveRule v ∷ headRule v ∷ tailRule v ∷ begunRule v ∷ begunEventRule v ∷ []
+unfolding earlyRules earlyOf rules controlRules phaseRule taskRule openRule openServing countRule pendingTaskRule pendingHeadRule pendingMoveRule pendingOpenRule headRule tailRule begunRule begunEventRule addressRule recordRule pick
 early-are p v =
     early-left (controlRules p v ++ upTo (addressRule p v) (v .logPairs)) (upTo (recordRule p v) (v .queueRecords + 1))
     (early-upTo (recordRule p v) (λ x. refl) (v .queueRecords + 1))
     ∙ early-left (controlRules p v) (upTo (addressRule p v) (v .logPairs)) (early-upTo (addressRule p v) (λ j. refl) (v .logPairs))
 
 pub control-passed : (p : List ℕ) (v : Store) → obeyAll (earlyRules p v) ≡ Checked.Accepted → Controlled p v
-unfolding obeyAll phaseRule taskRule openServing countRule pendingTaskRule pendingHeadRule pendingMoveRule headRule tailRule
+unfolding obeyAll phaseRule taskRule openServing countRule pendingTaskRule pendingHeadRule pendingMoveRule headRule tailRule begunRule begunEventRule
 control-passed p v e =
     let e0 = rw (early-are p v) at e in
     let e1 = then-rest _ _ e0 in
@@ -141,6 +141,8 @@ control-passed p v e =
     let e6 = then-rest _ _ e5 in
     let e7 = then-rest _ _ e6 in
     let e8 = then-rest _ _ e7 in
+    let e9 = then-rest _ _ e8 in
+    let e10 = then-rest _ _ e9 in
     let phase : v .phase ≤ 2 = leb-true _ _ (obeyed _ (then-first _ _ e0) refl) in
     let head = obeyed _ (then-first _ _ e7) refl in
     let tail = obeyed _ (then-first _ _ e8) refl in
@@ -161,21 +163,41 @@ control-passed p v e =
           ⊎-elim (λ a. inl (eqb-true _ _ a)) (λ a. inr (eqb-true _ _ (and-left _ _ a), eqb-false _ _ (not-true _ (and-right _ _ a))))
           (or-cases _ _ (obeyed _ (then-first _ _ e6) (and-true (eq-eqb _ _ q) (and-true head tail))));
       open-none = λ q. eqb-true _ _ (obeyed _ (then-first _ _ e2) (eq-eqb _ _ q));
+      begun-in = leb-true _ _ (obeyed _ (then-first _ _ e9) refl);
+      begun-event =
+          λ q two.
+          ⊎-elim (λ a. clash (eq-eqb _ _ two) (not-true _ a)) (λ a. (eqb-false _ _ (not-true _ (and-left _ _ a)), eqb-true _ _ (and-right _ _ a)))
+          (or-cases _ _ (obeyed _ (then-first _ _ e10) (and-true (eq-eqb _ _ q) (and-true head tail))));
+    }
+
+-- ---- what a boot checks of the store
+
+pub boot-passed : (p s : List ℕ) (d : Device) → bootCheck p s d ≡ Checked.Accepted → Bootable p s
+unfolding bootCheck earlyRules
+boot-passed p s d e0 =
+    let e1 = then-rest _ _ e0 in
+    record {
+      shaped = store-passed p s (check-passed p (then-first _ _ e0) .rows .contents) (then-first _ _ e1);
+      head-in = control-passed p (view s) (obey-early (rules p (view s)) (then-first _ _ (then-rest _ _ e1))) .head-in;
     }
 
 -- ---- 25, early: the device
 
-may-run : (p : List ℕ) (v : Store) (b : Body) → mayRun p v b ≡ true → MayRun p v b
-unfolding mayRun
-may-run p v (Body.Task t) e = eqb-true _ _ e
-may-run p v (Body.Event n) e =
+is-eligible : (p : List ℕ) (v : Store) (b : Body) → eligible p v b ≡ true → EligibleBy p (v .task) (v .openNumber) (v .head) (v .tail) b
+unfolding eligible
+is-eligible p v (Body.Task t) e = eqb-true _ _ e
+is-eligible p v (Body.Event n) e =
     let f = and-right _ _ e in
     (ltb-true _ _ (and-left _ _ e), eqb-true _ _ (and-left _ _ f), eqb-false _ _ (not-true _ (and-right _ _ f)))
+
+may-run : (p : List ℕ) (v : Store) (b : Body) → mayRun p v b ≡ true → MayRun p v b
+unfolding mayRun
+may-run p v b e = (is-eligible p v b (and-left _ _ e), eqb-true _ _ (and-right _ _ e))
 
 stands : (p : List ℕ) (v : Store) (l : ℕ) (x : Place) → placeSound p v l x ≡ true → Stands p v l x
 unfolding placeSound
 stands p v l (Free c) e = (
-  λ q. eqb-true _ _ (sym (pick-true _ _ (eq-eqb _ _ q)) ∙ e),
+  λ q. let f = sym (pick-true _ _ (eq-eqb _ _ q)) ∙ e in (eqb-true _ _ (and-left _ _ f), eqb-true _ _ (and-right _ _ f)),
   λ ne. ltb-true _ _ (sym (pick-false _ _ (ne-eqb _ _ ne)) ∙ e),
 )
 stands p v l (Run b j c) e =

@@ -5,14 +5,14 @@ use mathlib.Core.Path.{_≡_, refl, sym, ap, _∙_, subst}
 use mathlib.Core.Logic.{inl, inr, _≢_}
 use mathlib.Core.Bool.{true, false}
 use mathlib.Core.List.{List}
-use mathlib.Core.Option.{some}
+use mathlib.Core.Option.{Option, some}
 use native.Mathlib.Nat.{not-suc-le-zero, add-zero, zero-add}
 use native.Mathlib.Omega.{arith}
 use borrow.Author.Tests.{ne-eqb}
 use lib.Dec.{eqb}
 use lib.ListN.{length}
-use Rattle.model.proofs.Invariant.{StillAt, Placed, Resumes, On, Inv}
-use Rattle.model.proofs.Kept.{lasting-in, task-last-is, event-last-is, Remaining, LeavesStores, leaves-stores}
+use Rattle.model.proofs.Invariant.{StillAt, CommitAt, Placed, Resumes, On, Inv}
+use Rattle.model.proofs.Kept.{begun-committing, lasting-in, task-last-is, event-last-is, Remaining, LeavesStores, leaves-stores}
 use Rattle.model.proofs.KeptWords.{InvWords, KeptWords, when-on, step-kept, view-at, look-is, boot-is}
 use Rattle.model.proofs.KeptCalls.{held-of, resumes-of, off-inv, on-inv}
 use Rattle.model.proofs.StoreLaws.{viewAt}
@@ -20,7 +20,7 @@ use Rattle.model.proofs.TestLaws.{pick-true, pick-false, must-true}
 use Rattle.model.specs.Accepted.{Sound}
 use Rattle.model.specs.Calls.{Step, unlessRefused, recovered, refused, finish, recovery}
 use Rattle.model.specs.Demand3.{Left, recoverySteps, Recovers}
-use Rattle.model.specs.Device.{Outcome, out, judged, fresh, off, turnedOn, taskLastStores, eventLastStores, lastStores, boot, cut, copyStep, placeStep, nextStep, step}
+use Rattle.model.specs.Device.{Outcome, out, judged, fresh, off, turnedOn, taskLastStores, eventLastStores, lastStores, begunOf, takenUp, boot, cut, copyStep, placeStep, nextStep, step}
 use Rattle.model.specs.Program.{memoryWords}
 use Rattle.model.specs.Serial.{Serial, given, tell}
 use Rattle.model.specs.Store.{Store, view, Write, none, settled, waiting}
@@ -34,7 +34,7 @@ waiting-is p v d z k i = held-of i .waits .same
 -- in phase 0 the store has what the serial run has
 module _ (p : List ℕ) (v : Store) (d : Device) (z : Serial) (k : ℕ) (i : Inv p v d z k) (e : v .phase ≡ 0) where
   still-at : Resumes p v z → StillAt v z
-  still-at (inl s) = s
+  still-at (inl (s, g)) = s
   still-at (inr (m, inl t)) = absurd (omega (arith, t .phase-is))
   still-at (inr (m, inr t)) = absurd (omega (arith, t .phase-is))
 
@@ -150,7 +150,7 @@ finishes p sound l q (suc r) (suc fuel) n s d z k c i on rest at m h =
 -- the stores that a boot finds unmade
 steps-remain : (p : List ℕ) (v : Store) (z : Serial) → Resumes p v z → Remaining v 0 (recoverySteps v)
 unfolding recoverySteps taskLastStores eventLastStores
-steps-remain p v z (inl s) =
+steps-remain p v z (inl (s, g)) =
     inl (
       s .phase-is,
       pick-false _ _ (ap (λ (x : ℕ). eqb x 1) (s .phase-is)) ∙ pick-false _ _ (ap (λ (x : ℕ). eqb x 2) (s .phase-is)),
@@ -159,7 +159,7 @@ steps-remain p v z (inr (m, inl t)) =
     inr (
       omega (arith, t .phase-is),
       ap (λ (x : ℕ). x + 0) (pick-true _ _ (ap (λ (x : ℕ). eqb x 1) (t .phase-is)))
-          ∙ add-zero (v .count + 3)
+          ∙ add-zero (v .count + 4)
           ∙ sym (ap (λ (ws : List Write). v .count + length ws) (task-last-is v (t .phase-is))),
     )
 steps-remain p v z (inr (m, inr t)) =
@@ -167,29 +167,63 @@ steps-remain p v z (inr (m, inr t)) =
       omega (arith, t .phase-is),
       ap (λ (x : ℕ). x + 0)
           (pick-false _ _ (ap (λ (x : ℕ). eqb x 1) (t .phase-is)) ∙ pick-true _ _ (ap (λ (x : ℕ). eqb x 2) (t .phase-is)))
-          ∙ add-zero (v .count + 2)
+          ∙ add-zero (v .count + 3)
           ∙ sym (ap (λ (ws : List Write). v .count + length ws) (event-last-is v (t .phase-is))),
     )
 
-pub recovers : (p : List ℕ) (sound : Sound p) (l q : ℕ) (s : List ℕ) (d : Device) (z : Serial) (k : ℕ) → InvWords p l q s d z k → (fuel : ℕ)
-    → recoverySteps (view s) ≤ fuel → Recovers p s z fuel
-unfolding recovery cut boot judged unlessRefused fresh must
-recovers p sound l q s d z k i fuel h =
-    let v = viewAt (memoryWords p) l q s in
-    let found = resumes-of p v d z k (i .inv) in
-    let off-words : InvWords p l q s off z (suc k) = record { sized = i .sized; contents = i .contents; inv = off-inv p v d z k (i .inv) } in
-    let on-words : InvWords p l q s turnedOn z (suc k) =
-    record { sized = i .sized; contents = i .contents; inv = inr (on-inv p v d z k (held-of (i .inv)) found) } in
-    let booted : boot p s off ≡ out none turnedOn Answer.Done =
-    ap (λ (x : Checked). judged x off (out none turnedOn Answer.Done)) (boot-is p sound l q s off z (suc k) off-words) in
-    let f =
-    finishes p sound l q (recoverySteps v) fuel 0 s turnedOn z (suc k) 0 on-words refl refl refl (steps-remain p v z found)
-    (subst (λ (u : Store). recoverySteps u ≤ fuel) (view-at p sound l q s d z k i) h) in
-    record {
-      store = f .store;
-      ends =
-          ap (λ (o : Outcome). unlessRefused (o .answer) refused (finish p fuel 0 s (o .device))) booted
-          ∙ f .ends
-          ∙ ap (λ (x : ℕ). recovered x (f .store)) (zero-add (recoverySteps v) ∙ ap recoverySteps (sym (view-at p sound l q s d z k i)));
-      left = f .left;
-    }
+module _ (p : List ℕ) (sound : Sound p) (l q : ℕ) (s : List ℕ) (d : Device) (z : Serial) (k : ℕ) (i : InvWords p l q s d z k) where
+  abbrev now : Store
+  now = viewAt (memoryWords p) l q s
+
+  -- the device after a cut, and after a boot
+  abbrev booted : Device
+  booted = takenUp now (begunOf now)
+
+  boot-answers : boot p s off ≡ out none booted Answer.Done
+  unfolding boot judged fresh must
+  boot-answers =
+      let off-words : InvWords p l q s off z (suc k) = record { sized = i .sized; contents = i .contents; inv = off-inv p now d z k (i .inv) } in
+      ap (λ (x : Checked). judged x off (out none (takenUp (view s) (begunOf (view s))) Answer.Done)) (boot-is p sound l q s off z (suc k) off-words)
+      ∙ ap (λ (v : Store). out none (takenUp v (begunOf v)) Answer.Done) (view-at p sound l q s d z k i)
+
+  -- in phases 1 and 2 no body is taken up
+  commit-finishes : (fuel : ℕ) → recoverySteps now ≤ fuel → CommitAt p now z 0 → begunOf now ≡ Option.none → Finishes p s booted z fuel 0 (recoverySteps now)
+  unfolding takenUp fresh
+  commit-finishes fuel h commit none-begun =
+      let is : turnedOn ≡ booted = ap (takenUp now) (sym none-begun) in
+      let words : InvWords p l q s booted z (suc k) =
+      record { sized = i .sized; contents = i .contents; inv = inr (on-inv p now d z k sound (held-of (i .inv)) (inr commit)) } in
+      subst (λ (e : Device). Finishes p s e z fuel 0 (recoverySteps now)) is
+      (finishes p sound l q (recoverySteps now) fuel 0 s turnedOn z (suc k) 0 (subst (λ (e : Device). InvWords p l q s e z (suc k)) (sym is) words) refl refl refl
+      (steps-remain p now z (inr commit)) h)
+
+  boot-finishes : (fuel : ℕ) → recoverySteps now ≤ fuel → Resumes p now z → Finishes p s booted z fuel 0 (recoverySteps now)
+  boot-finishes fuel h (inl (still, g)) =
+      let here : view s .phase ≡ 0 = ap (λ (v : Store). v .phase) (view-at p sound l q s d z k i) ∙ still .phase-is in
+      let no-steps : recoverySteps now ≡ 0 = none-remain (steps-remain p now z (inl (still, g))) in
+      rw no-steps
+      (record {
+        store = s;
+        ends = finish-none p fuel 0 s booted here;
+        left = rw (view-at p sound l q s d z k i) (left-at p now d z k (i .inv) (still .phase-is));
+      })
+    where
+      none-remain : Remaining now 0 (recoverySteps now) → recoverySteps now ≡ 0
+      none-remain (inl n) = n .1
+      none-remain (inr n) = absurd (n .0 (still .phase-is))
+  boot-finishes fuel h (inr (m, inl t)) = commit-finishes fuel h (m, inl t) (begun-committing now 1 (t .phase-is) refl)
+  boot-finishes fuel h (inr (m, inr t)) = commit-finishes fuel h (m, inr t) (begun-committing now 2 (t .phase-is) refl)
+
+  pub recovers : (fuel : ℕ) → recoverySteps (view s) ≤ fuel → Recovers p s z fuel
+  unfolding recovery cut unlessRefused
+  recovers fuel h =
+      let same = view-at p sound l q s d z k i in
+      let f = boot-finishes fuel (subst (λ (u : Store). recoverySteps u ≤ fuel) same h) (resumes-of p now d z k (i .inv)) in
+      record {
+        store = f .store;
+        ends =
+            ap (λ (o : Outcome). unlessRefused (o .answer) refused (finish p fuel 0 s (o .device))) boot-answers
+            ∙ f .ends
+            ∙ ap (λ (x : ℕ). recovered x (f .store)) (zero-add (recoverySteps now) ∙ ap recoverySteps (sym same));
+        left = f .left;
+      }

@@ -8,6 +8,7 @@ use mathlib.Core.Bool.{Bool, true, false, not}
 use mathlib.Core.List.{List, [], _∷_}
 use native.Mathlib.Omega.{arith}
 use lib.Dec.{leb, eqb}
+use borrow.Author.Tests.{ne-eqb}
 use lib.ListN.{length}
 use Rattle.model.proofs.DeviceLaws.{judged-case, step-refused, step-goes, step-acts, load-refused, save-refused, save-full, HandlerMade, record-made, tail-made, handler-made, RunsAt, Meets, by-record, by-pair, by-body, load-above, save-above, log-full, Why, looked, met, why}
 use Rattle.model.proofs.Early.{look-rests}
@@ -16,17 +17,17 @@ use Rattle.model.proofs.LookStays.{look-stays}
 use Rattle.model.proofs.Numbers.{Low, low-contents, low-store, low-inside, low-used, low-body}
 use Rattle.model.proofs.RingLaws.{forward, distance-some, slot-apart, RecordStore, event-store, datum-store, slot-in, queueAfter, slot-stays}
 use Rattle.model.proofs.StoreLaws.{apply, withQueue, Inside, view-after}
-use Rattle.model.proofs.TestLaws.{clash, must-passed, then-rest, Refuses, refuses-accepted, refuses-must, refuses-then}
+use Rattle.model.proofs.TestLaws.{pick-false, clash, must-passed, then-rest, Refuses, refuses-accepted, refuses-must, refuses-then}
 use Rattle.model.specs.Accepted.{Looked, MayRun}
 use Rattle.model.specs.Answer.{refusal}
-use Rattle.model.specs.Calls.{Call, Boot, Step, Cut, Post, call, afterCalls}
+use Rattle.model.specs.Calls.{Call, Boot, Step, Cut, Post, call, afterCalls, unlessRefused, isRefusal}
 use Rattle.model.specs.Claims.{Stays, address, logFull, uncut, RefusalStays, soundAfter}
 use Rattle.model.specs.Control.{Rule, obey, obeyAll, openRule, taskRule}
 use Rattle.model.specs.Device.{Outcome, out, refuse, withHandler, look, boot, bootCheck, post, postCheck, recordSound, headSound, headIs, openSound, bodySound, act, nextStep, step}
 use Rattle.model.specs.Program.{word, memoryWords, bodyNumber}
-use Rattle.model.specs.Store.{Store, view, event, Record, carried, distance, slot, Word, Event, Datum, Tail, Write, to, settled}
-use Rattle.model.specs.Test.{_or_, must}
-use Rattle.model.specs.Types.{Answer, Body, Checked, Device, Effect, Handler, Place, Refusal, Resting, Run, Storing}
+use Rattle.model.specs.Store.{Store, view, event, Record, carried, distance, slot, Word, Event, Datum, Tail, Write, to, queueAt, index, settled, storedWord}
+use Rattle.model.specs.Test.{pick, _or_, must}
+use Rattle.model.specs.Types.{Answer, Body, Checked, Device, Effect, Handler, Place, Refusal, Resting, Run, Stored, Storing}
 
 -- ---- 23 and 24 come from an instruction alone
 
@@ -89,7 +90,7 @@ module _ (p : List ℕ) (v : Store) (queue : List ℕ) (t : ℕ) (same : v .head
   body-same : (x : Place) (b : Body) (j : ℕ) (f : Effect) → MayRun p v b → bodySound p (withQueue v queue t) x b j f ≡ bodySound p v x b j f
   unfolding bodySound headSound recordSound openSound headIs openRule taskRule
   body-same x (Body.Task n) j f m = refl
-  body-same x (Body.Event n) j f m = rw (same (m .2))
+  body-same x (Body.Event n) j f m = rw (same (m .0 .2))
 
   module _ (s : List ℕ) (d : Device) (rests : d .handler ≡ Resting) (looks : look p s d ≡ Checked.Accepted) (parts : view s ≡ withQueue v queue t) where
     acts-again : {b : Body} {j c : ℕ} {f : Effect} {r : Refusal} → RunsAt p v d b j c f → act p (withQueue v queue t) d b j c f ≡ refuse d r
@@ -130,8 +131,8 @@ module _ (p s : List ℕ) (d : Device) (r : Refusal) (w : Stays r) (k : Stuck p 
   abbrev v : Store
   v = view s
 
-  abbrev SlotAfter : Outcome → Type 0
-  SlotAfter o = Stuck p (settled s (o .write)) (o .device) r
+  abbrev StuckAfter : Outcome → Type 0
+  StuckAfter o = Stuck p (settled s (o .write)) (o .device) r
 
   meets : Looked p s (withHandler d Resting) × Meets p v (withHandler d Resting) r
   meets = by-why (why p s (withHandler d Resting) r k .0)
@@ -141,13 +142,15 @@ module _ (p s : List ℕ) (d : Device) (r : Refusal) (w : Stays r) (k : Stuck p 
       by-why (met early rests m) = (early, m)
 
   -- a store by the handler
-  stored : (x : Word) (y : ℕ) (h : Handler) (a : Answer) (queue : List ℕ) (t : ℕ) → step p s d ≡ out (to x y) (withHandler d h) a → soundAfter a ≡ true
+  stored : (x : Word) (y : ℕ) (h : Handler) (a : Answer) (queue : List ℕ) (t : ℕ) → step p s d ≡ out (to x y) (withHandler d h) a
+      → isRefusal a ≡ false → soundAfter (storedWord s (to x y)) a (settled s (to x y)) ≡ true
       → Inside (memoryWords p) (v .logPairs) (v .queueRecords) x → apply v (to x y) ≡ withQueue v queue t
-      → (v .head ≢ v .tail → word queue (2 * v .head) ≡ event v (v .head)) → SlotAfter (out (to x y) (withHandler d h) a)
+      → (v .head ≢ v .tail → word queue (2 * v .head) ≡ event v (v .head)) → StuckAfter (out (to x y) (withHandler d h) a)
   unfolding withHandler
-  stored x y h a queue t is sound inside parts same =
+  stored x y h a queue t is unrefused sound inside parts same =
       let s′ = settled s (to x y) in
-      let looks = look-stays p s d (ap (λ (o : Outcome). soundAfter (o .answer)) is ∙ sound) in
+      let looks = look-stays p s d (ap (λ (o : Outcome). isRefusal (o .answer)) is ∙ unrefused)
+      (ap (λ (o : Outcome). soundAfter (storedWord s (o .write)) (o .answer) (settled s (o .write))) is ∙ sound) in
       again p v queue t same s′ (withHandler d Resting) refl
       (look-rests p s′ (withHandler d h) (subst (λ (o : Outcome). look p (settled s (o .write)) (o .device) ≡ Checked.Accepted) is looks))
       (view-after (memoryWords p) (v .logPairs) (v .queueRecords) s (sized (meets .0 .shaped)) x y inside ∙ parts) r w (meets .1)
@@ -164,37 +167,50 @@ module _ (p s : List ℕ) (d : Device) (r : Refusal) (w : Stays r) (k : Stuck p 
       slot-apart (v .queueRecords) (v .head) (v .tail) n (c .head-in) (c .tail-in) (omega (arith, room)) 0
       (distance-some (v .queueRecords) (v .head) (v .tail) (c .head-in) (c .tail-in) ne)))
 
-  stuck-handler : {c e x : ℕ} (o : Outcome) → HandlerMade p v d c e x o → step p s d ≡ o → SlotAfter o
-  unfolding apply soundAfter queueAfter
+  -- its stores aren't the phase's
+  event-sound : (u y : ℕ) (words : List ℕ) → soundAfter (storedWord s (to (Event u) y)) Answer.Stored words ≡ true
+  unfolding soundAfter storedWord index
+  event-sound u y words = pick-false _ _ (ne-eqb (queueAt (word s 1) (word s 2) + 2 * u) 8 (omega arith))
+
+  datum-sound : (u y : ℕ) (words : List ℕ) → soundAfter (storedWord s (to (Datum u) y)) Answer.Stored words ≡ true
+  unfolding soundAfter storedWord index
+  datum-sound u y words = pick-false _ _ (ne-eqb (queueAt (word s 1) (word s 2) + (2 * u + 1)) 8 (omega arith))
+
+  tail-sound : (y : ℕ) (words : List ℕ) → soundAfter (storedWord s (to Tail y)) Answer.Accepted words ≡ true
+  unfolding soundAfter storedWord index pick
+  tail-sound y words = refl
+
+  stuck-handler : {c e x : ℕ} (o : Outcome) → HandlerMade p v d c e x o → step p s d ≡ o → StuckAfter o
+  unfolding apply queueAfter isRefusal unlessRefused
   stuck-handler {c = c} {e = e} {x = x} o (record-made a (event-store n y l m)) is =
-      stored (Event _) (y .event) (Storing (c + 1) e x) Answer.Stored _ (v .tail) is refl (slot-in (v .head) n (meets .0 .control .tail-in) (a .room) l) refl
+      stored (Event _) (y .event) (Storing (c + 1) e x) Answer.Stored _ (v .tail) is refl (event-sound _ _ _) (slot-in (v .head) n (meets .0 .control .tail-in) (a .room) l) refl
       (head-stays (carried e x) _ (event-store n y l m) (a .room))
   stuck-handler {c = c} {e = e} {x = x} o (record-made a (datum-store n y l m)) is =
-      stored (Datum _) (y .datum) (Storing (c + 1) e x) Answer.Stored _ (v .tail) is refl (slot-in (v .head) n (meets .0 .control .tail-in) (a .room) l) refl
+      stored (Datum _) (y .datum) (Storing (c + 1) e x) Answer.Stored _ (v .tail) is refl (datum-sound _ _ _) (slot-in (v .head) n (meets .0 .control .tail-in) (a .room) l) refl
       (head-stays (carried e x) _ (datum-store n y l m) (a .room))
-  stuck-handler o (tail-made a) is = stored Tail _ Resting Answer.Accepted (v .queue) _ is refl tt refl (λ _. refl)
+  stuck-handler o (tail-made a) is = stored Tail _ Resting Answer.Accepted (v .queue) _ is refl (tail-sound _ _) tt refl (λ _. refl)
 
-  stuck-step : (h : Handler) → d .handler ≡ h → SlotAfter (step p s d)
+  stuck-step : (h : Handler) → d .handler ≡ h → StuckAfter (step p s d)
   unfolding settled nextStep
   stuck-step Resting q =
-      subst SlotAfter (sym (why p s d r (ap (λ (u : Device). step p s u .answer) (sym (rests-is d q)) ∙ k) .1)) k
+      subst StuckAfter (sym (why p s d r (ap (λ (u : Device). step p s u .answer) (sym (rests-is d q)) ∙ k) .1)) k
   stuck-step (Storing c e x) q = by-look (look p s d) refl
     where
-      by-look : (k : Checked) → look p s d ≡ k → SlotAfter (step p s d)
+      by-look : (k : Checked) → look p s d ≡ k → StuckAfter (step p s d)
       by-look Checked.Accepted ok =
           let is = step-goes p s d ok ∙ ap (nextStep p v d) q in
           let attends = look-passed p s d ok .handler in
-          subst SlotAfter (sym is) (stuck-handler _ (handler-made p v d c e x (rw q at attends)) is)
-      by-look (Checked.Refused f) not-ok = subst SlotAfter (sym (step-refused p s d not-ok)) k
+          subst StuckAfter (sym is) (stuck-handler _ (handler-made p v d c e x (rw q at attends)) is)
+      by-look (Checked.Refused f) not-ok = subst StuckAfter (sym (step-refused p s d not-ok)) k
 
-  stuck-call : (c : Call) → uncut (c ∷ []) ≡ true → SlotAfter (call p s d c)
+  stuck-call : (c : Call) → uncut (c ∷ []) ≡ true → StuckAfter (call p s d c)
   unfolding call boot bootCheck post settled withHandler uncut
   stuck-call Boot e =
-      judged-case SlotAfter (bootCheck p s d) (λ f _. k)
+      judged-case StuckAfter (bootCheck p s d) (λ f _. k)
       (λ ok. clash (must-passed (not (d .on)) Refusal.PowerOn (then-rest _ _ (then-rest _ _ (then-rest _ _ ok)))) (ap not (meets .0 .on)))
   stuck-call Step e = stuck-step (d .handler) refl
   stuck-call Cut e = clash e refl
-  stuck-call (Post y x) e = judged-case SlotAfter (postCheck p s d y) (λ f _. k) (λ _. k)
+  stuck-call (Post y x) e = judged-case StuckAfter (postCheck p s d y) (λ f _. k) (λ _. k)
 
 uncut-first : (c : Call) (cs : List Call) → uncut (c ∷ cs) ≡ true → (uncut (c ∷ []) ≡ true) × (uncut cs ≡ true)
 unfolding uncut

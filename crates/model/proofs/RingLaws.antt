@@ -17,7 +17,7 @@ use Rattle.model.specs.Claims.{FullIsNoRoom}
 use Rattle.model.specs.Control.{between}
 use Rattle.model.specs.Device.{recordStores, knownEvents}
 use Rattle.model.specs.Program.{word, events}
-use Rattle.model.specs.Store.{slotAfter, distance, room, slot, recordsFrom, Record, carried, Phase, Task, Open, Count, Pending, PendingOpen, Head, Tail, Memory, Address, Value, Event, Datum, Write, none, to}
+use Rattle.model.specs.Store.{slotAfter, distance, room, slot, recordsFrom, Record, carried, Phase, Task, Open, Count, Pending, PendingOpen, Head, Tail, Begun, Memory, Address, Value, Event, Datum, Write, none, to}
 use Rattle.model.specs.Test.{pick, _and_, _or_}
 
 -- ---- what the definitions say, in plain arithmetic
@@ -89,6 +89,10 @@ distance-some q h t l m ne = go (distance q h t) (distance-is q h t l)
     go : (n : ℕ) → Distance q h t n → 0 < n
     go n (inl d) = omega arith
     go n (inr d) = omega arith
+
+pub distance-none : (q h : ℕ) → distance q h h ≡ 0
+unfolding distance
+distance-none q h = let same : h - h ≡ 0 = omega arith in pick-true _ _ (le-leb h h (omega arith)) ∙ same
 
 pub distance-apart : (q h t : ℕ) → h ≤ q → 0 < distance q h t → h ≢ t
 distance-apart q h t l p = go (distance q h t) (distance-is q h t l) p
@@ -288,6 +292,7 @@ InQueue queue (to Pending x) = ⊥
 InQueue queue (to PendingOpen x) = ⊥
 InQueue queue (to Head x) = ⊥
 InQueue queue (to Tail x) = ⊥
+InQueue queue (to Begun x) = ⊥
 InQueue queue (to (Memory a) x) = ⊥
 InQueue queue (to (Address j) x) = ⊥
 InQueue queue (to (Value j) x) = ⊥
@@ -365,6 +370,7 @@ queueAfter queue (to Pending x) = queue
 queueAfter queue (to PendingOpen x) = queue
 queueAfter queue (to Head x) = queue
 queueAfter queue (to Tail x) = queue
+queueAfter queue (to Begun x) = queue
 queueAfter queue (to (Memory a) x) = queue
 queueAfter queue (to (Address j) x) = queue
 queueAfter queue (to (Value j) x) = queue

@@ -11,11 +11,11 @@ use native.Mathlib.Nat.{not-suc-le-zero, le-of-suc-le-suc}
 use native.Mathlib.Omega.{arith}
 use borrow.Author.Tests.{eqb-true}
 use lib.Dec.{ltb, eqb}
-use lib.ListN.{length, length-append, set, replicate}
+use lib.ListN.{length, length-append, set}
 use Rattle.model.proofs.TestLaws.{below-or, and-left, and-right, impossible}
 use Rattle.model.specs.Calls.{Call, Boot, Step, Cut, Post, Line, countBy, isAccept, acceptedEvents}
 use Rattle.model.specs.Demand3.{isCompletion, RunsTask, RunsEvent, RunsBody, SerialDetermined, committedTask, committedTasks, namedAtEnd, namedBy, fromState, namedTasks, TasksFollow}
-use Rattle.model.specs.Program.{word, memoryWords, instructions, bodyNumber, effectAt}
+use Rattle.model.specs.Program.{firstRegisters, word, memoryWords, instructions, bodyNumber, effectAt}
 use Rattle.model.specs.Serial.{Serial, Formatting, Walked, went, served, lost, advance, walk, walkBody, afterTask, afterEvent, serveOldest, runBody, afterDone, withRecords, accept, tell, andThen, serialFrom, serial, serialStart}
 use Rattle.model.specs.Store.{Record}
 use Rattle.model.specs.Test.{pick, _and_}
@@ -254,7 +254,7 @@ walk-more (suc f) (suc f′) l p i j r m =
 
 end-more : (f f′ : ℕ) → f ≤ f′ → (p : List ℕ) (b : Body) (x : ℕ) (m : List ℕ) → More (walkBody f p b x m) (walkBody f′ p b x m)
 unfolding walkBody
-end-more f f′ l p b x m = walk-more f f′ l p (bodyNumber p b) 0 (x ∷ replicate 7 0) m
+end-more f f′ l p b x m = walk-more f f′ l p (bodyNumber p b) 0 (firstRegisters x) m
 
 task-more : (p : List ℕ) (z y : Serial) (u w : Walked) → More u w → afterTask p z u ≡ some y → afterTask p z w ≡ some y
 unfolding afterTask

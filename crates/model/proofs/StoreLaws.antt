@@ -10,7 +10,7 @@ use lib.ListN.{length, take, drop, set, length-set, length-take, length-drop}
 use lib.Seq.{getD-set-other, getD-set-same, drop-set-lt, drop-set-add, take-set-le, take-set-lt}
 use borrow.Author.Tests.{eqb-false, ltb-true}
 use Rattle.model.specs.Program.{word}
-use Rattle.model.specs.Store.{Store, view, memoryAt, logAt, queueAt, storeLength, Word, Phase, Task, Open, Count, Pending, PendingOpen, Head, Tail, Memory, Address, Value, Event, Datum, index, Write, none, to, settled, storeRule}
+use Rattle.model.specs.Store.{Store, view, memoryAt, logAt, queueAt, storeLength, Word, Phase, Task, Open, Count, Pending, PendingOpen, Head, Tail, Begun, Memory, Address, Value, Event, Datum, index, Write, none, to, settled, storeRule}
 
 -- the store by its parts, of m memory words, l log pairs and q queue records
 abbrev pub viewAt : ℕ → ℕ → ℕ → List ℕ → Store
@@ -26,36 +26,42 @@ viewAt m l q s =
       pendingOpen = word s 13;
       head = word s 14;
       tail = word s 15;
+      begun = word s 16;
       memory = take m (drop memoryAt s);
       log = take (2 * l) (drop (logAt m) s);
       queue = take (2 * (q + 1)) (drop (queueAt m l) s);
     }
 
 -- a store from its parts, in the order of the record
-abbrev pub parts : ℕ → ℕ → ℕ → ℕ → ℕ → ℕ → ℕ → ℕ → ℕ → ℕ → List ℕ → List ℕ → List ℕ → Store
-parts l q ph ta op n pe po h t m lo qu =
-    record { logPairs = l; queueRecords = q; phase = ph; task = ta; openNumber = op; count = n; pending = pe; pendingOpen = po; head = h; tail = t; memory = m; log = lo; queue = qu }
+abbrev pub parts : ℕ → ℕ → ℕ → ℕ → ℕ → ℕ → ℕ → ℕ → ℕ → ℕ → ℕ → List ℕ → List ℕ → List ℕ → Store
+parts l q ph ta op n pe po h t g m lo qu =
+    record { logPairs = l; queueRecords = q; phase = ph; task = ta; openNumber = op; count = n; pending = pe; pendingOpen = po; head = h; tail = t; begun = g; memory = m; log = lo; queue = qu }
 
--- a store with another phase; other words 9, 10 and 14; other words 11 to 13; another queue and tail; other memory, log and queue words
+-- a store with another phase; other words 9, 10 and 14; other words 11 to 13; another word 16; another queue and tail; other memory, log and queue
+-- words
 abbrev pub withPhase : Store → ℕ → Store
 withPhase v ph =
-    parts (v .logPairs) (v .queueRecords) ph (v .task) (v .openNumber) (v .count) (v .pending) (v .pendingOpen) (v .head) (v .tail) (v .memory) (v .log) (v .queue)
+    parts (v .logPairs) (v .queueRecords) ph (v .task) (v .openNumber) (v .count) (v .pending) (v .pendingOpen) (v .head) (v .tail) (v .begun) (v .memory) (v .log) (v .queue)
 
 abbrev pub withNext : Store → ℕ → ℕ → ℕ → Store
 withNext v ta op h =
-    parts (v .logPairs) (v .queueRecords) (v .phase) ta op (v .count) (v .pending) (v .pendingOpen) h (v .tail) (v .memory) (v .log) (v .queue)
+    parts (v .logPairs) (v .queueRecords) (v .phase) ta op (v .count) (v .pending) (v .pendingOpen) h (v .tail) (v .begun) (v .memory) (v .log) (v .queue)
 
 abbrev pub withCommit : Store → ℕ → ℕ → ℕ → Store
 withCommit v n pe po =
-    parts (v .logPairs) (v .queueRecords) (v .phase) (v .task) (v .openNumber) n pe po (v .head) (v .tail) (v .memory) (v .log) (v .queue)
+    parts (v .logPairs) (v .queueRecords) (v .phase) (v .task) (v .openNumber) n pe po (v .head) (v .tail) (v .begun) (v .memory) (v .log) (v .queue)
+
+abbrev pub withBegun : Store → ℕ → Store
+withBegun v g =
+    parts (v .logPairs) (v .queueRecords) (v .phase) (v .task) (v .openNumber) (v .count) (v .pending) (v .pendingOpen) (v .head) (v .tail) g (v .memory) (v .log) (v .queue)
 
 abbrev pub withQueue : Store → List ℕ → ℕ → Store
 withQueue v qu t =
-    parts (v .logPairs) (v .queueRecords) (v .phase) (v .task) (v .openNumber) (v .count) (v .pending) (v .pendingOpen) (v .head) t (v .memory) (v .log) qu
+    parts (v .logPairs) (v .queueRecords) (v .phase) (v .task) (v .openNumber) (v .count) (v .pending) (v .pendingOpen) (v .head) t (v .begun) (v .memory) (v .log) qu
 
 abbrev pub withData : Store → List ℕ → List ℕ → List ℕ → Store
 withData v m lo qu =
-    parts (v .logPairs) (v .queueRecords) (v .phase) (v .task) (v .openNumber) (v .count) (v .pending) (v .pendingOpen) (v .head) (v .tail) m lo qu
+    parts (v .logPairs) (v .queueRecords) (v .phase) (v .task) (v .openNumber) (v .count) (v .pending) (v .pendingOpen) (v .head) (v .tail) (v .begun) m lo qu
 
 -- the parts after one store
 unfoldable pub apply : Store → Write → Store
@@ -68,6 +74,7 @@ apply v (to Pending x) = withCommit v (v .count) x (v .pendingOpen)
 apply v (to PendingOpen x) = withCommit v (v .count) (v .pending) x
 apply v (to Head x) = withNext v (v .task) (v .openNumber) x
 apply v (to Tail x) = withQueue v (v .queue) x
+apply v (to Begun x) = withBegun v x
 apply v (to (Memory a) x) = withData v (set (v .memory) a x) (v .log) (v .queue)
 apply v (to (Address j) x) = withData v (v .memory) (set (v .log) (2 * j) x) (v .queue)
 apply v (to (Value j) x) = withData v (v .memory) (set (v .log) (2 * j + 1) x) (v .queue)
@@ -114,6 +121,7 @@ Inside m l q Pending = Unit {0}
 Inside m l q PendingOpen = Unit {0}
 Inside m l q Head = Unit {0}
 Inside m l q Tail = Unit {0}
+Inside m l q Begun = Unit {0}
 Inside m l q (Memory a) = a < m
 Inside m l q (Address j) = j < l
 Inside m l q (Value j) = j < l
@@ -131,6 +139,7 @@ behind Pending s = omega arith
 behind PendingOpen s = omega arith
 behind Head s = omega arith
 behind Tail s = omega arith
+behind Begun s = omega arith
 behind (Memory a) s = omega arith
 behind (Address a) s = omega arith
 behind (Value a) s = omega arith
@@ -151,7 +160,7 @@ module _ (m l q : ℕ) (s : List ℕ) (z : Sized m l q s) where
       let h : i < memoryAt = ltb-true _ _ e in
       (part-before m memoryAt s i x h, part-before (2 * l) (logAt m) s i x (omega arith), part-before (2 * (q + 1)) (queueAt m l) s i x (omega arith))
 
-  in-log : (j x : ℕ) → j < 2 * l → viewAt m l q (set s (logAt m + j) x) ≡ parts l q (word s 8) (word s 9) (word s 10) (word s 11) (word s 12) (word s 13) (word s 14) (word s 15) (take m (drop memoryAt s)) (set (take (2 * l) (drop (logAt m) s)) j x) (take (2 * (q + 1)) (drop (queueAt m l) s))
+  in-log : (j x : ℕ) → j < 2 * l → viewAt m l q (set s (logAt m + j) x) ≡ parts l q (word s 8) (word s 9) (word s 10) (word s 11) (word s 12) (word s 13) (word s 14) (word s 15) (word s 16) (take m (drop memoryAt s)) (set (take (2 * l) (drop (logAt m) s)) j x) (take (2 * (q + 1)) (drop (queueAt m l) s))
   in-log j x h =
       let i = logAt m + j in
       simp (
@@ -161,7 +170,7 @@ module _ (m l q : ℕ) (s : List ℕ) (z : Sized m l q s) where
         part-before (2 * (q + 1)) (queueAt m l) s i x (omega arith),
       )
 
-  in-queue : (j x : ℕ) → j < 2 * (q + 1) → viewAt m l q (set s (queueAt m l + j) x) ≡ parts l q (word s 8) (word s 9) (word s 10) (word s 11) (word s 12) (word s 13) (word s 14) (word s 15) (take m (drop memoryAt s)) (take (2 * l) (drop (logAt m) s)) (set (take (2 * (q + 1)) (drop (queueAt m l) s)) j x)
+  in-queue : (j x : ℕ) → j < 2 * (q + 1) → viewAt m l q (set s (queueAt m l + j) x) ≡ parts l q (word s 8) (word s 9) (word s 10) (word s 11) (word s 12) (word s 13) (word s 14) (word s 15) (word s 16) (take m (drop memoryAt s)) (take (2 * l) (drop (logAt m) s)) (set (take (2 * (q + 1)) (drop (queueAt m l) s)) j x)
   in-queue j x h =
       let i = queueAt m l + j in
       simp (
@@ -181,6 +190,7 @@ module _ (m l q : ℕ) (s : List ℕ) (z : Sized m l q s) where
   view-settled PendingOpen x h = simp (word-other s 13 x, word-same 13 x, control 13 x refl .0, control 13 x refl .1, control 13 x refl .2)
   view-settled Head x h = simp (word-other s 14 x, word-same 14 x, control 14 x refl .0, control 14 x refl .1, control 14 x refl .2)
   view-settled Tail x h = simp (word-other s 15 x, word-same 15 x, control 15 x refl .0, control 15 x refl .1, control 15 x refl .2)
+  view-settled Begun x h = simp (word-other s 16 x, word-same 16 x, control 16 x refl .0, control 16 x refl .1, control 16 x refl .2)
   view-settled (Memory a) x h =
       let i = memoryAt + a in
       simp (

@@ -4,6 +4,7 @@
 use Prim.Native.Nat.{ℕ, zero, suc, _+_, _-_, _*_, _^_, _≤_, _<_}
 use mathlib.Core.Path.{_≡_, refl, subst, _∙_}
 use mathlib.Core.Bool.{Bool, true, false}
+use mathlib.Core.Option.{Option}
 use mathlib.Core.List.{List, [], _∷_}
 use native.Mathlib.Nat.{div-le-self}
 use native.Mathlib.Omega.{arith}
@@ -13,7 +14,7 @@ use lib.IntN.{ℤ}
 use lib.ListN.{length, getD, take, drop, set, replicate, length-set}
 use lib.Seq.{getD-drop}
 use lib.Signed.{shrZ}
-use Rattle.model.proofs.DeviceLaws.{judged-case, atPlace, most-last, Commits, Acts, RunsAt, HandlerMade, record-made, tail-made, Made, handler, commit-copy, commit-task, commit-open, commit-head, commit-phase, chosen-event, chosen-task, computed, jumped, loaded, overwritten, half-saved, saved, go-count, go-pending, go-open, go-phase, done-count, done-pending, done-phase, StepOutcome, refused, made, step-outcome}
+use Rattle.model.proofs.DeviceLaws.{judged-case, atPlace, most-last, Commits, Acts, RunsAt, HandlerMade, record-made, tail-made, Made, handler, commit-copy, commit-task, commit-open, commit-head, commit-begun, commit-phase, chosen-event, chosen-task, computed, jumped, loaded, overwritten, half-saved, saved, go-count, go-pending, go-open, go-phase, done-count, done-pending, done-phase, StepOutcome, refused, made, step-outcome}
 use Rattle.model.proofs.Fresh.{format-passed}
 use Rattle.model.proofs.RingLaws.{slot-after-le, forward-le, Member, here, there, RecordStore, event-store, datum-store, carried-one, record-stores}
 use Rattle.model.proofs.Passed.{body-passed}
@@ -21,7 +22,7 @@ use Rattle.model.proofs.TestLaws.{pick-case, and-left, and-right}
 use Rattle.model.specs.Accepted.{Looked, Sound}
 use Rattle.model.specs.Calls.{Call, Boot, Step, Cut, Post, call}
 use Rattle.model.specs.Claims.{TypedWords, TypedBody, TypedPlace, TypedHandler, TypedDevice, TypedCall, WordsStayWords, FormatStaysWords}
-use Rattle.model.specs.Device.{Outcome, judged, fresh, withPlace, withHandler, boot, cut, post, begun, shown, step}
+use Rattle.model.specs.Device.{Outcome, judged, fresh, turnedOn, withPlace, withHandler, kindOf, currentTask, oldestEvent, begunOf, dataFor, started, takenUp, boot, cut, post, choosing, shown, step}
 use Rattle.model.specs.Program.{word, memoryWords, transaction, bodyNumber, operand, instructionTable, decode, signed, unsigned, shifted, reg, effect, effectAt, newOpen}
 use Rattle.model.specs.Store.{Store, view, Record, carried, slotAfter, memoryAt, logAt, queueAt, index, Write, none, to, settled, storeMark, storeContents, storeLength, sizesRule, formatted, formatCheck, formatStore, format}
 use Rattle.model.specs.Types.{Body, Checked, Device, Effect, Found, Free, Handler, Instruction, Place, Resting, Run, Storing}
@@ -169,6 +170,42 @@ pub fresh-device-words : (on : Bool) → TypedDevice (fresh on)
 unfolding fresh
 fresh-device-words on = record { registers-length = refl; registers = words-zeros 8; place = omega arith; count = omega arith; handler = tt }
 
+-- a body at its first instruction
+module _ (s : List ℕ) (ss : TypedWords s) where
+  data-words : (b : Body) → dataFor (view s) b < 2 ^ 16
+  unfolding dataFor
+  data-words (Body.Task t) = omega arith
+  data-words (Body.Event e) = words-part (2 * (word s 3 + 1)) (queueAt (word s 1) (word s 2)) s ss (2 * word s 14 + 1)
+
+  pub started-words : (d : Device) → TypedDevice d → (b : Body) → TypedBody b → TypedDevice (started (view s) d b)
+  unfolding started withPlace
+  started-words d ds b bs =
+      record {
+        registers-length = refl;
+        registers = words-cons (dataFor (view s) b) (replicate 7 0) (data-words b) (words-zeros 7);
+        place = (bs, (omega arith, omega arith));
+        count = omega arith;
+        handler = ds .handler;
+      }
+
+  pub current-words : TypedBody (currentTask (view s))
+  current-words = ss 9
+
+  pub oldest-words : TypedBody (oldestEvent (view s))
+  oldest-words = words-part (2 * (word s 3 + 1)) (queueAt (word s 1) (word s 2)) s ss (2 * word s 14)
+
+  pub taken-words : TypedDevice (takenUp (view s) (begunOf (view s)))
+  unfolding takenUp begunOf
+  taken-words =
+      pick-case Taken
+      (λ _.
+      pick-case Taken (λ _. started-words turnedOn (fresh-device-words true) _ current-words)
+      (λ _. pick-case Taken (λ _. started-words turnedOn (fresh-device-words true) _ oldest-words) (λ _. fresh-device-words true)))
+      (λ _. fresh-device-words true)
+    where
+      Taken : Option Body → Type 0
+      Taken g = TypedDevice (takenUp (view s) g)
+
 module _ (p s : List ℕ) (d : Device) (ps : TypedWords p) (ss : TypedWords s) (ds : TypedDevice d) where
   abbrev v : Store
   v = view s
@@ -201,7 +238,7 @@ module _ (p s : List ℕ) (d : Device) (ps : TypedWords p) (ss : TypedWords s) (
 
   boot-words : TypedOutcome (boot p s d)
   unfolding boot
-  boot-words = judged-words _ _ (record { write = tt; device = fresh-device-words true })
+  boot-words = judged-words _ _ (record { write = tt; device = taken-words s ss })
 
   cut-words : TypedOutcome cut
   unfolding cut
@@ -212,11 +249,6 @@ module _ (p s : List ℕ) (d : Device) (ps : TypedWords p) (ss : TypedWords s) (
   post-words e x es xs = judged-words _ _ (record { write = tt; device = handled-words (Storing 0 e x) (omega arith, es, xs) })
 
   -- ---- a step
-
-  begun-words : (b : Body) (x : ℕ) → TypedBody b → x < 2 ^ 16 → TypedDevice (begun d b x)
-  unfolding begun
-  begun-words b x bs xs =
-      withPlace-words (x ∷ replicate 7 0) (Run b 0 0) 0 refl (words-cons x (replicate 7 0) xs (words-zeros 7)) (bs, (omega arith, omega arith)) (omega arith)
 
   loaded-words : (b : Body) (j a x : ℕ) → TypedBody b → j + 1 < 2 ^ 16 → x < 2 ^ 16 → TypedDevice (withPlace d (set (d .registers) a x) (Run b (j + 1) 0) (d .count))
   loaded-words b j a x bs next xs =
@@ -266,14 +298,16 @@ module _ (p s : List ℕ) (d : Device) (ps : TypedWords p) (ss : TypedWords s) (
         }
 
     made-words : (o : Outcome) → Made p v d o → TypedOutcome o
+    unfolding choosing kindOf
     made-words o (handler {c = c} {e = e} {x = x} q m) = handler-words (subst TypedHandler q (ds .handler)) o m
     made-words o (commit-copy h l m) = record { write = log-words _; device = onward-words h }
     made-words o (commit-task h one e) = record { write = ss 12; device = onward-words h }
     made-words o (commit-open h one e) = record { write = ss 13; device = onward-words h }
     made-words o (commit-head h two e) = record { write = ss 12; device = onward-words h }
+    made-words o (commit-begun h e) = record { write = omega arith; device = onward-words h }
     made-words o (commit-phase h e) = record { write = omega arith; device = fresh-device-words true }
-    made-words o (chosen-event h none-open some l) = record { write = tt; device = begun-words _ _ (queue-words (2 * v .head)) (queue-words (2 * v .head + 1)) }
-    made-words o (chosen-task h n) = record { write = tt; device = begun-words _ 0 (ss 9) (omega arith) }
+    made-words o (chosen-event h none-open some l) = record { write = omega arith; device = started-words s ss d ds _ (oldest-words s ss) }
+    made-words o (chosen-task h n) = record { write = omega arith; device = started-words s ss d ds _ (current-words s ss) }
     made-words o (computed h) = let w = acts-words h in record { write = tt; device = loaded-words _ _ _ _ (w .0 .0) (w .1) (w .2) }
     made-words o (jumped h) = let w = acts-words h in record { write = tt; device = went-words _ (w .0 .0, (w .2, omega arith)) }
     made-words o (loaded h l) = let w = acts-words h in record { write = tt; device = loaded-words _ _ _ _ (w .0 .0) (w .1) (shown-words _ _) }

@@ -8,7 +8,7 @@ use mathlib.Core.Logic.{_⊎_, _≢_}
 use mathlib.Core.Path.{_≡_}
 use lib.ListN.{length}
 use Rattle.model.specs.Check.{contentsRule, rowsInside, rowUsable, instructionRule, check}
-use Rattle.model.specs.Device.{recordStores, lastStores, endStores, look, headSound, namedRow, openSound, headIs, placeFits}
+use Rattle.model.specs.Device.{recordStores, lastStores, kindOf, endStores, look, headSound, namedRow, openSound, headIs, placeFits}
 use Rattle.model.specs.Program.{word, tasks, events, memoryWords, entry, total, bodies, start, instructions, firstBody, opcode, fieldA, fieldB, code, operand, decode, effectAt, bodyNumber}
 use Rattle.model.specs.Store.{Store, view, memoryAt, logAt, queueAt, storeLength, Record, carried, slotAfter, distance}
 use Rattle.model.specs.Types.{Body, Checked, Device, Effect, Free, Half, Handler, Instruction, Place, Resting, Run, Storing}
@@ -134,7 +134,7 @@ pub record ShapedFor (p s : List ℕ) : Type 0 where
 
 -- ---- 7, early: `earlyRules`
 
-pub record ControlledBy (p : List ℕ) (l q phase task open′ n pending h t : ℕ) : Type 0 where
+pub record ControlledBy (p : List ℕ) (l q phase task open′ n pending h t g : ℕ) : Type 0 where
   pub phase-in : phase ≤ 2
   pub task-in : task < tasks p
   pub head-in : h ≤ q
@@ -144,29 +144,40 @@ pub record ControlledBy (p : List ℕ) (l q phase task open′ n pending h t : �
   pub pending-head : phase ≡ 2 → pending ≤ q
   pub pending-is : phase ≡ 2 → (pending ≡ h) ⊎ ((pending ≡ slotAfter q h) × (h ≢ t))
   pub open-none : phase ≡ 2 → open′ ≡ 0
+  pub begun-in : g ≤ 2
+  pub begun-event : phase ≡ 0 → g ≡ 2 → (h ≢ t) × (open′ ≡ 0)
 
 abbrev pub Controlled : List ℕ → Store → Type 0
 Controlled p v =
-    ControlledBy p (v .logPairs) (v .queueRecords) (v .phase) (v .task) (v .openNumber) (v .count) (v .pending) (v .head) (v .tail)
+    ControlledBy p (v .logPairs) (v .queueRecords) (v .phase) (v .task) (v .openNumber) (v .count) (v .pending) (v .head) (v .tail) (v .begun)
+
+-- ---- what a boot checks of the store: `bootCheck`
+
+pub record Bootable (p s : List ℕ) : Type 0 where
+  pub shaped : ShapedFor p s
+  pub head-in : word s 14 ≤ word s 3
 
 -- ---- 25, early: `mayRun`, `placeSound` and `handlerSound`
 
-abbrev pub MayRunBy : List ℕ → ℕ → ℕ → ℕ → ℕ → Body → Type 0
-MayRunBy p task open′ h t (Body.Task k) = k ≡ task
-MayRunBy p task open′ h t (Body.Event e) = (e < events p) × (open′ ≡ 0) × (h ≢ t)
+abbrev pub EligibleBy : List ℕ → ℕ → ℕ → ℕ → ℕ → Body → Type 0
+EligibleBy p task open′ h t (Body.Task k) = k ≡ task
+EligibleBy p task open′ h t (Body.Event e) = (e < events p) × (open′ ≡ 0) × (h ≢ t)
+
+abbrev pub MayRunBy : List ℕ → ℕ → ℕ → ℕ → ℕ → ℕ → Body → Type 0
+MayRunBy p task open′ h t g b = EligibleBy p task open′ h t b × (g ≡ kindOf b)
 
 abbrev pub MayRun : List ℕ → Store → Body → Type 0
-MayRun p v b = MayRunBy p (v .task) (v .openNumber) (v .head) (v .tail) b
+MayRun p v b = MayRunBy p (v .task) (v .openNumber) (v .head) (v .tail) (v .begun) b
 
 -- with n pairs to copy and so many last stores behind them, and with the device's log count
-abbrev pub StandsBy : List ℕ → ℕ → ℕ → ℕ → ℕ → ℕ → ℕ → ℕ → ℕ → ℕ → Place → Type 0
-StandsBy p l phase task open′ n h t last count (Free c) = (phase ≡ 0 → c ≡ 0) × (phase ≢ 0 → c < n + last)
-StandsBy p l phase task open′ n h t last count (Run b j c) = (phase ≡ 0) × MayRunBy p task open′ h t b × (c < endStores b)
-StandsBy p l phase task open′ n h t last count (Half b j) = (phase ≡ 0) × MayRunBy p task open′ h t b × (count < l)
+abbrev pub StandsBy : List ℕ → ℕ → ℕ → ℕ → ℕ → ℕ → ℕ → ℕ → ℕ → ℕ → ℕ → Place → Type 0
+StandsBy p l phase task open′ n h t g last count (Free c) = (phase ≡ 0 → (c ≡ 0) × (g ≡ 0)) × (phase ≢ 0 → c < n + last)
+StandsBy p l phase task open′ n h t g last count (Run b j c) = (phase ≡ 0) × MayRunBy p task open′ h t g b × (c < endStores b)
+StandsBy p l phase task open′ n h t g last count (Half b j) = (phase ≡ 0) × MayRunBy p task open′ h t g b × (count < l)
 
 abbrev pub Stands : List ℕ → Store → ℕ → Place → Type 0
 Stands p v count x =
-    StandsBy p (v .logPairs) (v .phase) (v .task) (v .openNumber) (v .count) (v .head) (v .tail) (length (lastStores v)) count x
+    StandsBy p (v .logPairs) (v .phase) (v .task) (v .openNumber) (v .count) (v .head) (v .tail) (v .begun) (length (lastStores v)) count x
 
 -- every event is below E
 abbrev pub Known : List ℕ → List Record → Type 0

@@ -8,14 +8,15 @@ use Rattle.model.specs.Answer.{RefusalNumber, refusal}
 use Rattle.model.specs.Calls.{Call, Boot, Step, Cut, Post, Line, Now, history, afterCalls, isAccept, counted, RunOutcome, run, Recovery, recovered, unfinished, recovery, countBy, steps}
 use Rattle.model.specs.Claims.{uncut}
 use Rattle.model.specs.Demand3.{isIn, mayMeet, recoverySteps, isCompletion}
-use Rattle.model.specs.Device.{Outcome, out, refuse, boot, cut, post, step}
+use Rattle.model.specs.Device.{Outcome, out, refuse, begunOf, boot, cut, post, step}
 use Rattle.model.specs.Program.{newOpen}
 use Rattle.model.specs.Serial.{Serial, given, serial}
 use Rattle.model.specs.Starred.{counting}
-use Rattle.model.specs.Store.{Record, view, room, waiting, Word, Phase, Task, Open, Count, Pending, PendingOpen, Head, Tail, Memory, Address, Value, Event, Datum, none, to, index, settled, formatted}
+use Rattle.model.specs.Store.{Record, view, room, waiting, Word, Phase, Task, Open, Count, Pending, PendingOpen, Head, Tail, Begun, Memory, Address, Value, Event, Datum, none, to, index, settled, formatted}
+use Rattle.model.specs.Turns.{begunBy, nextBody}
 use Rattle.model.specs.Types.{Answer, Body, Device, Ended, Free, Half, Refusal, Resting, Run, Storing, Totals}
 use Rattle.model.specs.ProgramRows.{storesWord}
-use Rattle.model.specs.Sample.{Row, _⇒_, at, cleared, closed, controls, deviceWith, eventCommit, offValue, onValue, opened, registers, sample, task1, taskCommit, twoPairs, withInstruction}
+use Rattle.model.specs.Sample.{Row, _⇒_, at, cleared, closed, controls, deviceWith, eventBegun, eventCommit, offValue, onValue, opened, registers, sample, task1, taskBegun, taskCommit, twoPairs, withInstruction}
 use Rattle.model.specs.StateRows.{wrongOpen}
 
 -- ---- What a step does: its one store, the device after it, its answer
@@ -24,9 +25,13 @@ use Rattle.model.specs.StateRows.{wrongOpen}
 abbrev handling : ℕ → Device
 handling c = deviceWith true registers (task1 2) 1 (Storing c 1 66)
 
--- a body begun, register 0 with the data of an event
-abbrev begins : Body → ℕ → Outcome
-begins b x = out none (deviceWith true (set cleared 0 x) (Run b 0 0) 0 Resting) (Answer.Chosen b)
+-- a body begun, by its kind in word 16, register 0 with the data of an event
+abbrev begins : Body → ℕ → ℕ → Outcome
+begins b n x = out (to Begun n) (deviceWith true (set cleared 0 x) (Run b 0 0) 0 Resting) (Answer.Chosen b)
+
+-- a boot that takes it up
+abbrev takesUp : Body → ℕ → Outcome
+takesUp b x = out none (deviceWith true (set cleared 0 x) (Run b 0 0) 0 Resting) Answer.Done
 
 -- a commit's last store, and a commit store
 abbrev endsWith : Word → ℕ → Answer → Outcome
@@ -35,48 +40,50 @@ endsWith w x a = out (to w x) onValue a
 unfoldable pub outcomes : List (Row Outcome)
 outcomes =
     -- "event, data, then tail. The tail store accepts the event": the slot after 3 is 0; a handler precedes a commit
-    step sample (controls 0 1 8 0 0 0 1 3) (handling 0) ⇒ out (to (Event 3) 1) (handling 1) Answer.Stored
-    ∷ step sample (controls 0 1 8 0 0 0 1 3) (handling 1) ⇒ out (to (Datum 3) 66) (handling 2) Answer.Stored
-    ∷ step sample (controls 0 1 8 0 0 0 1 3) (handling 2) ⇒ out (to Tail 0) (at (task1 2)) Answer.Accepted
+    step sample (taskBegun (controls 0 1 8 0 0 0 1 3)) (handling 0) ⇒ out (to (Event 3) 1) (handling 1) Answer.Stored
+    ∷ step sample (taskBegun (controls 0 1 8 0 0 0 1 3)) (handling 1) ⇒ out (to (Datum 3) 66) (handling 2) Answer.Stored
+    ∷ step sample (taskBegun (controls 0 1 8 0 0 0 1 3)) (handling 2) ⇒ out (to Tail 0) (at (task1 2)) Answer.Accepted
     ∷ step sample taskCommit (deviceWith true registers (Free 1) 1 (Storing 2 1 66)) ⇒ out (to Tail 2) (at (Free 1)) Answer.Accepted
-    -- "then n copies, 9 from 12, 10 from 13, 8 becomes 0"
+    -- "then n copies, 9 from 12, 10 from 13, 8 becomes 0"; N4: "Commits store 0 in it just before the last store", over a 0 too
     ∷ step sample taskCommit (at (Free 0)) ⇒ storesWord (Memory 2) 777 (Free 1)
     ∷ step sample taskCommit (at (Free 1)) ⇒ storesWord (Memory 3) 888 (Free 2)
     ∷ step sample taskCommit (at (Free 2)) ⇒ storesWord Task 2 (Free 3)
     ∷ step sample taskCommit (at (Free 3)) ⇒ storesWord Open 8 (Free 4)
-    ∷ step sample taskCommit (at (Free 4)) ⇒ endsWith Phase 0 Answer.Stored
+    ∷ step sample taskCommit (at (Free 4)) ⇒ storesWord Begun 0 (Free 5)
+    ∷ step sample taskCommit (at (Free 5)) ⇒ endsWith Phase 0 Answer.Stored
     -- "n copies, 14 from 12, 8 becomes 0"
     ∷ step sample eventCommit (at (Free 0)) ⇒ storesWord (Memory 2) 777 (Free 1)
     ∷ step sample eventCommit (at (Free 1)) ⇒ storesWord Head 0 (Free 2)
-    ∷ step sample eventCommit (at (Free 2)) ⇒ endsWith Phase 0 Answer.Stored
+    ∷ step sample eventCommit (at (Free 2)) ⇒ storesWord Begun 0 (Free 3)
+    ∷ step sample eventCommit (at (Free 3)) ⇒ endsWith Phase 0 Answer.Stored
     -- "if word 10 is 0 and the queue isn't empty, the event at head; otherwise the current task"
-    ∷ step sample closed (at (Free 0)) ⇒ begins (Body.Event 1) 53
-    ∷ step sample opened (at (Free 0)) ⇒ begins (Body.Task 1) 0
-    ∷ step sample (controls 0 4 0 0 0 0 2 2) (at (Free 0)) ⇒ begins (Body.Task 4) 0
+    ∷ step sample closed (at (Free 0)) ⇒ begins (Body.Event 1) 2 53
+    ∷ step sample opened (at (Free 0)) ⇒ begins (Body.Task 1) 1 0
+    ∷ step sample (controls 0 4 0 0 0 0 2 2) (at (Free 0)) ⇒ begins (Body.Task 4) 1 0
     -- "the search of the log ends with the pair found": LOAD 3 2, with address 2 in both pairs
-    ∷ step (withInstruction 0x0830 2) (set opened 24 2) (twoPairs (task1 2)) ⇒ out none (deviceWith true (set registers 3 777) (task1 3) 2 Resting) Answer.Worked
+    ∷ step (withInstruction 0x0830 2) (taskBegun (set opened 25 2)) (twoPairs (task1 2)) ⇒ out none (deviceWith true (set registers 3 777) (task1 3) 2 Resting) Answer.Worked
     -- the third of three pairs
-    ∷ step (withInstruction 0x0830 2) (set (set (formatted sample 3 3) 26 2) 27 999) (deviceWith true registers (task1 2) 3 Resting)
+    ∷ step (withInstruction 0x0830 2) (taskBegun (set (set (formatted sample 3 3) 27 2) 28 999)) (deviceWith true registers (task1 2) 3 Resting)
     ⇒ out none (deviceWith true (set registers 3 999) (task1 3) 3 Resting) Answer.Worked
     -- "the next, without looking again at address or log, the value": SAVE 1 4, though pair 1 has address 3
-    ∷ step sample opened (at (Half (Body.Task 1) 1)) ⇒ out (to (Value 1) 2) (twoPairs (task1 2)) Answer.Stored
+    ∷ step sample (taskBegun opened) (at (Half (Body.Task 1) 1)) ⇒ out (to (Value 1) 2) (twoPairs (task1 2)) Answer.Stored
     -- GO 2: "11 is n, 12 the next task, 13 the new open number, 8 becomes 1 (the commit store)"
-    ∷ step sample opened (at (Run (Body.Task 1) 3 0)) ⇒ storesWord Count 1 (Run (Body.Task 1) 3 1)
-    ∷ step sample opened (at (Run (Body.Task 1) 3 1)) ⇒ storesWord Pending 2 (Run (Body.Task 1) 3 2)
-    ∷ step sample opened (at (Run (Body.Task 1) 3 2)) ⇒ storesWord PendingOpen 8 (Run (Body.Task 1) 3 3)
-    ∷ step sample opened (at (Run (Body.Task 1) 3 3)) ⇒ endsWith Phase 1 (Answer.Committed (Body.Task 1))
+    ∷ step sample (taskBegun opened) (at (Run (Body.Task 1) 3 0)) ⇒ storesWord Count 1 (Run (Body.Task 1) 3 1)
+    ∷ step sample (taskBegun opened) (at (Run (Body.Task 1) 3 1)) ⇒ storesWord Pending 2 (Run (Body.Task 1) 3 2)
+    ∷ step sample (taskBegun opened) (at (Run (Body.Task 1) 3 2)) ⇒ storesWord PendingOpen 8 (Run (Body.Task 1) 3 3)
+    ∷ step sample (taskBegun opened) (at (Run (Body.Task 1) 3 3)) ⇒ endsWith Phase 1 (Answer.Committed (Body.Task 1))
     -- "DONE: 11, 12 with the slot after head, 8 becomes 2"
-    ∷ step sample closed (at (Run (Body.Event 1) 1 0)) ⇒ storesWord Count 1 (Run (Body.Event 1) 1 1)
-    ∷ step sample closed (at (Run (Body.Event 1) 1 1)) ⇒ storesWord Pending 0 (Run (Body.Event 1) 1 2)
-    ∷ step sample closed (at (Run (Body.Event 1) 1 2)) ⇒ endsWith Phase 2 (Answer.Committed (Body.Event 1))
+    ∷ step sample (eventBegun closed) (at (Run (Body.Event 1) 1 0)) ⇒ storesWord Count 1 (Run (Body.Event 1) 1 1)
+    ∷ step sample (eventBegun closed) (at (Run (Body.Event 1) 1 1)) ⇒ storesWord Pending 0 (Run (Body.Event 1) 1 2)
+    ∷ step sample (eventBegun closed) (at (Run (Body.Event 1) 1 2)) ⇒ endsWith Phase 2 (Answer.Committed (Body.Event 1))
     -- "A post makes no store, sets the handler to work": "post then 8, 20, 21"
-    ∷ post sample opened (at (task1 2)) 1 66 ⇒ out none (handling 0) Answer.Done
+    ∷ post sample (taskBegun opened) (at (task1 2)) 1 66 ⇒ out none (handling 0) Answer.Done
     ∷ post sample taskCommit (at (Free 1)) 0 9 ⇒ out none (deviceWith true registers (Free 1) 1 (Storing 0 0 9)) Answer.Done
     ∷ post sample opened offValue 2 66 ⇒ refuse offValue Refusal.PowerOff
-    ∷ post sample opened (handling 1) 2 66 ⇒ refuse (handling 1) Refusal.NoEvent
-    ∷ post sample opened (handling 1) 1 67 ⇒ refuse (handling 1) Refusal.HandlerBusy
-    ∷ post sample (controls 0 1 8 0 0 0 2 1) (at (task1 2)) 2 66 ⇒ refuse (at (task1 2)) Refusal.NoEvent
-    ∷ post sample (controls 0 1 8 0 0 0 2 1) (at (task1 2)) 1 66 ⇒ refuse (at (task1 2)) Refusal.QueueFull
+    ∷ post sample (taskBegun opened) (handling 1) 2 66 ⇒ refuse (handling 1) Refusal.NoEvent
+    ∷ post sample (taskBegun opened) (handling 1) 1 67 ⇒ refuse (handling 1) Refusal.HandlerBusy
+    ∷ post sample (taskBegun (controls 0 1 8 0 0 0 2 1)) (at (task1 2)) 2 66 ⇒ refuse (at (task1 2)) Refusal.NoEvent
+    ∷ post sample (taskBegun (controls 0 1 8 0 0 0 2 1)) (at (task1 2)) 1 66 ⇒ refuse (at (task1 2)) Refusal.QueueFull
     ∷ post sample (controls 2 1 0 0 1 0 0 3) (at (Free 0)) 1 66 ⇒ refuse (at (Free 0)) Refusal.QueueFull
     -- "Boot makes no store and turns that value on"; "boot 1 to 7, 26"; "A cut refuses nothing"
     ∷ boot sample opened offValue ⇒ out none onValue Answer.Done
@@ -85,21 +92,30 @@ outcomes =
     ∷ boot sample wrongOpen onValue ⇒ refuse onValue (Refusal.Control 10)
     ∷ boot sample (controls 0 5 9 0 0 0 3 1) offValue ⇒ refuse offValue (Refusal.Control 9)
     ∷ boot sample (controls 1 1 8 2 2 9 3 1) offValue ⇒ refuse offValue (Refusal.Control 13)
-    ∷ boot sample (set taskCommit 24 6) offValue ⇒ refuse offValue (Refusal.Control 24)
-    ∷ boot sample (set (set (set (formatted sample 2 1) 8 1) 11 2) 24 6) offValue ⇒ refuse offValue (Refusal.Control 24)
-    ∷ boot sample (set eventCommit 26 2) offValue ⇒ refuse offValue (Refusal.Control 26)
-    ∷ boot sample (set eventCommit 32 2) offValue ⇒ out none onValue Answer.Done
+    ∷ boot sample (set taskCommit 25 6) offValue ⇒ refuse offValue (Refusal.Control 25)
+    ∷ boot sample (set (set (set (formatted sample 2 1) 8 1) 11 2) 25 6) offValue ⇒ refuse offValue (Refusal.Control 25)
+    ∷ boot sample (set eventCommit 27 2) offValue ⇒ refuse offValue (Refusal.Control 27)
+    ∷ boot sample (set eventCommit 33 2) offValue ⇒ out none onValue Answer.Done
+    -- N4: "a boot in phase 0 takes up the begun body at its first instruction, registers as at choosing"; in phases 1 and 2 it doesn't
+    ∷ boot sample (taskBegun opened) offValue ⇒ takesUp (Body.Task 1) 0
+    ∷ boot sample (taskBegun closed) offValue ⇒ takesUp (Body.Task 1) 0
+    ∷ boot sample (eventBegun closed) offValue ⇒ takesUp (Body.Event 1) 53
+    ∷ boot sample (taskBegun opened) (deviceWith false registers (task1 2) 1 (Storing 2 1 66)) ⇒ takesUp (Body.Task 1) 0
+    ∷ boot sample (taskBegun taskCommit) offValue ⇒ out none onValue Answer.Done
+    ∷ boot sample (eventBegun eventCommit) offValue ⇒ out none onValue Answer.Done
+    ∷ boot sample (taskBegun opened) onValue ⇒ refuse onValue Refusal.PowerOn
     ∷ cut ⇒ out none offValue Answer.Done
     ∷ []
 
 -- after the contents and the control words come six words of memory, two pairs, four slots
 unfoldable pub placesOfWords : List (Row (List ℕ))
 placesOfWords =
-    map (index closed) (Phase ∷ Task ∷ Open ∷ Count ∷ Pending ∷ PendingOpen ∷ Head ∷ Tail ∷ []) ⇒ (8 ∷ 9 ∷ 10 ∷ 11 ∷ 12 ∷ 13 ∷ 14 ∷ 15 ∷ [])
-    ∷ map (index closed) (Memory 0 ∷ Memory 5 ∷ []) ⇒ (16 ∷ 21 ∷ [])
-    ∷ map (index closed) (Address 0 ∷ Value 0 ∷ Address 1 ∷ Value 1 ∷ []) ⇒ (22 ∷ 23 ∷ 24 ∷ 25 ∷ [])
-    ∷ map (index closed) (Event 0 ∷ Datum 0 ∷ Event 3 ∷ Datum 3 ∷ []) ⇒ (26 ∷ 27 ∷ 32 ∷ 33 ∷ [])
-    ∷ settled closed (to (Value 1) 9) ⇒ set closed 25 9
+    map (index closed) (Phase ∷ Task ∷ Open ∷ Count ∷ Pending ∷ PendingOpen ∷ Head ∷ Tail ∷ Begun ∷ []) ⇒ (8 ∷ 9 ∷ 10 ∷ 11 ∷ 12 ∷ 13 ∷ 14 ∷ 15 ∷ 16 ∷ [])
+    ∷ map (index closed) (Memory 0 ∷ Memory 5 ∷ []) ⇒ (17 ∷ 22 ∷ [])
+    ∷ map (index closed) (Address 0 ∷ Value 0 ∷ Address 1 ∷ Value 1 ∷ []) ⇒ (23 ∷ 24 ∷ 25 ∷ 26 ∷ [])
+    ∷ map (index closed) (Event 0 ∷ Datum 0 ∷ Event 3 ∷ Datum 3 ∷ []) ⇒ (27 ∷ 28 ∷ 33 ∷ 34 ∷ [])
+    ∷ settled closed (to (Value 1) 9) ⇒ set closed 26 9
+    ∷ settled closed (to Begun 9) ⇒ set closed 16 9
     ∷ settled closed none ⇒ closed
     ∷ []
 
@@ -120,8 +136,11 @@ rooms =
 
 -- ---- Lists of calls, on a store freshly formatted with L 2 and Q 3, the device off at first
 
+abbrev answersOf : List ℕ → List Call → List Answer
+answersOf p cs = map (λ (x : Line). x .answered) (history p (formatted p 2 3) offValue cs)
+
 abbrev answers : List Call → List Answer
-answers cs = map (λ (x : Line). x .answered) (history sample (formatted sample 2 3) offValue cs)
+answers cs = answersOf sample cs
 
 abbrev left : List Call → Now
 left cs = afterCalls sample (formatted sample 2 3) offValue cs
@@ -145,10 +164,10 @@ abbrev chosen : ℕ → List Answer
 chosen t = Answer.Chosen (Body.Task t) ∷ []
 
 abbrev goesOn : ℕ → List Answer
-goesOn t = chosen t ++ replicate 3 Answer.Stored ++ Answer.Committed (Body.Task t) ∷ replicate 3 Answer.Stored
+goesOn t = chosen t ++ replicate 3 Answer.Stored ++ Answer.Committed (Body.Task t) ∷ replicate 4 Answer.Stored
 
 abbrev isServed : ℕ → List Answer
-isServed e = Answer.Chosen (Body.Event e) ∷ replicate 4 Answer.Stored ++ Answer.Committed (Body.Event e) ∷ replicate 3 Answer.Stored
+isServed e = Answer.Chosen (Body.Event e) ∷ replicate 4 Answer.Stored ++ Answer.Committed (Body.Event e) ∷ replicate 4 Answer.Stored
 
 -- Task 1 is chosen, then event 0 is posted. It waits for the transaction of tasks 1, 2 and 3 to close; tasks 0, 4 and 1 follow, with
 -- numbers 0, 9 and 8.
@@ -159,14 +178,31 @@ transactionCalls = Boot ∷ Step ∷ posted 0 50
 abbrev transactionBegins : List Answer
 transactionBegins =
     Answer.Done ∷ chosen 1 ++ isAccepted ++ Answer.Worked ∷ Answer.Stored ∷ Answer.Stored ∷ Answer.Worked ∷ replicate 3 Answer.Stored
-    ++ Answer.Committed (Body.Task 1) ∷ replicate 4 Answer.Stored
+    ++ Answer.Committed (Body.Task 1) ∷ replicate 5 Answer.Stored
+
+-- Task 0, as the entry task, is chosen, then event 0 is accepted. The task has no transaction: it commits, and the event is chosen.
+abbrev fromTask0 : List Call → List Answer
+fromTask0 cs = answersOf (set sample 4 0) cs
+
+abbrev whileBegun : List Call
+whileBegun = Boot ∷ Step ∷ posted 0 50
+
+abbrev isBegun : List Answer
+isBegun = Answer.Done ∷ chosen 0 ++ isAccepted
+
+abbrev commitsFirst : List Answer
+commitsFirst = replicate 3 Answer.Stored ++ Answer.Committed (Body.Task 0) ∷ replicate 4 Answer.Stored ++ Answer.Chosen (Body.Event 0) ∷ []
+
+-- task 1 with LOADX 3 1 0 in the place of ADD: register 1 holds 9, which is no address
+abbrev isRefusedAtLoad : List Answer
+isRefusedAtLoad = Answer.Worked ∷ Answer.Stored ∷ Answer.Stored ∷ Answer.Refused Refusal.Address ∷ []
 
 -- three records wait, a fourth finds the queue full; an event is served, and a record goes into the ring's last slot
 abbrev filled : List Call
 filled = Boot ∷ posted 0 50 ++ posted 1 51 ++ posted 0 52
 
 abbrev refilled : List Call
-refilled = filled ++ Post 1 53 ∷ steps 9 ++ posted 1 53
+refilled = filled ++ Post 1 53 ∷ steps 10 ++ posted 1 53
 
 abbrev isFull : List Answer
 isFull = Answer.Refused Refusal.QueueFull ∷ []
@@ -176,17 +212,27 @@ queueRefilled = Answer.Done ∷ isAccepted ++ isAccepted ++ isAccepted ++ isFull
 
 unfoldable pub schedules : List (Row (List Answer))
 schedules =
-    answers (transactionCalls ++ steps 54) ⇒ (transactionBegins ++ goesOn 2 ++ goesOn 3 ++ isServed 0 ++ goesOn 0 ++ goesOn 4 ++ chosen 1)
-    -- cut with the transaction open, at GO
-    ∷ answers (transactionCalls ++ steps 16 ++ Cut ∷ Boot ∷ Step ∷ [])
-    ⇒ (transactionBegins ++ chosen 2 ++ replicate 3 Answer.Stored ++ replicate 2 Answer.Done ++ chosen 2)
-    ∷ answers (refilled ++ Post 0 54 ∷ steps 28) ⇒ (queueRefilled ++ isFull ++ isServed 1 ++ isServed 0 ++ isServed 1 ++ chosen 1)
+    answers (transactionCalls ++ steps 60) ⇒ (transactionBegins ++ goesOn 2 ++ goesOn 3 ++ isServed 0 ++ goesOn 0 ++ goesOn 4 ++ chosen 1)
+    -- cut with the transaction open, at GO: task 2 is taken up, and its GO is next
+    ∷ answers (transactionCalls ++ steps 17 ++ Cut ∷ Boot ∷ Step ∷ [])
+    ⇒ (transactionBegins ++ chosen 2 ++ replicate 3 Answer.Stored ++ replicate 2 Answer.Done ++ Answer.Stored ∷ [])
+    -- "An event accepted while a task is begun now runs after that task, cut or no cut"
+    ∷ fromTask0 (whileBegun ++ steps 9) ⇒ (isBegun ++ commitsFirst)
+    ∷ fromTask0 (whileBegun ++ Cut ∷ Boot ∷ steps 9) ⇒ (isBegun ++ replicate 2 Answer.Done ++ commitsFirst)
+    ∷ fromTask0 (whileBegun ++ steps 3 ++ Cut ∷ Boot ∷ steps 9)
+    ⇒ (isBegun ++ replicate 3 Answer.Stored ++ replicate 2 Answer.Done ++ commitsFirst)
+    -- cut just before the task is chosen: the event is chosen first
+    ∷ fromTask0 (Boot ∷ posted 0 50 ++ Cut ∷ Boot ∷ Step ∷ []) ⇒ (Answer.Done ∷ isAccepted ++ replicate 2 Answer.Done ++ Answer.Chosen (Body.Event 0) ∷ [])
+    -- 23 is met again after a cut: the body is taken up again
+    ∷ answersOf (withInstruction 0x0A31 0) (Boot ∷ steps 5 ++ Cut ∷ Boot ∷ steps 4)
+    ⇒ (Answer.Done ∷ chosen 1 ++ isRefusedAtLoad ++ replicate 2 Answer.Done ++ isRefusedAtLoad)
+    ∷ answers (refilled ++ Post 0 54 ∷ steps 31) ⇒ (queueRefilled ++ isFull ++ isServed 1 ++ isServed 0 ++ isServed 1 ++ chosen 1)
     ∷ []
 
 unfoldable pub openNumbers : List (Row (List ℕ))
 openNumbers =
     -- after tasks 1, 2 and 3, event 0, tasks 0 and 4
-    map (λ (s : List ℕ). view s .openNumber) (storesAfter (left transactionCalls) (12 ∷ 8 ∷ 8 ∷ 9 ∷ 8 ∷ 8 ∷ [])) ⇒ (8 ∷ 8 ∷ 0 ∷ 0 ∷ 0 ∷ 0 ∷ [])
+    map (λ (s : List ℕ). view s .openNumber) (storesAfter (left transactionCalls) (13 ∷ 9 ∷ 9 ∷ 10 ∷ 9 ∷ 9 ∷ [])) ⇒ (8 ∷ 8 ∷ 0 ∷ 0 ∷ 0 ∷ 0 ∷ [])
     -- "The new open number is the ended task's if that isn't 0 and the next task has the same; otherwise 0"
     ∷ (newOpen 8 8 ∷ newOpen 8 9 ∷ newOpen 8 0 ∷ newOpen 0 8 ∷ newOpen 0 0 ∷ []) ⇒ (8 ∷ 0 ∷ 0 ∷ 0 ∷ 0 ∷ [])
     ∷ []
@@ -194,7 +240,7 @@ openNumbers =
 -- before and after each of the three events that wait
 unfoldable pub memories : List (Row (List (List ℕ)))
 memories =
-    map (λ (s : List ℕ). view s .memory) (storesAfter (left refilled) (0 ∷ 9 ∷ 9 ∷ 9 ∷ []))
+    map (λ (s : List ℕ). view s .memory) (storesAfter (left refilled) (0 ∷ 10 ∷ 10 ∷ 10 ∷ []))
     ⇒ ((50 ∷ 0 ∷ 0 ∷ 0 ∷ 0 ∷ 0 ∷ [])
     ∷ (50 ∷ 0 ∷ 0 ∷ 0 ∷ 0 ∷ 51 ∷ [])
     ∷ (52 ∷ 0 ∷ 0 ∷ 0 ∷ 0 ∷ 51 ∷ [])
@@ -213,7 +259,7 @@ waitingRecords =
     ∷ waiting (view (left filled .store)) ⇒ (holds 0 50 ∷ holds 1 51 ∷ holds 0 52 ∷ [])
     ∷ waiting (view (left refilled .store)) ⇒ (holds 1 51 ∷ holds 0 52 ∷ holds 1 53 ∷ [])
     ∷ waiting (view (left (refilled ++ steps 6) .store)) ⇒ (holds 0 52 ∷ holds 1 53 ∷ [])
-    ∷ waiting (view (left (refilled ++ steps 9 ++ posted 0 55) .store)) ⇒ (holds 0 52 ∷ holds 1 53 ∷ holds 0 55 ∷ [])
+    ∷ waiting (view (left (refilled ++ steps 10 ++ posted 0 55) .store)) ⇒ (holds 0 52 ∷ holds 1 53 ∷ holds 0 55 ∷ [])
     ∷ waiting (view (controls 1 1 0 0 1 0 3 1)) ⇒ (holds 1 53 ∷ holds 0 50 ∷ [])
     ∷ waiting (view (controls 2 1 0 0 0 0 3 1)) ⇒ (holds 0 50 ∷ [])
     ∷ waiting (view (controls 0 1 0 0 1 0 2 2)) ⇒ []
@@ -240,7 +286,7 @@ countings =
     ∷ counted (totals 5 60 700) tailStore ⇒ totals 5 61 701
     ∷ counted (totals 5 60 700) (out (to Count 1) onValue Answer.Stored) ⇒ totals 5 60 701
     ∷ counted (totals 5 60 700) (out none onValue Answer.Worked) ⇒ totals 5 60 700
-    ∷ counted (totals 5 60 700) (out none onValue (Answer.Chosen (Body.Event 1))) ⇒ totals 5 60 700
+    ∷ counted (totals 5 60 700) (out (to Begun 2) onValue (Answer.Chosen (Body.Event 1))) ⇒ totals 5 60 701
     ∷ counted (totals 5 60 700) (out none onValue Answer.Done) ⇒ totals 5 60 700
     ∷ counted (totals 5 60 700) (refuse onValue Refusal.LogFull) ⇒ totals 5 60 700
     -- "32 bits, staying at the largest value"
@@ -257,39 +303,42 @@ ran n e s d t = record { steps = n; ended = e; store = s; device = d; totals = t
 
 -- a freshly formatted store with other control words, memory, log and ring
 abbrev words : List ℕ → List ℕ → List ℕ → List ℕ → List ℕ
-words control memory log ring = 0xC0A1 ∷ 6 ∷ 2 ∷ 3 ∷ 8 ∷ 16 ∷ 22 ∷ 26 ∷ control ++ memory ++ log ++ ring
+words control memory log ring = 0xC0A2 ∷ 6 ∷ 2 ∷ 3 ∷ 8 ∷ 17 ∷ 23 ∷ 27 ∷ control ++ memory ++ log ++ ring
 
--- event 0 is posted with data 50: a run accepts it in 3 steps, serves it in 9 with 8 stores, and ends task 1 in 13 with 10 stores
+-- event 0 is posted with data 50: a run accepts it in 3 steps, serves it in 10 with 10 stores, and ends task 1 in 14 with 12 stores
 abbrev runs : ℕ → RunOutcome
 runs budget = run sample budget (formatted sample 2 3) (deviceWith true cleared (Free 0) 0 (Storing 0 0 50)) (totals 0 0 0)
 
 abbrev eventAccepted : List ℕ
-eventAccepted = words (0 ∷ 1 ∷ 0 ∷ 0 ∷ 0 ∷ 0 ∷ 0 ∷ 1 ∷ []) (replicate 6 0) (replicate 4 0) (0 ∷ 50 ∷ replicate 6 0)
+eventAccepted = words (0 ∷ 1 ∷ 0 ∷ 0 ∷ 0 ∷ 0 ∷ 0 ∷ 1 ∷ 0 ∷ []) (replicate 6 0) (replicate 4 0) (0 ∷ 50 ∷ replicate 6 0)
 
 abbrev eventServed : List ℕ
-eventServed = words (0 ∷ 1 ∷ 0 ∷ 1 ∷ 1 ∷ 0 ∷ 1 ∷ 1 ∷ []) (50 ∷ replicate 5 0) (0 ∷ 50 ∷ 0 ∷ 0 ∷ []) (0 ∷ 50 ∷ replicate 6 0)
+eventServed = words (0 ∷ 1 ∷ 0 ∷ 1 ∷ 1 ∷ 0 ∷ 1 ∷ 1 ∷ 0 ∷ []) (50 ∷ replicate 5 0) (0 ∷ 50 ∷ 0 ∷ 0 ∷ []) (0 ∷ 50 ∷ replicate 6 0)
 
 abbrev taskEnded : List ℕ
-taskEnded = words (0 ∷ 2 ∷ 8 ∷ 1 ∷ 2 ∷ 8 ∷ 1 ∷ 1 ∷ []) (50 ∷ 0 ∷ 0 ∷ 0 ∷ 9 ∷ 0 ∷ []) (4 ∷ 9 ∷ 0 ∷ 0 ∷ []) (0 ∷ 50 ∷ replicate 6 0)
+taskEnded = words (0 ∷ 2 ∷ 8 ∷ 1 ∷ 2 ∷ 8 ∷ 1 ∷ 1 ∷ 0 ∷ []) (50 ∷ 0 ∷ 0 ∷ 0 ∷ 9 ∷ 0 ∷ []) (4 ∷ 9 ∷ 0 ∷ 0 ∷ []) (0 ∷ 50 ∷ replicate 6 0)
 
--- task 1 with LOADX 3 1 0 in the place of ADD: register 1 holds 9, which is no address
+-- task 1 with LOADX 3 1 0 in the place of ADD again
 abbrev runsWrong : ℕ → RunOutcome
 runsWrong budget = run (withInstruction 0x0A31 0) budget (formatted sample 2 3) onValue (totals 10 20 30)
 
 abbrev atLoad : Ended → RunOutcome
 atLoad e =
-    ran 4 e (words (0 ∷ 1 ∷ 0 ∷ 0 ∷ 0 ∷ 0 ∷ 0 ∷ 0 ∷ []) (replicate 6 0) (4 ∷ 9 ∷ 0 ∷ 0 ∷ []) (replicate 8 0))
-    (deviceWith true (set cleared 1 9) (task1 2) 1 Resting) (totals 10 20 32)
+    ran 4 e (words (0 ∷ 1 ∷ 0 ∷ 0 ∷ 0 ∷ 0 ∷ 0 ∷ 0 ∷ 1 ∷ []) (replicate 6 0) (4 ∷ 9 ∷ 0 ∷ 0 ∷ []) (replicate 8 0))
+    (deviceWith true (set cleared 1 9) (task1 2) 1 Resting) (totals 10 20 33)
 
 unfoldable pub runRows : List (Row RunOutcome)
 runRows =
     runs 3 ⇒ ran 3 Ended.Spent eventAccepted onValue (totals 0 1 3)
-    ∷ runs 12 ⇒ ran 12 Ended.Spent eventServed onValue (totals 1 1 11)
-    ∷ runs 25 ⇒ ran 25 Ended.Spent taskEnded onValue (totals 2 1 21)
+    ∷ runs 13 ⇒ ran 13 Ended.Spent eventServed onValue (totals 1 1 13)
+    ∷ runs 27 ⇒ ran 27 Ended.Spent taskEnded onValue (totals 2 1 25)
     -- "the count of steps made, with spent or the refusal"
     ∷ runsWrong 4 ⇒ atLoad Ended.Spent
     ∷ runsWrong 99 ⇒ atLoad (Ended.Refused Refusal.Address)
     ∷ run sample 99 opened offValue (totals 10 20 30) ⇒ ran 0 (Ended.Refused Refusal.PowerOff) opened offValue (totals 10 20 30)
+    -- in a commit that is about to make its last store, and whose word 16 isn't 0: the step after it meets 25
+    ∷ run sample 99 (taskBegun taskCommit) (at (Free 5)) (totals 10 20 30)
+    ⇒ ran 1 (Ended.Refused Refusal.State) (set (taskBegun taskCommit) 8 0) onValue (totals 10 20 31)
     -- "a budget of 0 looks at nothing and returns spent"
     ∷ run [] 0 [] offValue (totals 10 20 30) ⇒ ran 0 Ended.Spent [] offValue (totals 10 20 30)
     ∷ []
@@ -302,31 +351,38 @@ recoveredFrom s n = recovery sample 9 (afterCalls sample s offValue (Boot ∷ st
 
 -- memory words 2 and 3 from the log, task 2 current; memory word 2 from the log, head moved on
 abbrev taskDone : List ℕ
-taskDone = set (set (controls 0 2 8 2 2 8 3 1) 18 777) 19 888
+taskDone = set (set (controls 0 2 8 2 2 8 3 1) 19 777) 20 888
 
 abbrev eventDone : List ℕ
-eventDone = set (controls 0 1 0 1 0 0 0 1) 18 777
+eventDone = set (controls 0 1 0 1 0 0 0 1) 19 777
 
 unfoldable pub recoveries : List (Row Recovery)
 recoveries =
-    -- "n + 3 steps from phase 1"
-    recovery sample 5 taskCommit ⇒ recovered 5 taskDone
-    ∷ recovery sample 4 taskCommit ⇒ unfinished
-    ∷ recoveredFrom taskCommit 0 ⇒ recovered 5 taskDone
-    ∷ recoveredFrom taskCommit 1 ⇒ recovered 5 taskDone
-    ∷ recoveredFrom taskCommit 2 ⇒ recovered 5 taskDone
-    ∷ recoveredFrom taskCommit 3 ⇒ recovered 5 taskDone
-    ∷ recoveredFrom taskCommit 4 ⇒ recovered 5 taskDone
-    ∷ recoveredFrom taskCommit 5 ⇒ recovered 0 taskDone
+    -- "n + 3 steps from phase 1"; N4: "one step more"
+    recovery sample 6 taskCommit ⇒ recovered 6 taskDone
+    ∷ recovery sample 5 taskCommit ⇒ unfinished
+    ∷ recoveredFrom taskCommit 0 ⇒ recovered 6 taskDone
+    ∷ recoveredFrom taskCommit 1 ⇒ recovered 6 taskDone
+    ∷ recoveredFrom taskCommit 2 ⇒ recovered 6 taskDone
+    ∷ recoveredFrom taskCommit 3 ⇒ recovered 6 taskDone
+    ∷ recoveredFrom taskCommit 4 ⇒ recovered 6 taskDone
+    ∷ recoveredFrom taskCommit 5 ⇒ recovered 6 taskDone
+    ∷ recoveredFrom taskCommit 6 ⇒ recovered 0 taskDone
+    ∷ recoveredFrom (taskBegun taskCommit) 4 ⇒ recovered 6 taskDone
+    ∷ recoveredFrom (taskBegun taskCommit) 6 ⇒ recovered 0 taskDone
     -- "and n + 2 from phase 2"
-    ∷ recovery sample 3 eventCommit ⇒ recovered 3 eventDone
-    ∷ recovery sample 2 eventCommit ⇒ unfinished
-    ∷ recoveredFrom eventCommit 0 ⇒ recovered 3 eventDone
-    ∷ recoveredFrom eventCommit 1 ⇒ recovered 3 eventDone
-    ∷ recoveredFrom eventCommit 2 ⇒ recovered 3 eventDone
-    ∷ recoveredFrom eventCommit 3 ⇒ recovered 0 eventDone
+    ∷ recovery sample 4 eventCommit ⇒ recovered 4 eventDone
+    ∷ recovery sample 3 eventCommit ⇒ unfinished
+    ∷ recoveredFrom eventCommit 0 ⇒ recovered 4 eventDone
+    ∷ recoveredFrom eventCommit 1 ⇒ recovered 4 eventDone
+    ∷ recoveredFrom eventCommit 2 ⇒ recovered 4 eventDone
+    ∷ recoveredFrom eventCommit 3 ⇒ recovered 4 eventDone
+    ∷ recoveredFrom eventCommit 4 ⇒ recovered 0 eventDone
+    ∷ recoveredFrom (eventBegun eventCommit) 2 ⇒ recovered 4 eventDone
+    ∷ recoveredFrom (eventBegun eventCommit) 4 ⇒ recovered 0 eventDone
     -- in phase 0 nothing is left to do; a store that boot refuses isn't recovered
     ∷ recovery sample 0 closed ⇒ recovered 0 closed
+    ∷ recovery sample 0 (eventBegun closed) ⇒ recovered 0 (eventBegun closed)
     ∷ recovery sample 9 wrongOpen ⇒ Recovery.refused (Refusal.Control 10)
     ∷ []
 
@@ -439,8 +495,37 @@ serialRuns =
     ∷ serially 4 (set (set sample 29 0x0070) 31 0x0970) (commits (Body.Task 1)) ⇒ holding afterTask1 2 8 []
     ∷ serially 5 counting (commits (Body.Task 0) ++ commits (Body.Task 0)) ⇒ holding (2 ∷ 0 ∷ []) 0 0 []
     -- "All else, cuts and refusals too, changes nothing": the device's own answers
-    ∷ fromCalls (refilled ++ steps 18 ++ Cut ∷ Boot ∷ []) ⇒ holding (52 ∷ 0 ∷ 0 ∷ 0 ∷ 0 ∷ 51 ∷ []) 1 0 (holds 1 53 ∷ [])
-    ∷ fromCalls (transactionCalls ++ steps 17 ++ Post 1 51 ∷ Cut ∷ Step ∷ []) ⇒ holding afterTask1 3 8 (holds 0 50 ∷ [])
+    ∷ fromCalls (refilled ++ steps 20 ++ Cut ∷ Boot ∷ []) ⇒ holding (52 ∷ 0 ∷ 0 ∷ 0 ∷ 0 ∷ 51 ∷ []) 1 0 (holds 1 53 ∷ [])
+    ∷ fromCalls (transactionCalls ++ steps 18 ++ Post 1 51 ∷ Cut ∷ Step ∷ []) ⇒ holding afterTask1 3 8 (holds 0 50 ∷ [])
+    ∷ []
+
+-- ---- N4: the body that is chosen and not yet committed, by the answers; the body whose turn it is where none is
+
+abbrev chooses : Body → List Line
+chooses b = line Step (Answer.Chosen b)
+
+unfoldable pub begunBodies : List (Row (Option Body))
+begunBodies =
+    begunBy (accepts 0 50) ⇒ Option.none
+    ∷ begunBy (chooses (Body.Task 1)) ⇒ Option.some (Body.Task 1)
+    ∷ begunBy (chooses (Body.Event 1) ++ accepts 0 50 ++ refusedPost ++ line Step Answer.Worked ++ line Step Answer.Stored ++ line Cut Answer.Done ++ line Boot Answer.Done)
+    ⇒ Option.some (Body.Event 1)
+    ∷ begunBy (chooses (Body.Task 1) ++ commits (Body.Task 1)) ⇒ Option.none
+    ∷ begunBy (chooses (Body.Task 1) ++ commits (Body.Task 1) ++ line Step Answer.Stored ++ chooses (Body.Task 2)) ⇒ Option.some (Body.Task 2)
+    -- the store has it, cut or no cut
+    ∷ begunOf (view (left (refilled ++ Step ∷ []) .store)) ⇒ Option.some (Body.Event 1)
+    ∷ begunOf (view (left (refilled ++ Step ∷ Cut ∷ []) .store)) ⇒ Option.some (Body.Event 1)
+    ∷ begunOf (view (left (refilled ++ steps 6) .store)) ⇒ Option.none
+    ∷ []
+
+abbrev inState : ℕ → List Record → Serial
+inState o rs = record { memory = untouched; task = 3; openNumber = o; records = rs; posted = [] }
+
+unfoldable pub nextBodies : List (Row Body)
+nextBodies =
+    nextBody (inState 0 []) ⇒ Body.Task 3
+    ∷ nextBody (inState 0 (holds 1 51 ∷ holds 0 50 ∷ [])) ⇒ Body.Event 1
+    ∷ nextBody (inState 8 (holds 1 51 ∷ holds 0 50 ∷ [])) ⇒ Body.Task 3
     ∷ []
 
 -- ---- What the claims count by
@@ -455,8 +540,8 @@ counts =
     ∷ mayMeet Step ⇒ (22 ∷ 23 ∷ 24 ∷ [])
     ∷ mayMeet (Post 0 9) ⇒ (8 ∷ 20 ∷ 21 ∷ 22 ∷ [])
     ∷ mayMeet Cut ⇒ []
-    -- "Uncut recovery takes n + 3 steps from phase 1 and n + 2 from phase 2"
-    ∷ (recoverySteps (view opened) ∷ recoverySteps (view taskCommit) ∷ recoverySteps (view eventCommit) ∷ []) ⇒ (0 ∷ 5 ∷ 3 ∷ [])
+    -- "Uncut recovery takes n + 3 steps from phase 1 and n + 2 from phase 2"; N4: "one step more"
+    ∷ (recoverySteps (view opened) ∷ recoverySteps (view taskCommit) ∷ recoverySteps (view eventCommit) ∷ []) ⇒ (0 ∷ 6 ∷ 4 ∷ [])
     -- "Accepted is the number of records added so far, completed that of events committed"
     ∷ map (λ (f : Answer → Bool). countBy f twoAccepted) (isAccept ∷ isCompletion ∷ []) ⇒ (2 ∷ 1 ∷ [])
     ∷ []

@@ -3,16 +3,17 @@
 use Prim.Native.Nat.{ℕ, _-_, _^_, _≤_, _<_, min}
 use mathlib.Core.Path.{_≡_}
 use mathlib.Core.Logic.{_⊎_, _≢_}
-use mathlib.Core.Bool.{Bool, true, false}
+use mathlib.Core.Bool.{Bool, true, false, not}
 use mathlib.Core.List.{List, [], _∷_}
+use lib.Dec.{eqb}
 use lib.ListN.{length}
 use Rattle.model.specs.Calls.{Call, Boot, Step, Cut, Post, call, history, afterCalls, steps, countBy, isRefusal, isCommit, isAccept, isStore, noTotals, counted, totalsAfter, storesMade, RunOutcome, run, recovered, recovery}
 use Rattle.model.specs.Control.{Rule, broken, obeyAll, inPhase, openRule, addressRule, recordRule, rules, earlyRules}
 use Rattle.model.specs.Device.{off, look, step}
 use Rattle.model.specs.Program.{word}
-use Rattle.model.specs.Store.{Store, view, Word, index, to, settled, slotAfter, room, format}
-use Rattle.model.specs.Test.{pick}
-use Rattle.model.specs.Types.{Answer, Body, Checked, Device, Ended, Free, Half, Handler, Place, Refusal, Resting, Run, Storing, Totals}
+use Rattle.model.specs.Store.{Store, view, Word, index, to, settled, storedWord, slotAfter, room, format}
+use Rattle.model.specs.Test.{pick, _and_}
+use Rattle.model.specs.Types.{Answer, Body, Checked, Device, Ended, Free, Half, Handler, Place, Refusal, Resting, Run, Stored, Storing, Totals}
 
 -- "A refusal .. changes no word, state or total."
 pub record ChangesNothing (p s : List ℕ) (d : Device) (c : Call) (t : Totals) : Type 0 where
@@ -153,18 +154,18 @@ FirstIsLowest = (p : List ℕ) (v : Store) → NamesLowest (rules p v) × NamesL
 -- "A step answers: chosen, worked, stored, committed (the commit store), accepted, or refused": these made a store
 unfoldable pub tellsStore : Answer → Bool
 tellsStore Answer.Done = false
-tellsStore (Answer.Chosen b) = false
+tellsStore (Answer.Chosen b) = true
 tellsStore Answer.Worked = false
 tellsStore Answer.Stored = true
 tellsStore (Answer.Committed b) = true
 tellsStore Answer.Accepted = true
 tellsStore (Answer.Refused r) = false
 
--- The answer tells whether a store was made. What was stored is a word of the store, and a store that a step takes has at most 1234 words.
+-- The answer tells whether a store was made. What was stored is a word of the store, and a store that a step takes has at most 1235 words.
 pub record StoreTold (p s : List ℕ) (d : Device) : Type 0 where
   pub made : isStore (step p s d .write) ≡ tellsStore (step p s d .answer)
   pub inside : (w : Word) (x : ℕ) → step p s d .write ≡ to w x → index s w < length s
-  pub most : (w : Word) (x : ℕ) → step p s d .write ≡ to w x → length s ≤ 1234
+  pub most : (w : Word) (x : ℕ) → step p s d .write ≡ to w x → length s ≤ 1235
 
 abbrev pub StoreIsTold : Type 0
 StoreIsTold = (p s : List ℕ) (d : Device) → StoreTold p s d
@@ -207,17 +208,15 @@ RecoveryByCalls = (p s : List ℕ) (allowed n : ℕ) (store : List ℕ) → reco
 
 -- ---- Why a run needn't look at everything before each step
 
--- What step and post look at first passes again after a step that wasn't refused, save after a commit store: that makes phase 1 or 2, whose
--- rules for words 11 and 12 no step has looked at.
-unfoldable pub soundAfter : Answer → Bool
-soundAfter Answer.Done = false
-soundAfter (Answer.Chosen b) = true
-soundAfter Answer.Worked = true
-soundAfter Answer.Stored = true
-soundAfter (Answer.Committed b) = false
-soundAfter Answer.Accepted = true
-soundAfter (Answer.Refused r) = false
+-- What step and post look at first passes again after a step that wasn't refused, save after two stores of the phase: a commit store makes
+-- phase 1 or 2, whose rules for words 11 and 12 no step has looked at; a commit's last store makes phase 0, in which word 16 must be 0,
+-- and no step has looked at that in phases 1 and 2. By which word was stored, the answer, and the words after it:
+unfoldable pub soundAfter : Stored → Answer → List ℕ → Bool
+soundAfter Stored.Nothing a s = true
+soundAfter (Stored.Word i) a s = pick (eqb i 8) (not (isCommit a) and eqb (word s 16) 0) true
 
 abbrev pub LookStays : Type 0
 LookStays =
-    (p s : List ℕ) (d : Device) → soundAfter (step p s d .answer) ≡ true → look p (settled s (step p s d .write)) (step p s d .device) ≡ Checked.Accepted
+    (p s : List ℕ) (d : Device) → isRefusal (step p s d .answer) ≡ false
+    → soundAfter (storedWord s (step p s d .write)) (step p s d .answer) (settled s (step p s d .write)) ≡ true
+    → look p (settled s (step p s d .write)) (step p s d .device) ≡ Checked.Accepted

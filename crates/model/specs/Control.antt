@@ -90,6 +90,16 @@ pendingMoveRule v =
     earlyRule 12 (inPhase v 2 and headRule v .kept and tailRule v .kept)
     (eqb (v .pending) (v .head) or (eqb (v .pending) (slotAfter (v .queueRecords) (v .head)) and not (empty v)))
 
+-- N4: "word 16 at most 2"
+unfoldable pub begunRule : Store → Rule
+begunRule v = earlyRule 16 true (leb (v .begun) 2)
+
+-- "and in phase 0 a 2 needs a queue not empty and word 10 at 0"
+unfoldable pub begunEventRule : Store → Rule
+begunEventRule v =
+    earlyRule 16 (inPhase v 0 and headRule v .kept and tailRule v .kept)
+    (not (eqb (v .begun) 2) or (not (empty v) and eqb (v .openNumber) 0))
+
 -- "and 13 is 0 or task 12's number"
 unfoldable pub pendingOpenRule : List ℕ → Store → Rule
 pendingOpenRule p v =
@@ -130,6 +140,8 @@ controlRules p v =
     ∷ pendingOpenRule p v
     ∷ headRule v
     ∷ tailRule v
+    ∷ begunRule v
+    ∷ begunEventRule v
     ∷ []
 
 unfoldable pub rules : List ℕ → Store → List Rule

@@ -48,9 +48,9 @@ pub record Left (v : Store) (z : Serial) : Type 0 where
   pub openNumber : v .openNumber ≡ z .openNumber
   pub records : waiting v ≡ z .records
 
--- "Uncut recovery takes n + 3 steps from phase 1 and n + 2 from phase 2"
+-- "Uncut recovery takes n + 3 steps from phase 1 and n + 2 from phase 2"; N4: "recovery takes one step more"
 unfoldable pub recoverySteps : Store → ℕ
-recoverySteps v = pick (eqb (v .phase) 1) (v .count + 3) (pick (eqb (v .phase) 2) (v .count + 2) 0)
+recoverySteps v = pick (eqb (v .phase) 1) (v .count + 4) (pick (eqb (v .phase) 2) (v .count + 3) 0)
 
 -- with any number of steps allowed that suffices, recovery isn't refused, ends after just so many, and leaves what z says
 pub record Recovers (p s : List ℕ) (z : Serial) (allowed : ℕ) : Type 0 where

@@ -3,12 +3,13 @@
 use Prim.Native.Nat.{ℕ, zero, suc, _+_, _-_, _*_}
 use mathlib.Core.Bool.{Bool, true, false, not}
 use mathlib.Core.List.{List, [], _∷_}
+use mathlib.Core.Option.{Option}
 use lib.Dec.{ltb, leb, eqb}
 use lib.ListN.{length, getD, set, replicate}
 use Rattle.model.specs.Check.{contentsRule, rowsInside, rowUsable, instructionRule, check}
 use Rattle.model.specs.Control.{obey, obeyAll, openRule, rules, earlyRules}
-use Rattle.model.specs.Program.{events, memoryWords, instructions, transaction, bodyNumber, effectAt, newOpen, word, reg}
-use Rattle.model.specs.Store.{Store, view, address, value, event, datum, Phase, Task, Open, Count, Pending, PendingOpen, Head, Tail, Memory, Address, Value, Event, Datum, Write, none, to, Record, carried, find, slotAfter, empty, room, logAt, queueAt, storeRule}
+use Rattle.model.specs.Program.{events, memoryWords, instructions, transaction, bodyNumber, effectAt, newOpen, firstRegisters, word, reg}
+use Rattle.model.specs.Store.{Store, view, address, value, event, datum, Phase, Task, Open, Count, Pending, PendingOpen, Head, Tail, Begun, Memory, Address, Value, Event, Datum, Write, none, to, Record, carried, find, slotAfter, empty, room, logAt, queueAt, storeRule}
 use Rattle.model.specs.Test.{pick, _and_, must, _then_}
 use Rattle.model.specs.Types.{Answer, Body, Checked, Device, Effect, Found, Free, Half, Handler, Place, Refusal, Resting, Run, Storing}
 
@@ -62,13 +63,13 @@ taskStores p t k n = to Count n ∷ to Pending k ∷ to PendingOpen (newOpen (tr
 unfoldable pub eventStores : Store → ℕ → List Write
 eventStores v n = to Count n ∷ to Pending (slotAfter (v .queueRecords) (v .head)) ∷ to Phase 2 ∷ []
 
--- "then n copies, 9 from 12, 10 from 13, 8 becomes 0": the stores after the copies
+-- "then n copies, 9 from 12, 10 from 13, 8 becomes 0": the stores after the copies. N4: "Commits store 0 in it just before the last store"
 unfoldable pub taskLastStores : Store → List Write
-taskLastStores v = to Task (v .pending) ∷ to Open (v .pendingOpen) ∷ to Phase 0 ∷ []
+taskLastStores v = to Task (v .pending) ∷ to Open (v .pendingOpen) ∷ to Begun 0 ∷ to Phase 0 ∷ []
 
 -- "n copies, 14 from 12, 8 becomes 0"
 unfoldable pub eventLastStores : Store → List Write
-eventLastStores v = to Head (v .pending) ∷ to Phase 0 ∷ []
+eventLastStores v = to Head (v .pending) ∷ to Begun 0 ∷ to Phase 0 ∷ []
 
 unfoldable pub lastStores : Store → List Write
 lastStores v = pick (eqb (v .phase) 1) (taskLastStores v) (eventLastStores v)
@@ -82,13 +83,45 @@ recordStores q u (first ∷ rs) = to (Event u) (first .event) ∷ to (Datum u) (
 abbrev pub handlerStores : Store → List Record → List Write
 handlerStores v rs = recordStores (v .queueRecords) (v .tail) rs
 
+-- ---- N4: "word 16: 0 nothing begun, 1 task, 2 event"
+
+unfoldable pub kindOf : Body → ℕ
+kindOf (Body.Task t) = 1
+kindOf (Body.Event e) = 2
+
+-- the current task, and the event of the record at head
+abbrev pub currentTask : Store → Body
+currentTask v = Body.Task (v .task)
+
+abbrev pub oldestEvent : Store → Body
+oldestEvent v = Body.Event (event v (v .head))
+
+-- the body that is begun, in phase 0; in phases 1 and 2 it is committed
+unfoldable pub begunOf : Store → Option Body
+begunOf v =
+    pick (eqb (v .phase) 0)
+    (pick (eqb (v .begun) 1) (Option.some (currentTask v)) (pick (eqb (v .begun) 2) (Option.some (oldestEvent v)) Option.none)) Option.none
+
+-- "Registers become 0, except that register 0 gets an event's data. The log count becomes 0." N4: "at its first instruction, registers as
+-- at choosing"
+unfoldable pub dataFor : Store → Body → ℕ
+dataFor v (Body.Task t) = 0
+dataFor v (Body.Event e) = datum v (v .head)
+
+unfoldable pub started : Store → Device → Body → Device
+started v d b = withPlace d (firstRegisters (dataFor v b)) (Run b 0 0) 0
+
 -- ---- 25, what needs no row, instruction, log pair or record
 
 -- "in phase 0 a running body that isn't word 9's task, nor the event of a record at head with word 10 at 0"; "body .. out of
 -- range"
+unfoldable pub eligible : List ℕ → Store → Body → Bool
+eligible p v (Body.Task t) = eqb t (v .task)
+eligible p v (Body.Event e) = ltb e (events p) and eqb (v .openNumber) 0 and not (empty v)
+
+-- N4: "In phase 0, 25 also meets a device that is on and doesn't run just what word 16 says"
 unfoldable pub mayRun : List ℕ → Store → Body → Bool
-mayRun p v (Body.Task t) = eqb t (v .task)
-mayRun p v (Body.Event e) = ltb e (events p) and eqb (v .openNumber) 0 and not (empty v)
+mayRun p v b = eligible p v b and eqb (v .begun) (kindOf b)
 
 -- how many stores GO makes up to the commit store, and DONE
 unfoldable pub endStores : Body → ℕ
@@ -98,7 +131,7 @@ endStores (Body.Event e) = 3
 -- "log count above L; commit place past its last store, or phase disagreeing; a body running in phase 1 or 2; a commit begun in
 -- phase 0 without a body ..; half a SAVE .. with L pairs"
 unfoldable pub placeSound : List ℕ → Store → ℕ → Place → Bool
-placeSound p v n (Free c) = pick (eqb (v .phase) 0) (eqb c 0) (ltb c (v .count + length (lastStores v)))
+placeSound p v n (Free c) = pick (eqb (v .phase) 0) (eqb c 0 and eqb (v .begun) 0) (ltb c (v .count + length (lastStores v)))
 placeSound p v n (Run b j c) = eqb (v .phase) 0 and mayRun p v b and ltb c (endStores b)
 placeSound p v n (Half b j) = eqb (v .phase) 0 and mayRun p v b and ltb n (v .logPairs)
 
@@ -133,7 +166,7 @@ deviceSound p v d =
     (zeros (d .registers) 8 and eqb (d .count) 0 and isFresh (d .place) (d .handler))
 
 -- "Step and post look at program words 0 to 5, store contents and words 8 to 15: 1, 2, 3, 6, 7, 25, 22, without the parts of 7
--- and 25 that need a row, an instruction, a log pair or a record"
+-- and 25 that need a row, an instruction, a log pair or a record"; N4: "look at word 16 too"
 unfoldable pub look : List ℕ → List ℕ → Device → Checked
 look p s d =
     contentsRule p
@@ -148,8 +181,13 @@ look p s d =
 unfoldable pub bootCheck : List ℕ → List ℕ → Device → Checked
 bootCheck p s d = check p then storeRule p s then obeyAll (rules p (view s)) then must (not (d .on)) Refusal.PowerOn
 
+-- "Boot .. turns that value on"; N4: "a boot in phase 0 takes up the begun body at its first instruction, registers as at choosing"
+unfoldable pub takenUp : Store → Option Body → Device
+takenUp v Option.none = turnedOn
+takenUp v (Option.some b) = started v turnedOn b
+
 unfoldable pub boot : List ℕ → List ℕ → Device → Outcome
-boot p s d = judged (bootCheck p s d) d (out none turnedOn Answer.Done)
+boot p s d = judged (bootCheck p s d) d (out none (takenUp (view s) (begunOf (view s))) Answer.Done)
 
 -- "A cut refuses nothing."
 unfoldable pub cut : Outcome
@@ -191,23 +229,22 @@ copyStep p v d c =
 
 -- ---- Step 3. "With no body running, one is chosen"
 
--- "Registers become 0, except that register 0 gets an event's data. The log count becomes 0."
-unfoldable pub begun : Device → Body → ℕ → Device
-begun d b x = withPlace d (x ∷ replicate 7 0) (Run b 0 0) 0
-
 -- "a chosen record (7)", the record at head
 unfoldable pub recordSound : List ℕ → Store → Checked
 recordSound p v =
     must (ltb (event v (v .head)) (events p)) (Refusal.Control (queueAt (memoryWords p) (v .logPairs) + 2 * v .head))
 
--- "if word 10 is 0 and the queue isn't empty, the event at head; otherwise the current task"
+-- "if word 10 is 0 and the queue isn't empty, the event at head"
+unfoldable pub eventNext : Store → Bool
+eventNext v = eqb (v .openNumber) 0 and not (empty v)
+
+-- N4: "Choosing stores it and still answers chosen"
+unfoldable pub choosing : Store → Device → Body → Outcome
+choosing v d b = out (to Begun (kindOf b)) (started v d b) (Answer.Chosen b)
+
+-- "otherwise the current task"
 unfoldable pub chooseStep : List ℕ → Store → Device → Outcome
-chooseStep p v d =
-    let oldest = Body.Event (event v (v .head)) in
-    let current = Body.Task (v .task) in
-    pick (eqb (v .openNumber) 0 and not (empty v))
-    (judged (recordSound p v) d (out none (begun d oldest (datum v (v .head))) (Answer.Chosen oldest)))
-    (out none (begun d current 0) (Answer.Chosen current))
+chooseStep p v d = pick (eventNext v) (judged (recordSound p v) d (choosing v d (oldestEvent v))) (choosing v d (currentTask v))
 
 -- ---- Step 4. "One instruction runs."
 

@@ -11,6 +11,7 @@ pub mod Calls
 pub mod Serial
 pub mod Claims
 pub mod Demand3
+pub mod Turns
 pub mod Starred
 pub mod Sample
 pub mod ProgramRows

@@ -6,7 +6,7 @@ use mathlib.Core.List.{List, [], _∷_}
 use lib.Dec.{ltb, eqb}
 use lib.Bits.{bitAnd, bitOr, bitXor}
 use lib.IntN.{ℤ, pos, negsuc}
-use lib.ListN.{getD}
+use lib.ListN.{getD, replicate}
 use lib.Signed.{ltZ, shrZ}
 use Rattle.model.specs.Test.{pick}
 use Rattle.model.specs.Types.{Body, Instruction, Effect}
@@ -163,6 +163,10 @@ less x y = ltZ (signed x) (signed y)
 
 abbrev pub reg : List ℕ → ℕ → ℕ
 reg r i = getD r i 0
+
+-- a body's registers at its first instruction, with x as its data: "Registers become 0, except that register 0 gets an event's data"
+abbrev pub firstRegisters : ℕ → List ℕ
+firstRegisters x = x ∷ replicate 7 0
 
 -- an instruction at place j, on registers r
 unfoldable pub effect : Instruction → List ℕ → ℕ → Effect

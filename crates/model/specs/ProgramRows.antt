@@ -7,12 +7,12 @@ use Rattle.model.specs.Check.{instructionRule, check}
 use Rattle.model.specs.Device.{Outcome, out, refuse, step}
 use Rattle.model.specs.Store.{Word, Count, Address, Value, none, to, format, formatCheck}
 use Rattle.model.specs.Types.{Answer, Body, Checked, Half, Place, Refusal, Resting, Run}
-use Rattle.model.specs.Sample.{Row, _⇒_, at, closed, deviceWith, event1, opened, registers, sample, task1, withInstruction}
+use Rattle.model.specs.Sample.{Row, _⇒_, at, closed, deviceWith, event1, eventBegun, opened, registers, sample, task1, taskBegun, withInstruction}
 
 -- ---- Each opcode, as instruction 2 of task 1
 
 abbrev executed : ℕ → ℕ → Outcome
-executed w k = step (withInstruction w k) opened (at (task1 2))
+executed w k = step (withInstruction w k) (taskBegun opened) (at (task1 2))
 
 -- a register becomes a value; the body goes on at an instruction; the step stores a word and goes on at a place
 abbrev becomes : ℕ → ℕ → Outcome
@@ -59,7 +59,7 @@ meanings =
     ∷ executed 0x0E25 1 ⇒ goesTo 3  -- JLT 2 5 1
     ∷ executed 0x0E75 1 ⇒ goesTo 1  -- JLT 7 5 1: -32768 is below -5
     ∷ executed 0x0F00 3 ⇒ storesWord Count 1 (Run (Body.Task 1) 2 1)  -- GO 3
-    ∷ step sample closed (at (event1 1)) ⇒ storesWord Count 1 (Run (Body.Event 1) 1 1)  -- DONE
+    ∷ step sample (eventBegun closed) (at (event1 1)) ⇒ storesWord Count 1 (Run (Body.Event 1) 1 1)  -- DONE
     ∷ []
 
 -- ---- The fields of an instruction
@@ -131,7 +131,7 @@ programs =
     ∷ check (take 5 sample) ⇒ Checked.Refused Refusal.ProgramLength
     ∷ check (set sample 5 50) ⇒ Checked.Refused Refusal.ProgramLength
     ∷ check (set sample 5 52) ⇒ Checked.Refused Refusal.ProgramLength
-    ∷ check (set sample 0 0xC0A1) ⇒ Checked.Refused Refusal.ProgramMark
+    ∷ check (set sample 0 0xC0A2) ⇒ Checked.Refused Refusal.ProgramMark
     -- "3: T, E, M or entry; place: word index"
     ∷ check (set sample 1 0) ⇒ Checked.Refused (Refusal.ProgramSize 1)
     ∷ check (set sample 1 33) ⇒ Checked.Refused (Refusal.ProgramSize 1)
@@ -186,27 +186,27 @@ programs =
 
 unfoldable pub formats : List (Row Checked)
 formats =
-    formatCheck sample 2 3 (replicate 34 7) ⇒ Checked.Accepted
-    ∷ formatCheck sample 2 3 (replicate 33 7) ⇒ Checked.Refused Refusal.StoreContents
-    ∷ formatCheck sample 2 3 (replicate 35 7) ⇒ Checked.Refused Refusal.StoreContents
-    ∷ formatCheck sample 0 3 (replicate 30 7) ⇒ Checked.Refused Refusal.StoreSize
-    ∷ formatCheck sample 65 3 (replicate 160 7) ⇒ Checked.Refused Refusal.StoreSize
-    ∷ formatCheck sample 2 0 (replicate 28 7) ⇒ Checked.Refused Refusal.StoreSize
-    ∷ formatCheck sample 2 33 (replicate 94 7) ⇒ Checked.Refused Refusal.StoreSize
-    ∷ formatCheck sample 1 1 (replicate 28 7) ⇒ Checked.Accepted
-    ∷ formatCheck sample 64 32 (replicate 216 7) ⇒ Checked.Accepted
+    formatCheck sample 2 3 (replicate 35 7) ⇒ Checked.Accepted
+    ∷ formatCheck sample 2 3 (replicate 34 7) ⇒ Checked.Refused Refusal.StoreContents
+    ∷ formatCheck sample 2 3 (replicate 36 7) ⇒ Checked.Refused Refusal.StoreContents
+    ∷ formatCheck sample 0 3 (replicate 31 7) ⇒ Checked.Refused Refusal.StoreSize
+    ∷ formatCheck sample 65 3 (replicate 161 7) ⇒ Checked.Refused Refusal.StoreSize
+    ∷ formatCheck sample 2 0 (replicate 29 7) ⇒ Checked.Refused Refusal.StoreSize
+    ∷ formatCheck sample 2 33 (replicate 95 7) ⇒ Checked.Refused Refusal.StoreSize
+    ∷ formatCheck sample 1 1 (replicate 29 7) ⇒ Checked.Accepted
+    ∷ formatCheck sample 64 32 (replicate 217 7) ⇒ Checked.Accepted
     ∷ formatCheck sample 0 3 [] ⇒ Checked.Refused Refusal.StoreSize
-    ∷ formatCheck (set sample 33 0x1100) 0 3 (replicate 30 7) ⇒ Checked.Refused (Refusal.Instruction 1 2)
+    ∷ formatCheck (set sample 33 0x1100) 0 3 (replicate 31 7) ⇒ Checked.Refused (Refusal.Instruction 1 2)
     ∷ []
 
 unfoldable pub formattedStores : List (Row (List ℕ))
 formattedStores =
-    format sample 2 3 (replicate 34 7)
-    ⇒ (0xC0A1 ∷ 6 ∷ 2 ∷ 3 ∷ 8 ∷ 16 ∷ 22 ∷ 26
-    ∷ 0 ∷ 1 ∷ 0 ∷ 0 ∷ 0 ∷ 0 ∷ 0 ∷ 0
+    format sample 2 3 (replicate 35 7)
+    ⇒ (0xC0A2 ∷ 6 ∷ 2 ∷ 3 ∷ 8 ∷ 17 ∷ 23 ∷ 27
+    ∷ 0 ∷ 1 ∷ 0 ∷ 0 ∷ 0 ∷ 0 ∷ 0 ∷ 0 ∷ 0
     ∷ 0 ∷ 0 ∷ 0 ∷ 0 ∷ 0 ∷ 0
     ∷ 0 ∷ 0 ∷ 0 ∷ 0
     ∷ 0 ∷ 0 ∷ 0 ∷ 0 ∷ 0 ∷ 0 ∷ 0 ∷ 0
     ∷ [])
-    ∷ format sample 2 3 (replicate 33 7) ⇒ replicate 33 7
+    ∷ format sample 2 3 (replicate 34 7) ⇒ replicate 34 7
     ∷ []

@@ -5,7 +5,7 @@ use mathlib.Core.Path.{_≡_}
 use mathlib.Core.Bool.{Bool, true, false}
 use mathlib.Core.List.{List, [], _∷_, map}
 use lib.ListN.{set}
-use Rattle.model.specs.Types.{Body, Device, Free, Handler, Place, Resting, Run}
+use Rattle.model.specs.Types.{Body, Device, Free, Half, Handler, Place, Resting, Run}
 
 -- ---- Tables
 
@@ -47,15 +47,15 @@ sample =
 abbrev pub withInstruction : ℕ → ℕ → List ℕ
 withInstruction w k = set (set sample 33 w) 34 k
 
--- ---- A store for it with L 2 and Q 3, by its control words 8 to 15
+-- ---- A store for it with L 2 and Q 3, by its control words 8 to 15; word 16 is 0
 
 unfoldable pub controls : (phase task openNumber count pending pendingOpen head tail : ℕ) → List ℕ
 controls phase task openNumber count pending pendingOpen head tail =
-    0xC0A1 ∷ 6 ∷ 2 ∷ 3 ∷ 8 ∷ 16 ∷ 22 ∷ 26
-    ∷ phase ∷ task ∷ openNumber ∷ count ∷ pending ∷ pendingOpen ∷ head ∷ tail
-    ∷ 100 ∷ 101 ∷ 102 ∷ 103 ∷ 104 ∷ 105  -- words 16 to 21: memory
-    ∷ 2 ∷ 777 ∷ 3 ∷ 888  -- words 22 to 25: the log's pairs 0 and 1
-    ∷ 0 ∷ 50 ∷ 1 ∷ 51 ∷ 0 ∷ 52 ∷ 1 ∷ 53  -- words 26 to 33: the ring's slots 0 to 3
+    0xC0A2 ∷ 6 ∷ 2 ∷ 3 ∷ 8 ∷ 17 ∷ 23 ∷ 27
+    ∷ phase ∷ task ∷ openNumber ∷ count ∷ pending ∷ pendingOpen ∷ head ∷ tail ∷ 0
+    ∷ 100 ∷ 101 ∷ 102 ∷ 103 ∷ 104 ∷ 105  -- words 17 to 22: memory
+    ∷ 2 ∷ 777 ∷ 3 ∷ 888  -- words 23 to 26: the log's pairs 0 and 1
+    ∷ 0 ∷ 50 ∷ 1 ∷ 51 ∷ 0 ∷ 52 ∷ 1 ∷ 53  -- words 27 to 34: the ring's slots 0 to 3
     ∷ []
 
 -- phase 0, the records of slots 3 and 0 waiting: with the transaction of task 1 open, and with none
@@ -71,6 +71,23 @@ taskCommit = controls 1 1 8 2 2 8 3 1
 
 abbrev pub eventCommit : List ℕ
 eventCommit = controls 2 1 0 1 0 0 3 1
+
+-- N4: "word 16: 0 nothing begun, 1 task, 2 event"
+abbrev pub taskBegun : List ℕ → List ℕ
+taskBegun s = set s 16 1
+
+abbrev pub eventBegun : List ℕ → List ℕ
+eventBegun s = set s 16 2
+
+-- the store with word 16 as the body at a place has it
+abbrev pub bodyBegun : Body → List ℕ → List ℕ
+bodyBegun (Body.Task t) s = taskBegun s
+bodyBegun (Body.Event e) s = eventBegun s
+
+abbrev pub begunAt : Place → List ℕ → List ℕ
+begunAt (Free c) s = s
+begunAt (Run b j c) s = bodyBegun b s
+begunAt (Half b j) s = bodyBegun b s
 
 -- ---- Devices
 

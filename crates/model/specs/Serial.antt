@@ -10,7 +10,7 @@ use mathlib.Core.Option.{Option, none, some}
 use lib.Dec.{ltb, eqb}
 use lib.ListN.{length, set, replicate}
 use Rattle.model.specs.Calls.{Call, Boot, Step, Cut, Post, Line, acceptedEvents}
-use Rattle.model.specs.Program.{entry, memoryWords, transaction, instructions, bodyNumber, effectAt, newOpen, word}
+use Rattle.model.specs.Program.{entry, memoryWords, transaction, instructions, bodyNumber, effectAt, newOpen, firstRegisters, word}
 use Rattle.model.specs.Store.{Record, carried}
 use Rattle.model.specs.Test.{pick, _and_}
 use Rattle.model.specs.Types.{Answer, Body, Effect}
@@ -69,7 +69,7 @@ walk (suc fuel) p i j r m =
 
 -- "Registers are as at choosing"
 unfoldable pub walkBody : ℕ → List ℕ → Body → ℕ → List ℕ → Walked
-walkBody fuel p b x m = walk fuel p (bodyNumber p b) 0 (x ∷ replicate 7 0) m
+walkBody fuel p b x m = walk fuel p (bodyNumber p b) 0 (firstRegisters x) m
 
 -- ---- The run
 

@@ -80,13 +80,14 @@ pub record Starred : Type 0 where
   -- "LOAD with k 1 accepted, with k 2: 5."
   pub load-1 : check (set counting 13 1) ≡ Checked.Accepted
   pub load-2 : Refuses (set counting 13 2) (Refusal.Instruction 0 0)
-  -- "Boot, 9 steps, cut: recovered memory 0, 0. After 10 steps: 1, 0, by 4 recovery steps. Step 14 ends the commit."
+  -- "Boot, 9 steps, cut: recovered memory 0, 0. After 10 steps: 1, 0, by 4 recovery steps. Step 14 ends the commit." N4: "recovery takes one
+  -- step more (in 01's cases 5, and step 15)"
   pub nine-steps : memoryOf (recover counting (Boot ∷ steps 9 ++ Cut ∷ [])) ≡ 0 ∷ 0 ∷ []
   pub ten-steps : memoryOf (recover counting (Boot ∷ steps 10 ++ Cut ∷ [])) ≡ 1 ∷ 0 ∷ []
-  pub four-recovery-steps : stepsOf (recover counting (Boot ∷ steps 10 ++ Cut ∷ [])) ≡ 4
+  pub five-recovery-steps : stepsOf (recover counting (Boot ∷ steps 10 ++ Cut ∷ [])) ≡ 5
   pub step-ten : answer counting (Boot ∷ steps 9) Step ≡ Answer.Committed (Body.Task 0)
-  pub step-thirteen : view (storeAfter counting (Boot ∷ steps 13)) .phase ≡ 1
-  pub step-fourteen : view (storeAfter counting (Boot ∷ steps 14)) .phase ≡ 0
+  pub step-fourteen : view (storeAfter counting (Boot ∷ steps 14)) .phase ≡ 1
+  pub step-fifteen : view (storeAfter counting (Boot ∷ steps 15)) .phase ≡ 0
   -- "Post and 3 steps: accepted. A further post before the event commits: 21." (Six more steps commit it, and 21 lasts until the
   -- eighth has moved head.)
   pub three-steps : answer counting (Boot ∷ Post 0 7 ∷ steps 2) Step ≡ Answer.Accepted

@@ -10,7 +10,7 @@ use Rattle.model.specs.Device.{boot, post, step}
 use Rattle.model.specs.Store.{view, formatted}
 use Rattle.model.specs.Test.{pick}
 use Rattle.model.specs.Types.{Answer, Body, Device, Free, Half, Place, Refusal, Resting, Run, Storing}
-use Rattle.model.specs.Sample.{Row, _⇒_, at, cleared, closed, controls, deviceWith, event1, eventCommit, offValue, onValue, opened, registers, sample, task1, taskCommit, twoPairs, withInstruction}
+use Rattle.model.specs.Sample.{Row, _⇒_, at, begunAt, cleared, closed, controls, deviceWith, event1, eventBegun, eventCommit, offValue, onValue, opened, registers, sample, task1, taskBegun, taskCommit, twoPairs, withInstruction}
 
 -- ---- What boot, a step and a post meet in the program and in the store's contents (6)
 
@@ -48,10 +48,11 @@ contents =
     ∷ meets sample (formatted sample 1 1) ⇒ noneRefused (Answer.Chosen (Body.Task 1))
     ∷ meets sample (formatted sample 64 32) ⇒ noneRefused (Answer.Chosen (Body.Task 1))
     ∷ meets sample (set opened 4 9) ⇒ allRefused Refusal.StoreContents
-    ∷ meets sample (set opened 5 17) ⇒ allRefused Refusal.StoreContents
-    ∷ meets sample (set opened 6 23) ⇒ allRefused Refusal.StoreContents
-    ∷ meets sample (set opened 7 27) ⇒ allRefused Refusal.StoreContents
-    ∷ meets sample (take 33 opened) ⇒ allRefused Refusal.StoreContents
+    ∷ meets sample (set opened 0 0xC0A1) ⇒ allRefused Refusal.StoreContents
+    ∷ meets sample (set opened 5 16) ⇒ allRefused Refusal.StoreContents
+    ∷ meets sample (set opened 6 24) ⇒ allRefused Refusal.StoreContents
+    ∷ meets sample (set opened 7 28) ⇒ allRefused Refusal.StoreContents
+    ∷ meets sample (take 34 opened) ⇒ allRefused Refusal.StoreContents
     ∷ meets sample (opened ++ 0 ∷ []) ⇒ allRefused Refusal.StoreContents
     ∷ meets sample [] ⇒ allRefused Refusal.StoreContents
     -- "1, 2, 3, 6, 7": with two faults, the first
@@ -101,9 +102,16 @@ earlyAt w ws = breaks ws (meets7 w) (meets7 w)
 abbrev late : List ℕ → Answer → Findings
 late ws a = breaks ws a Answer.Done
 
+-- no rule is broken, but a step and a post meet 25
+abbrev unlike : Findings
+unlike = record { broken = []; booted = Answer.Done; stepped = Answer.Refused Refusal.State; posted = Answer.Refused Refusal.State }
+
+abbrev begunWith : ℕ → List ℕ → List ℕ
+begunWith n s = set s 16 n
+
 unfoldable pub controlWords : List (Row Findings)
 controlWords =
-    -- phase 0: 8 phase, 9 task, 10 open, 11 count, 12 pending, 13 pending open, 14 head, 15 tail
+    -- phase 0: 8 phase, 9 task, 10 open, 11 count, 12 pending, 13 pending open, 14 head, 15 tail; word 16 is 0
     finds (controls 0 1 8 9 9 9 0 2) ⇒ sound (Answer.Chosen (Body.Task 1))
     ∷ finds (controls 0 1 0 9 9 9 0 2) ⇒ sound (Answer.Chosen (Body.Event 0))
     ∷ finds (controls 0 4 9 0 0 0 3 3) ⇒ sound (Answer.Chosen (Body.Task 4))
@@ -113,16 +121,16 @@ controlWords =
     ∷ finds (controls 0 1 0 0 0 0 4 2) ⇒ early (14 ∷ [])
     ∷ finds (controls 0 1 0 0 0 0 2 4) ⇒ early (15 ∷ [])
     -- "each waiting record's event below E", with records from slot 0 up to slot 2, from slot 3 up to slot 1, and with none
-    ∷ finds (set (controls 0 1 0 0 0 0 0 2) 26 2) ⇒ late (26 ∷ []) (Answer.Refused (Refusal.Control 26))
-    ∷ finds (set (controls 0 1 0 0 0 0 0 2) 28 2) ⇒ late (28 ∷ []) (Answer.Chosen (Body.Event 0))
-    ∷ finds (set (set (controls 0 1 0 0 0 0 0 2) 30 2) 32 2) ⇒ sound (Answer.Chosen (Body.Event 0))
-    ∷ finds (set (set (controls 0 1 8 0 0 0 3 1) 26 2) 32 2) ⇒ late (26 ∷ 32 ∷ []) (Answer.Chosen (Body.Task 1))
-    ∷ finds (set (set (controls 0 1 8 0 0 0 3 1) 28 2) 30 2) ⇒ sound (Answer.Chosen (Body.Task 1))
-    ∷ finds (set (set (controls 0 1 0 0 0 0 1 1) 26 2) 28 2) ⇒ sound (Answer.Chosen (Body.Task 1))
-    ∷ finds (set (controls 0 1 0 0 0 0 4 2) 26 2) ⇒ early (14 ∷ [])
-    ∷ finds (set (controls 0 1 0 0 0 0 0 4) 28 2) ⇒ early (15 ∷ [])
+    ∷ finds (set (controls 0 1 0 0 0 0 0 2) 27 2) ⇒ late (27 ∷ []) (Answer.Refused (Refusal.Control 27))
+    ∷ finds (set (controls 0 1 0 0 0 0 0 2) 29 2) ⇒ late (29 ∷ []) (Answer.Chosen (Body.Event 0))
+    ∷ finds (set (set (controls 0 1 0 0 0 0 0 2) 31 2) 33 2) ⇒ sound (Answer.Chosen (Body.Event 0))
+    ∷ finds (set (set (controls 0 1 8 0 0 0 3 1) 27 2) 33 2) ⇒ late (27 ∷ 33 ∷ []) (Answer.Chosen (Body.Task 1))
+    ∷ finds (set (set (controls 0 1 8 0 0 0 3 1) 29 2) 31 2) ⇒ sound (Answer.Chosen (Body.Task 1))
+    ∷ finds (set (set (controls 0 1 0 0 0 0 1 1) 27 2) 29 2) ⇒ sound (Answer.Chosen (Body.Task 1))
+    ∷ finds (set (controls 0 1 0 0 0 0 4 2) 27 2) ⇒ early (14 ∷ [])
+    ∷ finds (set (controls 0 1 0 0 0 0 0 4) 29 2) ⇒ early (15 ∷ [])
     -- "8 at most 2"; "a rule that needs a broken word is passed over"
-    ∷ finds (set (controls 3 1 9 9 9 9 0 2) 26 2) ⇒ early (8 ∷ [])
+    ∷ finds (set (controls 3 1 9 9 9 9 0 2) 27 2) ⇒ early (8 ∷ [])
     ∷ finds (controls 3 5 9 9 9 9 4 4) ⇒ early (8 ∷ 9 ∷ 14 ∷ 15 ∷ [])
     -- phase 1: "10 is free"; "12 below T and 13 is 0 or task 12's number"
     ∷ finds (controls 1 1 77 2 2 8 0 2) ⇒ sound Answer.Stored
@@ -132,13 +140,13 @@ controlWords =
     ∷ finds (controls 1 1 0 2 5 9 0 2) ⇒ early (12 ∷ [])
     ∷ finds (controls 1 1 0 2 2 9 0 2) ⇒ late (13 ∷ []) Answer.Stored
     ∷ finds (controls 1 1 0 2 2 8 4 4) ⇒ early (14 ∷ 15 ∷ [])
-    ∷ finds (set (controls 1 1 0 2 2 8 0 2) 28 2) ⇒ late (28 ∷ []) Answer.Stored
+    ∷ finds (set (controls 1 1 0 2 2 8 0 2) 29 2) ⇒ late (29 ∷ []) Answer.Stored
     -- "11 at most L and the first n log addresses below M"
-    ∷ finds (set (controls 1 1 0 3 2 8 0 2) 22 6) ⇒ early (11 ∷ [])
-    ∷ finds (set (controls 1 1 0 2 2 8 0 2) 22 6) ⇒ late (22 ∷ []) (Answer.Refused (Refusal.Control 22))
-    ∷ finds (set (controls 1 1 0 2 2 8 0 2) 24 6) ⇒ late (24 ∷ []) Answer.Stored
-    ∷ finds (set (controls 1 1 0 1 2 8 0 2) 24 6) ⇒ sound Answer.Stored
-    ∷ finds (set (controls 0 1 8 2 2 8 0 2) 22 6) ⇒ sound (Answer.Chosen (Body.Task 1))
+    ∷ finds (set (controls 1 1 0 3 2 8 0 2) 23 6) ⇒ early (11 ∷ [])
+    ∷ finds (set (controls 1 1 0 2 2 8 0 2) 23 6) ⇒ late (23 ∷ []) (Answer.Refused (Refusal.Control 23))
+    ∷ finds (set (controls 1 1 0 2 2 8 0 2) 25 6) ⇒ late (25 ∷ []) Answer.Stored
+    ∷ finds (set (controls 1 1 0 1 2 8 0 2) 25 6) ⇒ sound Answer.Stored
+    ∷ finds (set (controls 0 1 8 2 2 8 0 2) 23 6) ⇒ sound (Answer.Chosen (Body.Task 1))
     -- phase 2: "10 is 0"; "12 at most Q and equals 14, or is the slot after it with the queue not empty"
     ∷ finds (controls 2 1 0 2 1 77 0 2) ⇒ sound Answer.Stored
     ∷ finds (controls 2 1 0 2 0 0 0 2) ⇒ sound Answer.Stored
@@ -155,22 +163,41 @@ controlWords =
     ∷ finds (controls 2 1 0 2 9 0 4 4) ⇒ early (12 ∷ 14 ∷ 15 ∷ [])
     ∷ finds (controls 2 1 0 2 2 0 4 1) ⇒ early (14 ∷ [])
     ∷ finds (controls 2 1 0 2 2 0 0 4) ⇒ early (15 ∷ [])
-    ∷ finds (set (controls 2 1 0 3 1 0 0 2) 22 6) ⇒ early (11 ∷ [])
-    ∷ finds (set (controls 2 1 0 2 1 0 0 2) 22 6) ⇒ late (22 ∷ []) (Answer.Refused (Refusal.Control 22))
-    ∷ finds (set (controls 2 1 0 2 1 0 0 2) 24 6) ⇒ late (24 ∷ []) Answer.Stored
+    ∷ finds (set (controls 2 1 0 3 1 0 0 2) 23 6) ⇒ early (11 ∷ [])
+    ∷ finds (set (controls 2 1 0 2 1 0 0 2) 23 6) ⇒ late (23 ∷ []) (Answer.Refused (Refusal.Control 23))
+    ∷ finds (set (controls 2 1 0 2 1 0 0 2) 25 6) ⇒ late (25 ∷ []) Answer.Stored
     -- "The waiting records run to tail from head, in phase 2 from word 12"
-    ∷ finds (set (controls 2 1 0 2 1 0 0 2) 26 2) ⇒ sound Answer.Stored
-    ∷ finds (set (controls 2 1 0 2 1 0 0 2) 28 2) ⇒ late (28 ∷ []) Answer.Stored
-    ∷ finds (set (controls 2 1 0 2 2 0 0 3) 30 2) ⇒ early (12 ∷ [])
+    ∷ finds (set (controls 2 1 0 2 1 0 0 2) 27 2) ⇒ sound Answer.Stored
+    ∷ finds (set (controls 2 1 0 2 1 0 0 2) 29 2) ⇒ late (29 ∷ []) Answer.Stored
+    ∷ finds (set (controls 2 1 0 2 2 0 0 3) 31 2) ⇒ early (12 ∷ [])
     -- "the lowest word of any broken rule, and for a step or post the lowest at that place of the order"
     ∷ finds (controls 2 5 8 3 9 0 4 4) ⇒ early (9 ∷ 10 ∷ 11 ∷ 12 ∷ 14 ∷ 15 ∷ [])
     ∷ finds (controls 1 5 0 3 5 9 4 4) ⇒ early (9 ∷ 11 ∷ 12 ∷ 14 ∷ 15 ∷ [])
     ∷ finds (controls 0 1 9 0 0 0 4 2) ⇒ earlyAt 14 (10 ∷ 14 ∷ [])
     ∷ finds (controls 1 1 0 2 2 9 0 4) ⇒ earlyAt 15 (13 ∷ 15 ∷ [])
-    ∷ finds (set (set (controls 1 1 0 2 2 9 0 2) 24 6) 26 2) ⇒ late (13 ∷ 24 ∷ 26 ∷ []) Answer.Stored
-    ∷ finds (set (set (controls 1 1 0 2 2 8 0 2) 24 6) 22 6) ⇒ late (22 ∷ 24 ∷ []) (meets7 22)
-    ∷ finds (set (set (controls 1 1 0 2 2 8 0 2) 22 6) 26 2) ⇒ late (22 ∷ 26 ∷ []) (meets7 22)
-    ∷ finds (set (set (controls 0 1 0 0 0 0 3 1) 26 2) 32 2) ⇒ late (26 ∷ 32 ∷ []) (meets7 32)
+    ∷ finds (set (set (controls 1 1 0 2 2 9 0 2) 25 6) 27 2) ⇒ late (13 ∷ 25 ∷ 27 ∷ []) Answer.Stored
+    ∷ finds (set (set (controls 1 1 0 2 2 8 0 2) 25 6) 23 6) ⇒ late (23 ∷ 25 ∷ []) (meets7 23)
+    ∷ finds (set (set (controls 1 1 0 2 2 8 0 2) 23 6) 27 2) ⇒ late (23 ∷ 27 ∷ []) (meets7 23)
+    ∷ finds (set (set (controls 0 1 0 0 0 0 3 1) 27 2) 33 2) ⇒ late (27 ∷ 33 ∷ []) (meets7 33)
+    -- N4: "word 16 at most 2", in each phase; a device that runs no body isn't what a 1 or a 2 says in phase 0
+    ∷ finds (begunWith 3 (controls 0 1 0 0 0 0 0 2)) ⇒ early (16 ∷ [])
+    ∷ finds (begunWith 3 (controls 1 1 0 2 2 8 0 2)) ⇒ early (16 ∷ [])
+    ∷ finds (begunWith 3 (controls 2 1 0 2 1 0 0 2)) ⇒ early (16 ∷ [])
+    ∷ finds (begunWith 3 (controls 3 5 0 0 0 0 4 4)) ⇒ early (8 ∷ 9 ∷ 14 ∷ 15 ∷ 16 ∷ [])
+    ∷ finds (set (begunWith 3 (controls 0 1 0 0 0 0 0 2)) 27 2) ⇒ early (16 ∷ 27 ∷ [])
+    ∷ finds (begunWith 1 (controls 0 1 0 0 0 0 0 2)) ⇒ unlike
+    ∷ finds (begunWith 2 (controls 0 1 0 0 0 0 0 2)) ⇒ unlike
+    ∷ finds (begunWith 1 (controls 0 1 8 0 0 0 1 1)) ⇒ unlike
+    -- "in phase 0 a 2 needs a queue not empty and word 10 at 0"; in phases 1 and 2 word 16 is free up to 2
+    ∷ finds (begunWith 2 (controls 0 1 0 0 0 0 1 1)) ⇒ early (16 ∷ [])
+    ∷ finds (begunWith 2 (controls 0 1 8 0 0 0 0 2)) ⇒ early (16 ∷ [])
+    ∷ finds (begunWith 2 (controls 0 1 9 0 0 0 0 2)) ⇒ earlyAt 16 (10 ∷ 16 ∷ [])
+    ∷ finds (begunWith 2 (controls 0 1 8 0 0 0 4 2)) ⇒ early (14 ∷ [])
+    ∷ finds (begunWith 2 (controls 0 1 8 0 0 0 0 4)) ⇒ early (15 ∷ [])
+    ∷ finds (begunWith 2 (controls 3 1 8 0 0 0 1 1)) ⇒ early (8 ∷ [])
+    ∷ finds (begunWith 2 (controls 1 1 8 2 2 8 1 1)) ⇒ sound Answer.Stored
+    ∷ finds (begunWith 1 (controls 2 1 0 1 0 0 0 0)) ⇒ sound Answer.Stored
+    ∷ finds (begunWith 2 (controls 2 1 0 1 0 0 0 0)) ⇒ sound Answer.Stored
     ∷ []
 
 -- ---- The words of 7's rules that a call looks at, those at one place of the order together
@@ -179,20 +206,20 @@ abbrev asksOf : List ℕ → Place → Call → List (List ℕ)
 asksOf s x c = map (map (λ (r : Rule). r .word)) (inOrder sample (view s) (at x) c)
 
 abbrev earlyWords : List ℕ
-earlyWords = 8 ∷ 9 ∷ 10 ∷ 11 ∷ 12 ∷ 12 ∷ 12 ∷ 14 ∷ 15 ∷ []
+earlyWords = 8 ∷ 9 ∷ 10 ∷ 11 ∷ 12 ∷ 12 ∷ 12 ∷ 14 ∷ 15 ∷ 16 ∷ 16 ∷ []
 
 unfoldable pub orders : List (Row (List (List ℕ)))
 orders =
     -- "boot 1 to 7"
-    asksOf closed (Free 0) Boot ⇒ ((8 ∷ 9 ∷ 10 ∷ 10 ∷ 11 ∷ 12 ∷ 12 ∷ 12 ∷ 13 ∷ 14 ∷ 15 ∷ 22 ∷ 24 ∷ 26 ∷ 28 ∷ 30 ∷ 32 ∷ []) ∷ [])
+    asksOf closed (Free 0) Boot ⇒ ((8 ∷ 9 ∷ 10 ∷ 10 ∷ 11 ∷ 12 ∷ 12 ∷ 12 ∷ 13 ∷ 14 ∷ 15 ∷ 16 ∷ 16 ∷ 23 ∷ 25 ∷ 27 ∷ 29 ∷ 31 ∷ 33 ∷ []) ∷ [])
     -- "without the parts of 7 .. that need a row, .. a log pair or a record"
     ∷ asksOf closed (Free 0) (Post 0 9) ⇒ (earlyWords ∷ [])
     -- "a chosen record (7)", "the rest of 7 .. for these and a log pair"
-    ∷ asksOf closed (Free 0) Step ⇒ (earlyWords ∷ (32 ∷ []) ∷ [])
-    ∷ asksOf closed (event1 0) Step ⇒ (earlyWords ∷ (32 ∷ []) ∷ [])
+    ∷ asksOf closed (Free 0) Step ⇒ (earlyWords ∷ (33 ∷ []) ∷ [])
+    ∷ asksOf closed (event1 0) Step ⇒ (earlyWords ∷ (33 ∷ []) ∷ [])
     ∷ asksOf opened (task1 0) Step ⇒ (earlyWords ∷ (10 ∷ []) ∷ [])
     ∷ asksOf opened (Half (Body.Task 1) 1) Step ⇒ (earlyWords ∷ (10 ∷ []) ∷ [])
-    ∷ asksOf taskCommit (Free 1) Step ⇒ (earlyWords ∷ (24 ∷ []) ∷ [])
+    ∷ asksOf taskCommit (Free 1) Step ⇒ (earlyWords ∷ (25 ∷ []) ∷ [])
     -- "A cut refuses nothing."
     ∷ asksOf opened (task1 0) Cut ⇒ []
     ∷ []
@@ -201,6 +228,10 @@ orders =
 
 abbrev looked : List ℕ → Device → List Answer
 looked s d = step sample s d .answer ∷ post sample s d 0 9 .answer ∷ []
+
+-- the same on the store with the device's body begun
+abbrev running : List ℕ → Device → List Answer
+running s d = looked (begunAt (d .place) s) d
 
 -- both meet it; the step alone meets it; neither does
 abbrev both : Refusal → List Answer
@@ -215,79 +246,98 @@ neither a = a ∷ Answer.Done ∷ []
 unfoldable pub states : List (Row (List Answer))
 states =
     -- "body or instruction out of range"
-    looked opened (at (task1 3)) ⇒ neither Answer.Stored
-    ∷ looked opened (at (task1 4)) ⇒ stepAlone
-    ∷ looked opened (at (Half (Body.Task 1) 4)) ⇒ stepAlone
-    ∷ looked opened (at (Run (Body.Task 5) 0 0)) ⇒ both Refusal.State
-    ∷ looked closed (at (event1 0)) ⇒ neither Answer.Stored
-    ∷ looked closed (at (event1 2)) ⇒ stepAlone
-    ∷ looked (set closed 32 2) (at (Run (Body.Event 2) 0 0)) ⇒ both Refusal.State
+    running opened (at (task1 3)) ⇒ neither Answer.Stored
+    ∷ running opened (at (task1 4)) ⇒ stepAlone
+    ∷ running opened (at (Half (Body.Task 1) 4)) ⇒ stepAlone
+    ∷ running opened (at (Run (Body.Task 5) 0 0)) ⇒ both Refusal.State
+    ∷ running closed (at (event1 0)) ⇒ neither Answer.Stored
+    ∷ running closed (at (event1 2)) ⇒ stepAlone
+    ∷ running (set closed 33 2) (at (Run (Body.Event 2) 0 0)) ⇒ both Refusal.State
     -- "log count above L"
-    ∷ looked opened (twoPairs (task1 0)) ⇒ neither Answer.Worked
-    ∷ looked opened (deviceWith true registers (task1 0) 3 Resting) ⇒ both Refusal.State
-    ∷ looked taskCommit (deviceWith true registers (Free 0) 3 Resting) ⇒ both Refusal.State
+    ∷ running opened (twoPairs (task1 0)) ⇒ neither Answer.Worked
+    ∷ running opened (deviceWith true registers (task1 0) 3 Resting) ⇒ both Refusal.State
+    ∷ running taskCommit (deviceWith true registers (Free 0) 3 Resting) ⇒ both Refusal.State
     -- "commit place past its last store": n is 2, and 1
-    ∷ looked taskCommit (at (Free 4)) ⇒ neither Answer.Stored
-    ∷ looked taskCommit (at (Free 5)) ⇒ both Refusal.State
-    ∷ looked eventCommit (at (Free 2)) ⇒ neither Answer.Stored
-    ∷ looked eventCommit (at (Free 3)) ⇒ both Refusal.State
-    ∷ looked opened (at (Run (Body.Task 1) 3 3)) ⇒ neither (Answer.Committed (Body.Task 1))
-    ∷ looked opened (at (Run (Body.Task 1) 3 4)) ⇒ both Refusal.State
-    ∷ looked closed (at (Run (Body.Event 1) 1 2)) ⇒ neither (Answer.Committed (Body.Event 1))
-    ∷ looked closed (at (Run (Body.Event 1) 1 3)) ⇒ both Refusal.State
+    ∷ running taskCommit (at (Free 5)) ⇒ neither Answer.Stored
+    ∷ running taskCommit (at (Free 6)) ⇒ both Refusal.State
+    ∷ running eventCommit (at (Free 3)) ⇒ neither Answer.Stored
+    ∷ running eventCommit (at (Free 4)) ⇒ both Refusal.State
+    ∷ running opened (at (Run (Body.Task 1) 3 3)) ⇒ neither (Answer.Committed (Body.Task 1))
+    ∷ running opened (at (Run (Body.Task 1) 3 4)) ⇒ both Refusal.State
+    ∷ running closed (at (Run (Body.Event 1) 1 2)) ⇒ neither (Answer.Committed (Body.Event 1))
+    ∷ running closed (at (Run (Body.Event 1) 1 3)) ⇒ both Refusal.State
     -- "or phase disagreeing; a body running in phase 1 or 2"
-    ∷ looked opened (at (Free 0)) ⇒ neither (Answer.Chosen (Body.Task 1))
-    ∷ looked opened (at (Free 1)) ⇒ both Refusal.State
-    ∷ looked taskCommit (at (task1 0)) ⇒ both Refusal.State
-    ∷ looked taskCommit (at (Half (Body.Task 1) 1)) ⇒ both Refusal.State
-    ∷ looked eventCommit (at (event1 0)) ⇒ both Refusal.State
-    ∷ looked eventCommit (at (Half (Body.Event 1) 0)) ⇒ both Refusal.State
+    ∷ running opened (at (Free 0)) ⇒ neither (Answer.Chosen (Body.Task 1))
+    ∷ running opened (at (Free 1)) ⇒ both Refusal.State
+    ∷ running taskCommit (at (task1 0)) ⇒ both Refusal.State
+    ∷ running taskCommit (at (Half (Body.Task 1) 1)) ⇒ both Refusal.State
+    ∷ running eventCommit (at (event1 0)) ⇒ both Refusal.State
+    ∷ running eventCommit (at (Half (Body.Event 1) 0)) ⇒ both Refusal.State
     -- "a commit begun in phase 0 without a body at GO or DONE"
-    ∷ looked opened (at (Run (Body.Task 1) 3 1)) ⇒ neither Answer.Stored
-    ∷ looked opened (at (Run (Body.Task 1) 0 1)) ⇒ stepAlone
-    ∷ looked opened (at (Run (Body.Task 1) 1 1)) ⇒ stepAlone
-    ∷ looked closed (at (Run (Body.Event 1) 1 1)) ⇒ neither Answer.Stored
-    ∷ looked closed (at (Run (Body.Event 1) 0 1)) ⇒ stepAlone
+    ∷ running opened (at (Run (Body.Task 1) 3 1)) ⇒ neither Answer.Stored
+    ∷ running opened (at (Run (Body.Task 1) 0 1)) ⇒ stepAlone
+    ∷ running opened (at (Run (Body.Task 1) 1 1)) ⇒ stepAlone
+    ∷ running closed (at (Run (Body.Event 1) 1 1)) ⇒ neither Answer.Stored
+    ∷ running closed (at (Run (Body.Event 1) 0 1)) ⇒ stepAlone
     -- "half a SAVE without a SAVE or with L pairs"
-    ∷ looked opened (at (Half (Body.Task 1) 1)) ⇒ neither Answer.Stored
-    ∷ looked opened (at (Half (Body.Task 1) 0)) ⇒ stepAlone
-    ∷ looked opened (at (Half (Body.Task 1) 3)) ⇒ stepAlone
-    ∷ looked closed (at (Half (Body.Event 1) 1)) ⇒ stepAlone
-    ∷ looked opened (twoPairs (Half (Body.Task 1) 1)) ⇒ both Refusal.State
+    ∷ running opened (at (Half (Body.Task 1) 1)) ⇒ neither Answer.Stored
+    ∷ running opened (at (Half (Body.Task 1) 0)) ⇒ stepAlone
+    ∷ running opened (at (Half (Body.Task 1) 3)) ⇒ stepAlone
+    ∷ running closed (at (Half (Body.Event 1) 1)) ⇒ stepAlone
+    ∷ running opened (twoPairs (Half (Body.Task 1) 1)) ⇒ both Refusal.State
     -- "in phase 0 a running body that isn't word 9's task, nor the event of a record at head with word 10 at 0"
-    ∷ looked opened (at (Run (Body.Task 0) 0 0)) ⇒ both Refusal.State
-    ∷ looked opened (at (Run (Body.Task 2) 0 0)) ⇒ both Refusal.State
-    ∷ looked opened (at (Half (Body.Task 2) 0)) ⇒ both Refusal.State
-    ∷ looked (controls 0 2 8 0 0 0 3 1) (at (Run (Body.Task 2) 0 0)) ⇒ neither Answer.Stored
-    ∷ looked opened (at (event1 0)) ⇒ both Refusal.State
+    ∷ running opened (at (Run (Body.Task 0) 0 0)) ⇒ both Refusal.State
+    ∷ running opened (at (Run (Body.Task 2) 0 0)) ⇒ both Refusal.State
+    ∷ running opened (at (Half (Body.Task 2) 0)) ⇒ both Refusal.State
+    ∷ running (controls 0 2 8 0 0 0 3 1) (at (Run (Body.Task 2) 0 0)) ⇒ neither Answer.Stored
+    ∷ running opened (at (event1 0)) ⇒ both (Refusal.Control 16)
+    ∷ looked (taskBegun opened) (at (event1 0)) ⇒ both Refusal.State
+    ∷ running (controls 0 1 0 0 0 0 3 3) (at (event1 0)) ⇒ both (Refusal.Control 16)
     ∷ looked (controls 0 1 0 0 0 0 3 3) (at (event1 0)) ⇒ both Refusal.State
-    ∷ looked closed (at (Run (Body.Event 0) 0 0)) ⇒ stepAlone
-    ∷ looked closed (at (Half (Body.Event 0) 0)) ⇒ stepAlone
-    ∷ looked closed (at (Half (Body.Event 1) 0)) ⇒ neither Answer.Stored
+    ∷ running closed (at (Run (Body.Event 0) 0 0)) ⇒ stepAlone
+    ∷ running closed (at (Half (Body.Event 0) 0)) ⇒ stepAlone
+    ∷ running closed (at (Half (Body.Event 1) 0)) ⇒ neither Answer.Stored
+    -- N4: "In phase 0, 25 also meets a device that is on and doesn't run just what word 16 says": which event that is, a step alone sees
+    ∷ looked opened (at (task1 0)) ⇒ both Refusal.State
+    ∷ looked (taskBegun opened) (at (task1 0)) ⇒ neither Answer.Worked
+    ∷ looked (eventBegun closed) (at (task1 0)) ⇒ both Refusal.State
+    ∷ looked opened (at (Half (Body.Task 1) 1)) ⇒ both Refusal.State
+    ∷ looked (eventBegun closed) (at (Half (Body.Task 1) 1)) ⇒ both Refusal.State
+    ∷ looked closed (at (event1 0)) ⇒ both Refusal.State
+    ∷ looked (taskBegun closed) (at (event1 0)) ⇒ both Refusal.State
+    ∷ looked (eventBegun closed) (at (event1 0)) ⇒ neither Answer.Stored
+    ∷ looked (taskBegun closed) (at (Half (Body.Event 1) 0)) ⇒ both Refusal.State
+    ∷ looked (eventBegun closed) (at (Run (Body.Event 0) 0 0)) ⇒ stepAlone
+    ∷ looked (taskBegun opened) (at (Free 0)) ⇒ both Refusal.State
+    ∷ looked (eventBegun closed) (at (Free 0)) ⇒ both Refusal.State
+    ∷ looked (taskBegun opened) offValue ⇒ both Refusal.PowerOff
+    ∷ looked (eventBegun closed) offValue ⇒ both Refusal.PowerOff
+    ∷ looked (taskBegun taskCommit) (at (Free 5)) ⇒ neither Answer.Stored
+    ∷ looked (eventBegun taskCommit) (at (Free 0)) ⇒ neither Answer.Stored
     -- "a handler at work with the queue full or its event not below E"
-    ∷ looked opened (deviceWith true registers (task1 0) 1 (Storing 0 1 66)) ⇒ (Answer.Stored ∷ Answer.Refused Refusal.HandlerBusy ∷ [])
-    ∷ looked opened (deviceWith true registers (task1 0) 1 (Storing 0 2 66)) ⇒ both Refusal.State
-    ∷ looked (controls 0 1 8 0 0 0 2 1) (deviceWith true registers (task1 0) 1 (Storing 2 1 66)) ⇒ both Refusal.State
+    ∷ running opened (deviceWith true registers (task1 0) 1 (Storing 0 1 66)) ⇒ (Answer.Stored ∷ Answer.Refused Refusal.HandlerBusy ∷ [])
+    ∷ running opened (deviceWith true registers (task1 0) 1 (Storing 0 2 66)) ⇒ both Refusal.State
+    ∷ running (controls 0 1 8 0 0 0 2 1) (deviceWith true registers (task1 0) 1 (Storing 2 1 66)) ⇒ both Refusal.State
     -- all of a handler's stores are made, and it is at work still
-    ∷ looked opened (deviceWith true registers (task1 0) 1 (Storing 2 1 66)) ⇒ (Answer.Accepted ∷ Answer.Refused Refusal.HandlerBusy ∷ [])
-    ∷ looked opened (deviceWith true registers (task1 0) 1 (Storing 3 1 66)) ⇒ both Refusal.State
+    ∷ running opened (deviceWith true registers (task1 0) 1 (Storing 2 1 66)) ⇒ (Answer.Accepted ∷ Answer.Refused Refusal.HandlerBusy ∷ [])
+    ∷ running opened (deviceWith true registers (task1 0) 1 (Storing 3 1 66)) ⇒ both Refusal.State
     -- "off unlike its fixed value"
-    ∷ looked opened offValue ⇒ both Refusal.PowerOff
-    ∷ looked opened (deviceWith false (set cleared 0 1) (Free 0) 0 Resting) ⇒ both Refusal.State
-    ∷ looked opened (deviceWith false (set cleared 7 1) (Free 0) 0 Resting) ⇒ both Refusal.State
-    ∷ looked taskCommit (deviceWith false cleared (Free 1) 0 Resting) ⇒ both Refusal.State
-    ∷ looked opened (deviceWith false cleared (task1 0) 0 Resting) ⇒ both Refusal.State
-    ∷ looked opened (deviceWith false cleared (Half (Body.Task 1) 1) 0 Resting) ⇒ both Refusal.State
-    ∷ looked opened (deviceWith false cleared (Free 0) 1 Resting) ⇒ both Refusal.State
-    ∷ looked opened (deviceWith false cleared (Free 0) 0 (Storing 0 1 66)) ⇒ both Refusal.State
+    ∷ running opened offValue ⇒ both Refusal.PowerOff
+    ∷ running opened (deviceWith false (set cleared 0 1) (Free 0) 0 Resting) ⇒ both Refusal.State
+    ∷ running opened (deviceWith false (set cleared 7 1) (Free 0) 0 Resting) ⇒ both Refusal.State
+    ∷ running taskCommit (deviceWith false cleared (Free 1) 0 Resting) ⇒ both Refusal.State
+    ∷ running opened (deviceWith false cleared (task1 0) 0 Resting) ⇒ both Refusal.State
+    ∷ running opened (deviceWith false cleared (Half (Body.Task 1) 1) 0 Resting) ⇒ both Refusal.State
+    ∷ running opened (deviceWith false cleared (Free 0) 1 Resting) ⇒ both Refusal.State
+    ∷ running opened (deviceWith false cleared (Free 0) 0 (Storing 0 1 66)) ⇒ both Refusal.State
     -- "7, 25, 22": with two faults, the first
-    ∷ looked (set opened 8 3) (at (Free 1)) ⇒ both (Refusal.Control 8)
+    ∷ running (set opened 8 3) (at (Free 1)) ⇒ both (Refusal.Control 8)
     ∷ []
 
 -- ---- "a step then checks what it uses"
 
 abbrev asks : List ℕ → List ℕ → Place → Answer
-asks p s x = step p s (at x) .answer
+asks p s x = step p (begunAt x s) (at x) .answer
 
 -- with an open number that isn't task 1's
 abbrev pub wrongOpen : List ℕ
@@ -296,8 +346,8 @@ wrongOpen = controls 0 1 9 7 7 7 3 1
 unfoldable pub uses : List (Row Answer)
 uses =
     -- "a chosen record (7)"
-    asks (set sample 25 0) (set closed 32 2) (event1 0) ⇒ Answer.Refused (Refusal.Control 32)
-    ∷ asks (set sample 1 32) (set closed 32 2) (event1 0) ⇒ Answer.Refused (Refusal.Control 32)
+    asks (set sample 25 0) (set closed 33 2) (event1 0) ⇒ Answer.Refused (Refusal.Control 33)
+    ∷ asks (set sample 1 32) (set closed 33 2) (event1 0) ⇒ Answer.Refused (Refusal.Control 33)
     -- "the body's row (4: rows past the program, its limits, and its body behind the rows and inside the total)"
     ∷ asks (set (set sample 1 32) 10 0) opened (task1 0) ⇒ Answer.Refused (Refusal.Row 0)
     ∷ asks (set sample 10 0) opened (task1 0) ⇒ Answer.Refused (Refusal.Row 1)
@@ -334,11 +384,11 @@ uses =
     ∷ asks (withInstruction 0x0C00 0) opened (Run (Body.Task 1) 2 1) ⇒ Answer.Refused Refusal.State
     ∷ asks (withInstruction 0x0B31 4) opened (Run (Body.Task 1) 2 1) ⇒ Answer.Refused Refusal.State
     -- "and a log pair"
-    ∷ asks sample (set taskCommit 22 6) (Free 1) ⇒ Answer.Stored
-    ∷ asks sample (set taskCommit 24 6) (Free 1) ⇒ Answer.Refused (Refusal.Control 24)
-    ∷ asks sample (set (set taskCommit 22 6) 24 6) (Free 1) ⇒ Answer.Refused (Refusal.Control 24)
+    ∷ asks sample (set taskCommit 23 6) (Free 1) ⇒ Answer.Stored
+    ∷ asks sample (set taskCommit 25 6) (Free 1) ⇒ Answer.Refused (Refusal.Control 25)
+    ∷ asks sample (set (set taskCommit 23 6) 25 6) (Free 1) ⇒ Answer.Refused (Refusal.Control 25)
     -- "then 23, 24": L pairs are in the log, for addresses 2 and 3
-    ∷ step (withInstruction 0x0930 3) opened (twoPairs (task1 2)) .answer ⇒ Answer.Stored
-    ∷ step (withInstruction 0x0930 5) opened (twoPairs (task1 2)) .answer ⇒ Answer.Refused Refusal.LogFull
-    ∷ step (withInstruction 0x0B31 4) opened (twoPairs (task1 2)) .answer ⇒ Answer.Refused Refusal.Address
+    ∷ step (withInstruction 0x0930 3) (taskBegun opened) (twoPairs (task1 2)) .answer ⇒ Answer.Stored
+    ∷ step (withInstruction 0x0930 5) (taskBegun opened) (twoPairs (task1 2)) .answer ⇒ Answer.Refused Refusal.LogFull
+    ∷ step (withInstruction 0x0B31 4) (taskBegun opened) (twoPairs (task1 2)) .answer ⇒ Answer.Refused Refusal.Address
     ∷ []

@@ -9,18 +9,18 @@ use Rattle.model.specs.Program.{word, memoryWords, entry}
 use Rattle.model.specs.Test.{pick, _and_, must, _then_}
 use Rattle.model.specs.Types.{Checked, Refusal, Found, Stored}
 
--- ---- "Contents first. Words 0 to 7: mark (hex C0A1), M, log pairs L (1 to 64), queue records Q (1 to 32), then the starts of
--- control (8), memory (16), log (16 + M), queue (16 + M + 2L). The length is 18 + M + 2L + 2Q, for the ring has Q + 1 slots of
--- two words (event, data)."
+-- ---- "Contents first. Words 0 to 7: mark .., M, log pairs L (1 to 64), queue records Q (1 to 32), then the starts of control (8),
+-- memory .., log .., queue .. the ring has Q + 1 slots of two words (event, data)"; N4: "Control gets word 16", "The start of every later
+-- region rises by one, the length is 19 + M + 2L + 2Q .., and the mark is hex C0A2".
 
 unfoldable pub storeMark : ℕ
-storeMark = 0xC0A1
+storeMark = 0xC0A2
 
 abbrev pub controlAt : ℕ
 controlAt = 8
 
 abbrev pub memoryAt : ℕ
-memoryAt = 16
+memoryAt = 17
 
 abbrev pub logAt : ℕ → ℕ
 logAt m = memoryAt + m
@@ -36,7 +36,7 @@ storeContents m l q = storeMark ∷ m ∷ l ∷ q ∷ controlAt ∷ memoryAt ∷
 
 -- ---- The store by its parts, as a step reads it
 -- "Control: 8 phase (0 running, 1 task commit, 2 event commit); 9 current task; 10 open transaction (0 none); 11 count n; 12
--- pending next task, or in phase 2 pending head; 13 pending open; 14 head; 15 tail."
+-- pending next task, or in phase 2 pending head; 13 pending open; 14 head; 15 tail." N4: "word 16: 0 nothing begun, 1 task, 2 event"
 pub record Store : Type 0 where
   pub logPairs : ℕ
   pub queueRecords : ℕ
@@ -48,6 +48,7 @@ pub record Store : Type 0 where
   pub pendingOpen : ℕ
   pub head : ℕ
   pub tail : ℕ
+  pub begun : ℕ
   pub memory : List ℕ
   pub log : List ℕ
   pub queue : List ℕ
@@ -65,6 +66,7 @@ view s =
       pendingOpen = word s 13;
       head = word s 14;
       tail = word s 15;
+      begun = word s 16;
       memory = take (word s 1) (drop memoryAt s);
       log = take (2 * word s 2) (drop (logAt (word s 1)) s);
       queue = take (2 * (word s 3 + 1)) (drop (queueAt (word s 1) (word s 2)) s);
@@ -85,7 +87,7 @@ datum v u = word (v .queue) (2 * u + 1)
 
 -- ---- "A step makes at most one store": none, or one word with its new value
 pub data Word : Type 0 where
-  Phase Task Open Count Pending PendingOpen Head Tail : Word
+  Phase Task Open Count Pending PendingOpen Head Tail Begun : Word
   Memory Address Value Event Datum : ℕ → Word
 
 unfoldable pub index : List ℕ → Word → ℕ
@@ -97,6 +99,7 @@ index s Pending = 12
 index s PendingOpen = 13
 index s Head = 14
 index s Tail = 15
+index s Begun = 16
 index s (Memory y) = memoryAt + y
 index s (Address i) = logAt (word s 1) + 2 * i
 index s (Value i) = logAt (word s 1) + (2 * i + 1)

@@ -131,8 +131,8 @@ fn memory(right: &[u16], mistaken: &[u16]) {
     text::put(b"memory    ");
     cells::memory(right);
     text::spaces(24);
-    let mut differ = words::word(right, 16) != words::word(mistaken, 16);
-    if words::word(right, 17) != words::word(mistaken, 17) {
+    let mut differ = words::memory(right, 0) != words::memory(mistaken, 0);
+    if words::memory(right, 1) != words::memory(mistaken, 1) {
         differ = true;
     }
     bar(differ);

@@ -205,6 +205,7 @@ fn name(store: &[u16], device: Device, index: u16) {
         13 => text::put(b"pending open"),
         14 => text::put(b"head        "),
         15 => text::put(b"tail        "),
+        16 => text::put(b"begun       "),
         _ => part_name(store, index),
     }
 }
@@ -238,9 +239,9 @@ pub fn performed(store: &[u16], node: Node, width: u16) {
 
 // Two words of memory, in a column of nine.
 pub fn memory(store: &[u16]) {
-    text::hex(words::word(store, 16));
+    text::hex(words::memory(store, 0));
     text::put(b" ");
-    text::hex(words::word(store, 17));
+    text::hex(words::memory(store, 1));
 }
 
 fn record(store: &[u16], slot: u16) {

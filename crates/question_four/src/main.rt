@@ -20,21 +20,21 @@ fn legend() {
     text::line(b"A row is a call. #: the steps so far. runs: an instruction, or choose, commit,");
     text::line(b"handler. stores: the word's index, name and new value. ph, op: phase and open");
     text::line(b"number after the call. If power is cut then, uncut recovery takes so many steps");
-    text::line(b"and leaves this memory and this record waiting; next is the body chosen then.");
-    text::line(b"T0 is task 0, E0 event 0; post 7 posts event 0 with data 7. Words are in hex,");
-    text::line(b"other numbers in decimal. L is 1; Q is 1, in screen 6 it is 2.");
+    text::line(b"and leaves this memory and this record waiting; next is the body that runs");
+    text::line(b"then. T0 is task 0, E0 event 0; post 7 posts event 0 with data 7. Words are in");
+    text::line(b"hex, other numbers in decimal. L is 1; Q is 1, in screen 7 it is 2.");
 }
 
 fn task() {
     text::line(b"\n1. A task of the counting program");
     let program = cases::counting();
-    table::table(&program, b"", b"bssssssssssssss");
+    table::table(&program, b"", b"bsssssssssssssss");
 }
 
 fn event() {
     text::line(b"\n2. An event of the counting program");
     let program = cases::counting();
-    table::table(&program, b"", b"b7ssssssssssss");
+    table::table(&program, b"", b"b7sssssssssssss");
 }
 
 fn event_in_transaction() {
@@ -42,25 +42,35 @@ fn event_in_transaction() {
     text::line(b"T0 adds 1 to word 0 and T1 copies word 0 to word 1, both in transaction 1; T2");
     text::line(b"goes on to itself. The event saves its data in word 0.");
     let program = transaction::PROGRAM;
-    table::table(&program, b"bsssssssss", b"sssss7ssssssssssssssssssssssss");
+    table::table(
+        &program,
+        b"bsssssssss",
+        b"ssssss7ssssssssssssssssssssssssss",
+    );
+}
+
+fn event_while_begun() {
+    text::line(b"\n4. An event accepted while a task is begun runs after it, cut or no cut");
+    let program = cases::counting();
+    table::table(&program, b"", b"bs7ssscbsssssssssssssss");
 }
 
 fn cut_in_recovery() {
-    text::line(b"\n4. A cut in the recovery from a cut: copying starts again at the first pair");
+    text::line(b"\n5. A cut in the recovery from a cut: copying starts again at the first pair");
     let program = cases::counting();
-    table::table(&program, b"bsssssssss", b"scbsscbssss");
+    table::table(&program, b"bsssssssss", b"scbsscbsssss");
 }
 
 fn cuts_in_post() {
-    text::line(b"\n5. Cuts among a post's three stores: after one, after two, after all");
+    text::line(b"\n6. Cuts among a post's three stores: after one, after two, after all");
     let program = cases::counting();
     table::table(&program, b"", b"b7scb8sscb9ssscbs");
 }
 
 // On stores with L and Q 1.
 fn beside_one(program: &[u16], mistake: Mistake, before: &[u8], shown: &[u8], behind: &[u8]) {
-    let mut right = [0; 24];
-    let mut mistaken = [0; 24];
+    let mut right = [0; 25];
+    let mut mistaken = [0; 25];
     let _ = format::format(program, 1, 1, &mut right);
     let _ = format::format(program, 1, 1, &mut mistaken);
     beside::beside(
@@ -76,8 +86,8 @@ fn beside_one(program: &[u16], mistake: Mistake, before: &[u8], shown: &[u8], be
 
 // On stores with Q 2.
 fn beside_two(program: &[u16], mistake: Mistake, before: &[u8], shown: &[u8], behind: &[u8]) {
-    let mut right = [0; 26];
-    let mut mistaken = [0; 26];
+    let mut right = [0; 27];
+    let mut mistaken = [0; 27];
     let _ = format::format(program, 1, 2, &mut right);
     let _ = format::format(program, 1, 2, &mut mistaken);
     beside::beside(
@@ -92,62 +102,62 @@ fn beside_two(program: &[u16], mistake: Mistake, before: &[u8], shown: &[u8], be
 }
 
 fn head_plus_one() {
-    text::line(b"\n6. Redoing an event's commit by adding one to head: two records go");
+    text::line(b"\n7. Redoing an event's commit by adding one to head: two records go");
     let program = cases::counting();
     beside_two(
         &program,
         Mistake::HeadPlusOneOnRedo,
         b"b7sss8ssssssss",
-        b"ssscbssss",
+        b"ssscbsssss",
         b"",
     );
 }
 
 fn tail_before_data() {
-    text::line(b"\n7. Storing tail before data: a cut accepts a stale record");
+    text::line(b"\n8. Storing tail before data: a cut accepts a stale record");
     let program = cases::counting();
     beside_one(
         &program,
         Mistake::TailBeforeData,
-        b"b7ssssssssssss8ssssssssssss",
+        b"b7sssssssssssss8sssssssssssss",
         b"9sscbs",
-        b"ssssssss",
+        b"sssssssss",
     );
 }
 
 fn phase_before_task() {
-    text::line(b"\n8. Clearing the phase before word 9: the task runs again (screen 3's program)");
+    text::line(b"\n9. Clearing the phase before word 9: the task runs again (screen 3's program)");
     let program = transaction::PROGRAM;
     beside_one(
         &program,
         Mistake::PhaseBeforeTask,
         b"bsssssssss",
         b"ssscbsss",
-        b"sssssssssssssssssssssss",
+        b"ssssssssssssssssssssssss",
     );
 }
 
 fn lost_count() {
-    text::line(b"\n9. Taking the log count at recovery from lost state, not word 11");
+    text::line(b"\n10. Taking the log count at recovery from lost state, not word 11");
     let program = cases::counting();
     beside_one(
         &program,
         Mistake::CountFromLostState,
         b"bsssssssss",
-        b"scbssss",
+        b"scbsssss",
         b"",
     );
 }
 
 fn lost_open() {
-    text::line(b"\n10. Serving an event after a cut in an open transaction (screen 3's program)");
+    text::line(b"\n11. Serving an event after a cut in an open transaction (screen 3's program)");
     let program = transaction::PROGRAM;
     beside_one(
         &program,
         Mistake::EventInOpenTransaction,
-        b"bssssssssssssss",
+        b"bsssssssssssssss",
         b"7ssscbs",
-        b"ssssssssssssssssssss",
+        b"ssssssssssssssssssssss",
     );
 }
 
@@ -156,6 +166,7 @@ fn main() {
     task();
     event();
     event_in_transaction();
+    event_while_begun();
     cut_in_recovery();
     cuts_in_post();
     text::line(b"\nFive mistakes, each beside the right run. A bar stands where they differ.");

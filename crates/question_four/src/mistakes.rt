@@ -127,17 +127,23 @@ fn phase_meant(store: &[u16], early: bool) -> u16 {
     words::phase(store)
 }
 
-// Word 9 is stored while the phase is 0, and word 10 not yet.
+// With the phase cleared, words 9 and 10 are stored, each in the place of the store behind it, which is put back.
 fn task_after_phase(store: &mut [u16], open: u16) {
     two(store, 9, words::word(store, 12), 10, open);
     words::set(store, 8, 0);
 }
 
-// Clearing the phase before word 9: a task's commit ends with words 8, 9 and 10, and not with 9, 10 and 8.
+fn open_after_phase(store: &mut [u16], begun: u16) {
+    two(store, 10, words::word(store, 13), 16, begun);
+    words::set(store, 8, 0);
+}
+
+// Clearing the phase before word 9: a task's commit ends with words 8, 9, 10 and 16, and not with 9, 10, 16 and 8.
 fn phase_before_task(program: &[u16], store: &mut [u16], node: Node) -> Node {
     let kept = node.kept;
     let task = words::word(store, 9);
     let open = words::word(store, 10);
+    let begun = words::word(store, 16);
     words::set(store, 8, phase_meant(store, kept.early));
     let left = node::step(program, store, node);
     let stored = left.stored;
@@ -146,15 +152,19 @@ fn phase_before_task(program: &[u16], store: &mut [u16], node: Node) -> Node {
         two(store, 9, task, 8, 0);
         return instead(left, Answer::Stored, 8, true);
     }
+    if !kept.early {
+        return left;
+    }
     if index == 10 {
         task_after_phase(store, open);
         return instead(left, Answer::Stored, 9, true);
     }
-    if kept.early {
-        words::set(store, 10, words::word(store, 13));
-        return instead(left, Answer::Stored, 10, false);
+    if index == 16 {
+        open_after_phase(store, begun);
+        return instead(left, Answer::Stored, 10, true);
     }
-    left
+    words::set(store, 16, 0);
+    instead(left, Answer::Stored, 16, false)
 }
 
 // Taking the log count at recovery from lost state, not word 11: after a cut it is 0.

@@ -42,6 +42,12 @@ pub fn slot_before(store: &[u16], slot: u16) -> u16 {
     slot - 1
 }
 
+// A word of memory, which starts where word 5 says.
+pub fn memory(store: &[u16], address: u16) -> u16 {
+    let at = word(store, 5) as u32 + address as u32;
+    word(store, (at % 65536) as u16)
+}
+
 // Where a slot's event stands, and its data behind it.
 pub fn event_word(store: &[u16], slot: u16) -> u16 {
     let at = word(store, 7) as u32 + 2 * (slot as u32);

@@ -1,11 +1,16 @@
 -- The laws of a run: a step that is refused ends it and changes nothing, one that isn't leaves the rest of the run. Assumes nothing.
-use Prim.Native.Nat.{ℕ, suc, _+_}
+use Prim.Native.Nat.{ℕ, suc, _+_, _≤_}
+use mathlib.Core.Bool.{true, false}
 use mathlib.Core.List.{List}
 use mathlib.Core.Path.{_≡_, refl, sym, ap, _∙_}
+use native.Mathlib.Omega.{arith}
+use lib.ListN.{length}
+use Rattle.model.proofs.DeviceLaws.{StepOutcome, refused, made, step-outcome}
+use Rattle.model.proofs.TestLaws.{impossible}
 use Rattle.model.proofs.Refused.{refused-is}
-use Rattle.model.specs.Calls.{RunOutcome, Step, call, unlessRefused, counted, runFrom}
+use Rattle.model.specs.Calls.{RunOutcome, Step, call, unlessRefused, isRefusal, counted, runFrom}
 use Rattle.model.specs.Device.{Outcome, refuse, step}
-use Rattle.model.specs.Store.{settled, storedWord}
+use Rattle.model.specs.Store.{memoryAt, settled, storedWord}
 use Rattle.model.specs.declared.Answer.{Answer}
 use Rattle.model.specs.declared.Checked.{Checked}
 use Rattle.model.specs.declared.Device.{Device}
@@ -40,6 +45,10 @@ goes (Answer.Committed b) stop rest e = refl
 goes Answer.Accepted stop rest e = refl
 goes (Answer.Refused r) stop rest e = cc
 
+pub unrefused : (a : Answer) → refusalOf a ≡ Checked.Accepted → isRefusal a ≡ false
+unfolding isRefusal
+unrefused a = goes a (λ r. true) false
+
 -- ---- a run at its next step, n steps made
 
 abbrev pub ended : ℕ → Ended → List ℕ → Device → Totals → RunOutcome
@@ -66,3 +75,12 @@ module _ (p : List ℕ) (k j n : ℕ) (s : List ℕ) (d : Device) (t : Totals) (
       rw left
       (goes (o .answer) (λ f. ended n (Ended.Refused f) s d t) _ e
       ∙ ap (λ (x : Totals). runFrom p j (n + 1) (settled s (o .write)) (o .device) x) (counted-is s t o))
+
+-- a step that isn't refused has a store with all control words
+pub control-there : (p s : List ℕ) (d : Device) → refusalOf (step p s d .answer) ≡ Checked.Accepted → memoryAt ≤ length s
+unfolding unlessRefused
+control-there p s d = go (step p s d) (step-outcome p s d)
+  where
+    go : (o : Outcome) → StepOutcome p s d o → refusalOf (o .answer) ≡ Checked.Accepted → memoryAt ≤ length s
+    go o (refused w) e = impossible (cc)
+    go o (made early m u) e = omega (arith, early .shaped .shaped .length-is)

@@ -1,14 +1,16 @@
 // Step and run over a program, a lent store and a device. Step: document 01's four cases, first that applies. Run: "repeats steps up to a
 // budget (32 bits) and returns the count of steps made, with spent or the refusal".
 // The device is taken apart once and put together once; between, the registers are lent and the totals go by value. The early checks
-// aren't repeated where the last answer tells that they pass.
-ghost use Prim.Native.Nat.{ℕ};
+// aren't repeated where what the last step stored and answered tells that they pass.
+ghost use Prim.Native.Nat.{ℕ, _≤_};
+ghost use lib.ListN.{length};
 ghost use mathlib.Core.Bool.{true};
 ghost use mathlib.Core.List.{List};
 ghost use mathlib.Core.Path.{_≡_};
-ghost use Rattle.model.specs.Calls.{unlessRefused};
+ghost use Rattle.model.specs.Calls.{unlessRefused, isCommit};
 ghost use Rattle.model.specs.Claims.{soundAfter};
 ghost use Rattle.model.specs.Device.{look, step};
+ghost use Rattle.model.specs.Store.{memoryAt};
 ghost use Rattle.device.specs.Result.{device, ofCore, ofCall, ofOutcome, StepPerforms};
 ghost use Rattle.runtime.specs.RunResult.{coreRunResult, ofLast, CoreRuns, RunPerforms};
 use device::CallResult;
@@ -60,19 +62,44 @@ fn refusal(answer: Answer) -> Checked
     }
 }
 
-// Do the early checks of the next step pass after this answer?
-fn sound_after(answer: Answer) -> bool
-    ensures { λ r. ⌜ r ≡ soundAfter answer ⌝ }
+// Was the commit store made?
+fn is_commit(answer: Answer) -> bool
+    ensures { λ r. ⌜ r ≡ isCommit answer ⌝ }
 {
     match answer {
         Answer::Done => false,
-        Answer::Chosen(_) => true,
-        Answer::Worked => true,
-        Answer::Stored => true,
-        Answer::Committed(_) => false,
-        Answer::Accepted => true,
+        Answer::Chosen(_) => false,
+        Answer::Worked => false,
+        Answer::Stored => false,
+        Answer::Committed(_) => true,
+        Answer::Accepted => false,
         Answer::Refused(_) => false,
     }
+}
+
+// After a store of the phase: not after a commit store, and in phase 0 word 16 must be 0.
+fn sound_after_phase(answer: Answer, store: &[u16]) -> bool
+    requires { ⌜ memoryAt ≤ length (now store) ⌝ }
+    ensures { λ r. ⌜ r ≡ soundAfter (Stored.Word 8) answer (now (store .entry)) ⌝ }
+{
+    if is_commit(answer) {
+        return false;
+    }
+    store[16] == 0
+}
+
+// Do the early checks of the next step pass after a step that wasn't refused: by the word stored, the answer and the words after it?
+fn sound_after(stored: Stored, answer: Answer, store: &[u16]) -> bool
+    requires { ⌜ memoryAt ≤ length (now store) ⌝ }
+    ensures { λ r. ⌜ r ≡ soundAfter stored answer (now (store .entry)) ⌝ }
+{
+    let Stored::Word(index) = stored else {
+        return true;
+    };
+    if index != 8 {
+        return true;
+    }
+    sound_after_phase(answer, store)
 }
 
 // A step on lent registers. Its early checks aren't made where they are known to pass.
@@ -147,7 +174,7 @@ fn run_in(
             return refused_run(last, stored, steps, why, core, totals);
         }
         totals = totals::counted(totals, last, stored);
-        known = sound_after(last);
+        known = sound_after(stored, last, store);
         steps += 1;
     }
     CoreRunResult {

@@ -79,17 +79,17 @@ fn copy_words(store: &[u16], copy: &mut [u16])
     }
 }
 
-// "Uncut recovery takes n + 3 steps from phase 1 and n + 2 from phase 2"
+// "Uncut recovery takes n + 3 steps from phase 1 and n + 2 from phase 2", and "one step more"
 fn recovery_steps(store: &[u16]) -> u32
     ensures { λ r. ⌜ r ≡ recoverySteps (view (now (store .entry))) ⌝ }
 {
     let phase = word(store, 8);
     let count = word(store, 11) as u32;
     if phase == 1 {
-        return count + 3;
+        return count + 4;
     }
     if phase == 2 {
-        return count + 2;
+        return count + 3;
     }
     0
 }

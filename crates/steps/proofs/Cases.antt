@@ -21,8 +21,8 @@ module _ (p s : List ℕ) (d : Device) (h : Looked p s d) (n : ℕ) (e : d .plac
   left : n < word s 11 + length (lastStores (view s))
   left = let stands : Stands p (view s) (d .count) (Place.Free n) = rw e at (h .place) in stands .1 ne
 
-  pub task-left : word s 8 ≡ 1 → n < word s 11 + 3
+  pub task-left : word s 8 ≡ 1 → n < word s 11 + 4
   task-left q = omega (arith, left, task-lasts (view s) q)
 
-  pub event-left : (word s 8 ≡ 1 → ⊥) → n < word s 11 + 2
+  pub event-left : (word s 8 ≡ 1 → ⊥) → n < word s 11 + 3
   event-left q = omega (arith, left, event-lasts (view s) q)

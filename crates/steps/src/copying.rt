@@ -4,6 +4,7 @@ ghost use lib.ListN.{length};
 ghost use mathlib.Core.Path.{_≡_};
 ghost use Rattle.model.specs.Device.{copyStep, taskLastStores, eventLastStores};
 ghost use Rattle.model.specs.Program.{word};
+ghost use Rattle.model.specs.Store.{memoryAt};
 ghost use Rattle.model.specs.Accepted.{Contents, ShapedFor, Looked};
 ghost use Rattle.device.specs.Result.{device, ofCore, leaves, OnAnyRegisters};
 ghost use Rattle.steps.specs.Steps.{lastStore};
@@ -36,7 +37,7 @@ fn copy(program: &[u16], store: &mut [u16], core: Core, pair: u16) -> CoreResult
     results::stored(core, Place::Free(pair + 1), core.count, word)
 }
 
-// "9 from 12, 10 from 13, 8 becomes 0", of which `last` are made, and `made` since the commit store.
+// "9 from 12, 10 from 13, 8 becomes 0", and "0 in it just before the last store": of these `last` are made, and `made` since the commit store.
 fn task_last(
     store: &mut [u16],
     registers: &mut [u16; 8],
@@ -44,8 +45,8 @@ fn task_last(
     made: u16,
     last: u16,
 ) -> CoreResult
-    requires { ⌜ 16 ≤ length (now store) ⌝ }
-    requires { ⌜ (last < 3) × (made < 1000) ⌝ }
+    requires { ⌜ memoryAt ≤ length (now store) ⌝ }
+    requires { ⌜ (last < 4) × (made < 1000) ⌝ }
     ensures { λ r. ⌜ ofCore r (now (registers .exit)) (now (store .exit))
         ≡ leaves (lastStore taskLastStores last made) (now (store .entry)) (device core (now (registers .entry))) ⌝ }
 {
@@ -56,6 +57,10 @@ fn task_last(
     if last == 1 {
         store[10] = store[13];
         return results::stored(core, Place::Free(made + 1), core.count, Stored::Word(10));
+    }
+    if last == 2 {
+        store[16] = 0;
+        return results::stored(core, Place::Free(made + 1), core.count, Stored::Word(16));
     }
     store[8] = 0;
     results::turned_on(registers, Answer::Stored)
@@ -69,14 +74,18 @@ fn event_last(
     made: u16,
     last: u16,
 ) -> CoreResult
-    requires { ⌜ 16 ≤ length (now store) ⌝ }
-    requires { ⌜ (last < 2) × (made < 1000) ⌝ }
+    requires { ⌜ memoryAt ≤ length (now store) ⌝ }
+    requires { ⌜ (last < 3) × (made < 1000) ⌝ }
     ensures { λ r. ⌜ ofCore r (now (registers .exit)) (now (store .exit))
         ≡ leaves (lastStore eventLastStores last made) (now (store .entry)) (device core (now (registers .entry))) ⌝ }
 {
     if last == 0 {
         store[14] = store[12];
         return results::stored(core, Place::Free(made + 1), core.count, Stored::Word(14));
+    }
+    if last == 1 {
+        store[16] = 0;
+        return results::stored(core, Place::Free(made + 1), core.count, Stored::Word(16));
     }
     store[8] = 0;
     results::turned_on(registers, Answer::Stored)

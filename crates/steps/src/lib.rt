@@ -2,8 +2,9 @@
 // A commit's stores in phases 1 and 2 are in copying.rt, a running body's in the crate body.
 ghost use Prim.Native.Nat.{_≤_, _<_};
 ghost use mathlib.Core.Path.{_≡_};
-ghost use Rattle.model.specs.Device.{handlerStep, chooseStep, placeStep};
+ghost use Rattle.model.specs.Device.{handlerStep, eventNext, chooseStep, placeStep};
 ghost use Rattle.model.specs.Program.{word};
+ghost use Rattle.model.specs.Store.{view};
 ghost use Rattle.model.specs.Accepted.{Shaped, Looked};
 ghost use Rattle.device.specs.Result.{device, coreResult, ofCore, leaves, placeStepOf, nextStepOf, OnAnyRegisters};
 use body;
@@ -69,29 +70,41 @@ fn handler_result(core: Core, handler: Handler, answer: Answer, stored: Stored) 
     }
 }
 
-// "if word 10 is 0 and the queue isn't empty, the event at head; otherwise the current task"
-fn choose_step(program: &[u16], store: &[u16], registers: &mut [u16; 8], core: Core) -> CoreResult
-    requires { ⌜ Looked (now program) (now store) (device core (now registers)) ⌝ }
-    ensures { λ r. ⌜ ofCore r (now (registers .exit)) (now (store .entry))
-        ≡ leaves (chooseStep (now (program .entry))) (now (store .entry)) (device core (now (registers .entry))) ⌝ }
+// Is the event at head next: "if word 10 is 0 and the queue isn't empty"?
+fn event_next(store: &[u16]) -> bool
+    requires { ⌜ Shaped (now store) ⌝ }
+    ensures { λ r. ⌜ r ≡ eventNext (view (now (store .entry))) ⌝ }
 {
     if store[10] != 0 {
-        return results::begin(registers, core, Body::Task(store[9]), 0);
+        return false;
     }
-    if queue::is_empty(store) {
-        return results::begin(registers, core, Body::Task(store[9]), 0);
+    !queue::is_empty(store)
+}
+
+// "the event at head; otherwise the current task": "Choosing stores it and still answers chosen".
+fn choose_step(
+    program: &[u16],
+    store: &mut [u16],
+    registers: &mut [u16; 8],
+    core: Core,
+) -> CoreResult
+    requires { ⌜ Looked (now program) (now store) (device core (now registers)) ⌝ }
+    ensures { λ r. ⌜ ofCore r (now (registers .exit)) (now (store .exit))
+        ≡ leaves (chooseStep (now (program .entry))) (now (store .entry)) (device core (now (registers .entry))) ⌝ }
+{
+    if !event_next(store) {
+        let task = store[9];
+        store[16] = 1;
+        return results::begin(registers, core, Body::Task(task), 0);
     }
     let found = single::record_at_head(program, store);
     if let Checked::Refused(why) = found {
         return results::refused(core, why);
     }
     let event = queue::head_event(store);
-    results::begin(
-        registers,
-        core,
-        Body::Event(event),
-        queue::head_datum(store),
-    )
+    let datum = queue::head_datum(store);
+    store[16] = 2;
+    results::begin(registers, core, Body::Event(event), datum)
 }
 
 // With no body running: in phase 0 one is chosen, else a commit makes its next store.

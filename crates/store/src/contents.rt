@@ -6,11 +6,11 @@ ghost use Prim.Native.Nat.{_≤_};
 ghost use Rattle.model.specs.Store.{logAt, queueAt, storeLength, sizesRule, storeRule};
 ghost use Rattle.model.specs.Accepted.{Contents, Sizes, ShapedFor};
 
-pub const MARK: u16 = 0xC0A1;
+pub const MARK: u16 = 0xC0A2;
 
 pub const CONTROL: u16 = 8;
 
-pub const MEMORY: u16 = 16;
+pub const MEMORY: u16 = 17;
 
 // L is 1 to 64 and Q is 1 to 32.
 pub fn sizes(log_pairs: u16, queue_records: u16) -> bool

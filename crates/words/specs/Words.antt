@@ -178,7 +178,7 @@ nothingPostedWords = plainAnswer 9
 
 -- ---- A step's answer as 6 words: those of an answer, and the word that it stored, by its index
 
--- none is 65535, which is no index: a store has at most 1234 words
+-- none is 65535, which is no index: a store has at most 1235 words
 unfoldable pub storedNumber : Stored → ℕ
 storedNumber Stored.Nothing = 65535
 storedNumber (Stored.Word i) = i

@@ -33,8 +33,8 @@ array-read-t19 c = search needs
 returns : tie.Need-returns
 unfolding cutAfter
 returns c =
-    let e = c .before .cut-in .ensures ∙ ap (λ (p : List ℕ). storeAfterCut p (replicate 24 0) (c .before .before .before .before .before .args .steps) (c .before .before .before .before .before .args .recovery)) (c .before .before .before .before .counting .ensures) in
-    ap (λ (s : List ℕ). word s 8 ∷ word s 16 ∷ word s 17 ∷ []) e
+    let e = c .before .cut-in .ensures ∙ ap (λ (p : List ℕ). storeAfterCut p (replicate 25 0) (c .before .before .before .before .before .args .steps) (c .before .before .before .before .before .args .recovery)) (c .before .before .before .before .counting .ensures) in
+    ap (λ (s : List ℕ). word s 8 ∷ word s 17 ∷ word s 18 ∷ []) e
 
 pub cut-after-spec : {M : Type 1} → statement M
 cut-after-spec =

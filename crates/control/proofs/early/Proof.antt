@@ -1,9 +1,9 @@
--- `early` meets its contract: the first rule that isn't obeyed answers, in three groups. Assumes nothing.
+-- `early` meets its contract: the first rule that isn't obeyed answers, in four groups. Assumes nothing.
 use Prim.Native.Nat.{ℕ}
 use mathlib.Core.List.{List, [], _∷_}
 use mathlib.Core.Path.{_≡_, sym, ap, _∙_}
 use borrow.Author.Needs.{needs}
-use Rattle.model.specs.Control.{obey, obeyAll, phaseRule, taskRule, headRule, tailRule, earlyRules}
+use Rattle.model.specs.Control.{obey, obeyAll, phaseRule, taskRule, headRule, tailRule, begunRule, begunEventRule, earlyRules}
 use Rattle.model.specs.Store.{Store}
 use Rattle.model.specs.Test.{_then_}
 use Rattle.model.specs.declared.Checked.{Checked}
@@ -16,14 +16,16 @@ use Rattle.control.proofs.early.Tie as tie
 
 -- the early rules in the groups of the code
 in-groups : (p : List ℕ) (v : Store)
-    → ((obey (phaseRule v) then obey (taskRule p v)) then (obeyAll (commitRules p v) then (obey (headRule v) then obey (tailRule v))))
+    → ((obey (phaseRule v) then obey (taskRule p v)) then (obeyAll (commitRules p v) then ((obey (headRule v) then obey (tailRule v)) then (obey (begunRule v) then obey (begunEventRule v)))))
     ≡ obeyAll (earlyRules p v)
 unfolding obeyAll
 in-groups p v =
     then-assoc _ _ _
     ∙ ap (λ (c : Checked). obey (phaseRule v) then obey (taskRule p v) then c)
-    (ap (λ (c : Checked). obeyAll (commitRules p v) then (obey (headRule v) then c)) (sym (then-accepted (obey (tailRule v))))
-    ∙ sym (obeyAll-append (commitRules p v) (headRule v ∷ tailRule v ∷ [])))
+    (ap (λ (c : Checked). obeyAll (commitRules p v) then c)
+    (then-assoc _ _ _
+    ∙ ap (λ (c : Checked). obey (headRule v) then obey (tailRule v) then obey (begunRule v) then c) (sym (then-accepted (obey (begunEventRule v)))))
+    ∙ sym (obeyAll-append (commitRules p v) (headRule v ∷ tailRule v ∷ begunRule v ∷ begunEventRule v ∷ [])))
     ∙ sym (ap obeyAll (early-are p v))
 
 phase-rule-requires : tie.Need-phase-rule-requires
@@ -65,11 +67,28 @@ tail-rule-requires c κs = search needs
 first-requires-2 : tie.Need-first-requires-2
 first-requires-2 c κs = search needs
 
+enum-told-5 : tie.Need-enum-told-5
+enum-told-5 c = search needs
+
+enum-told-6 : tie.Need-enum-told-6
+enum-told-6 c = search needs
+
 returns-3 : tie.Need-returns-3
 returns-3 c =
-    last _ (c .first2 .ensures) (c .before .tail-rule .ensures) (begin _ (c .before .before .head-rule .ensures))
-    ∙ then-go _ _ (c .before .before .before .before .before .early-commit-rules .ensures) (c .before .before .before .enum-told3 .given .1)
-    ∙ then-go _ _ (last _ (c .before .before .before .before .before .before .before .before .first .ensures) (c .before .before .before .before .before .before .before .before .before .task-rule .ensures) (begin _ (c .before .before .before .before .before .before .before .before .before .before .phase-rule .ensures))) (c .before .before .before .before .before .before .enum-told .given .1)
+    then-stop _ _ (last _ (c .before .before .first2 .ensures) (c .before .before .before .tail-rule .ensures) (begin _ (c .before .before .before .before .head-rule .ensures))) (c .enum-told6 .given .1)
+    ∙ then-go _ _ (c .before .before .before .before .before .before .before .early-commit-rules .ensures) (c .before .before .before .before .before .enum-told3 .given .1)
+    ∙ then-go _ _ (last _ (c .before .before .before .before .before .before .before .before .before .before .first .ensures) (c .before .before .before .before .before .before .before .before .before .before .before .task-rule .ensures) (begin _ (c .before .before .before .before .before .before .before .before .before .before .before .before .phase-rule .ensures))) (c .before .before .before .before .before .before .before .before .enum-told .given .1)
+    ∙ in-groups _ _
+
+early-begun-rules-requires : tie.Need-early-begun-rules-requires
+early-begun-rules-requires c κs = search needs
+
+returns-4 : tie.Need-returns-4
+returns-4 c =
+    c .early-begun-rules .ensures
+    ∙ then-go _ _ (last _ (c .before .before .before .first2 .ensures) (c .before .before .before .before .tail-rule .ensures) (begin _ (c .before .before .before .before .before .head-rule .ensures))) (c .before .enum-told5 .given .1)
+    ∙ then-go _ _ (c .before .before .before .before .before .before .before .before .early-commit-rules .ensures) (c .before .before .before .before .before .before .enum-told3 .given .1)
+    ∙ then-go _ _ (last _ (c .before .before .before .before .before .before .before .before .before .before .before .first .ensures) (c .before .before .before .before .before .before .before .before .before .before .before .before .task-rule .ensures) (begin _ (c .before .before .before .before .before .before .before .before .before .before .before .before .before .phase-rule .ensures))) (c .before .before .before .before .before .before .before .before .before .enum-told .given .1)
     ∙ in-groups _ _
 
 pub early-spec : {M : Type 1} → statement M
@@ -89,4 +108,8 @@ early-spec =
     head-rule-requires
     tail-rule-requires
     first-requires-2
-    returns-3)
+    enum-told-5
+    enum-told-6
+    returns-3
+    early-begun-rules-requires
+    returns-4)

@@ -3,7 +3,7 @@ use Prim.Native.Nat.{ℕ}
 use mathlib.Core.List.{List, _∷_, _++_}
 use mathlib.Core.Path.{_≡_, sym, ap, _∙_}
 use borrow.Author.Needs.{needs}
-use Rattle.model.specs.Control.{obey, obeyAll, phaseRule, taskRule, openRule, pendingOpenRule, headRule, tailRule, controlRules, rules}
+use Rattle.model.specs.Control.{obey, obeyAll, phaseRule, taskRule, openRule, pendingOpenRule, headRule, tailRule, begunRule, begunEventRule, controlRules, rules}
 use Rattle.model.specs.Store.{Store}
 use Rattle.model.specs.Test.{_then_}
 use Rattle.model.specs.declared.Checked.{Checked}
@@ -20,14 +20,16 @@ in-groups : (p : List ℕ) (v : Store)
     then (obey (openRule p v)
     then (obeyAll (commitRules p v)
     then (obey (pendingOpenRule p v)
-    then (obey (headRule v) then (obey (tailRule v) then (obeyAll (addressRules p v) then obeyAll (recordRules p v)))))))))
+    then (obey (headRule v)
+    then (obey (tailRule v)
+    then (obey (begunRule v) then (obey (begunEventRule v) then (obeyAll (addressRules p v) then obeyAll (recordRules p v)))))))))))
     ≡ obeyAll (rules p v)
 unfolding obeyAll rules controlRules
 in-groups p v =
     ap (λ (c : Checked). obey (phaseRule v) then obey (taskRule p v) then obey (openRule p v) then c)
-    (ap (λ (c : Checked). obeyAll (commitRules p v) then obey (pendingOpenRule p v) then obey (headRule v) then obey (tailRule v) then c)
+    (ap (λ (c : Checked). obeyAll (commitRules p v) then obey (pendingOpenRule p v) then obey (headRule v) then obey (tailRule v) then obey (begunRule v) then obey (begunEventRule v) then c)
     (sym (obeyAll-append (addressRules p v) (recordRules p v)))
-    ∙ sym (obeyAll-append (commitRules p v) (pendingOpenRule p v ∷ headRule v ∷ tailRule v ∷ addressRules p v ++ recordRules p v)))
+    ∙ sym (obeyAll-append (commitRules p v) (pendingOpenRule p v ∷ headRule v ∷ tailRule v ∷ begunRule v ∷ begunEventRule v ∷ addressRules p v ++ recordRules p v)))
 
 phase-rule-requires : tie.Need-phase-rule-requires
 phase-rule-requires c κs = search needs
@@ -68,19 +70,33 @@ tail-rule-requires c κs = search needs
 first-requires-6 : tie.Need-first-requires-6
 first-requires-6 c κs = search needs
 
-addresses-requires : tie.Need-addresses-requires
-addresses-requires c κs = search needs
+begun-rule-requires : tie.Need-begun-rule-requires
+begun-rule-requires c κs = search needs
 
 first-requires-7 : tie.Need-first-requires-7
 first-requires-7 c κs = search needs
 
-records-requires : tie.Need-records-requires
-records-requires c κs =
-    let c17 = c .before .before .before .before .before .before .before .before .before .before .before .before .before .before .before .before .before in
-    (c17 .pre .0 .contents, c17 .pre .1)
+begun-event-rule-requires : tie.Need-begun-event-rule-requires
+begun-event-rule-requires c κs = c .before .before .before .before .before .before .before .before .before .before .before .before .before .before .before .before .before .pre .1 .shaped
 
 first-requires-8 : tie.Need-first-requires-8
 first-requires-8 c κs = search needs
+
+addresses-requires : tie.Need-addresses-requires
+addresses-requires c κs =
+    let c19 = c .before .before .before .before .before .before .before .before .before .before .before .before .before .before .before .before .before .before .before in
+    (c19 .pre .0 .contents, c19 .pre .1)
+
+first-requires-9 : tie.Need-first-requires-9
+first-requires-9 c κs = search needs
+
+records-requires : tie.Need-records-requires
+records-requires c κs =
+    let c21 = c .before .before .before .before .before .before .before .before .before .before .before .before .before .before .before .before .before .before .before .before .before in
+    (c21 .pre .0 .contents, c21 .pre .1)
+
+first-requires-10 : tie.Need-first-requires-10
+first-requires-10 c κs = search needs
 
 returns : tie.Need-returns
 returns c =
@@ -91,14 +107,18 @@ returns c =
     let c10 = c8 .before .before in
     let c12 = c10 .before .before in
     let c14 = c12 .before .before in
-    last _ (c .first8 .ensures) (c .before .records .ensures)
-    (next _ _ (c2 .first7 .ensures) (c2 .before .addresses .ensures)
-    (next _ _ (c4 .first6 .ensures) (c4 .before .tail-rule .ensures)
-    (next _ _ (c6 .first5 .ensures) (c6 .before .head-rule .ensures)
-    (next _ _ (c8 .first4 .ensures) (c8 .before .pending-open-rule .ensures)
-    (next _ _ (c10 .first3 .ensures) (c10 .before .commit-rules .ensures)
-    (next _ _ (c12 .first2 .ensures) (c12 .before .open-rule .ensures)
-    (next _ _ (c14 .first .ensures) (c14 .before .task-rule .ensures) (begin _ (c14 .before .before .phase-rule .ensures))))))))) ∙ in-groups _ _
+    let c16 = c14 .before .before in
+    let c18 = c16 .before .before in
+    last _ (c .first10 .ensures) (c .before .records .ensures)
+    (next _ _ (c2 .first9 .ensures) (c2 .before .addresses .ensures)
+    (next _ _ (c4 .first8 .ensures) (c4 .before .begun-event-rule .ensures)
+    (next _ _ (c6 .first7 .ensures) (c6 .before .begun-rule .ensures)
+    (next _ _ (c8 .first6 .ensures) (c8 .before .tail-rule .ensures)
+    (next _ _ (c10 .first5 .ensures) (c10 .before .head-rule .ensures)
+    (next _ _ (c12 .first4 .ensures) (c12 .before .pending-open-rule .ensures)
+    (next _ _ (c14 .first3 .ensures) (c14 .before .commit-rules .ensures)
+    (next _ _ (c16 .first2 .ensures) (c16 .before .open-rule .ensures)
+    (next _ _ (c18 .first .ensures) (c18 .before .task-rule .ensures) (begin _ (c18 .before .before .phase-rule .ensures))))))))))) ∙ in-groups _ _
 
 pub whole-spec : {M : Type 1} → statement M
 whole-spec =
@@ -117,8 +137,12 @@ whole-spec =
     first-requires-5
     tail-rule-requires
     first-requires-6
-    addresses-requires
+    begun-rule-requires
     first-requires-7
-    records-requires
+    begun-event-rule-requires
     first-requires-8
+    addresses-requires
+    first-requires-9
+    records-requires
+    first-requires-10
     returns)

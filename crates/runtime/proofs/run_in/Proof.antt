@@ -18,7 +18,7 @@ use Rattle.model.specs.declared.Device.{Device}
 use Rattle.model.specs.declared.Ended.{Ended}
 use Rattle.model.specs.declared.Stored.{Stored}
 use Rattle.model.specs.declared.Totals.{Totals}
-use Rattle.runtime.proofs.Runs.{refusalOf, ended, run-spent, run-stops, run-goes}
+use Rattle.runtime.proofs.Runs.{unrefused, control-there, refusalOf, ended, run-spent, run-stops, run-goes}
 use Rattle.model.proofs.LookStays.{look-stays}
 use Rattle.model.specs.Claims.{soundAfter}
 use Rattle.totals.specs.Counted.{countedFrom}
@@ -94,7 +94,14 @@ counted-requires : tie.Need-counted-requires Inv-loop μ-loop
 counted-requires c κs = search needs
 
 sound-after-requires : tie.Need-sound-after-requires Inv-loop μ-loop
-sound-after-requires c κs = search needs
+sound-after-requires c κs =
+    let p = now (c .before .before .before .before .before .before .before .before .before .before .before .before .before .before .before .args .program) in
+    let s = c .before .before .before .before .before .before .before .before .before .before .before .before .loop .store in
+    let d = device (c .before .before .before .before .before .before .before .before .before .before .before .before .loop .core) (c .before .before .before .before .before .before .before .before .before .before .before .before .loop .registers) in
+    let q = c .before .before .before .before .before .before .before .before .step-known .ensures in
+    let there = control-there p s d (ap (λ (x : Result). refusalOf (x .answer)) (sym q) ∙ sym (c .before .before .before .before .refusal .ensures) ∙ c .before .before .enum-told .given .1) in
+    let same : length (c .before .before .before .before .before .before .before .before .step-known .last .1 .0) ≡ length s = ap (λ (x : Result). length (x .store)) q ∙ settled-length s _ in
+    omega (arith, there, same)
 
 add-steps : tie.Need-add-steps Inv-loop μ-loop
 add-steps c = search needs
@@ -104,26 +111,27 @@ loop-less c = search needs
 
 loop-again : tie.Need-loop-again Inv-loop μ-loop
 loop-again c =
-    let p = now (c .before .before .before .before .before .before .before .before .before .before .before .before .before .before .before .args .program) in
-    let s = c .before .before .before .before .before .before .before .before .before .before .before .before .loop .store in
-    let d = device (c .before .before .before .before .before .before .before .before .before .before .before .before .loop .core) (c .before .before .before .before .before .before .before .before .before .before .before .before .loop .registers) in
-    let n = c .before .before .before .before .before .before .before .before .before .before .before .before .loop .steps in
-    let t = c .before .before .before .before .before .before .before .before .before .before .before .before .loop .totals in
-    let k = c .before .before .before .before .before .before .before .before .before .before .before .before .before .before .before .args .budget - n in
-    let j = c .before .before .before .before .before .before .before .before .before .before .before .before .before .before .before .args .budget - (n + 1) in
-    let left : k ≡ suc j = omega (arith, c .before .before .before .before .before .before .before .before .before .before .before .loop-test .taken) in
-    let q = c .before .before .before .before .before .before .before .before .step-known .ensures in (
-      omega (arith, c .before .before .before .before .before .before .before .before .before .before .before .loop-test .taken),
-      ap (λ (x : Result). length (x .store)) q ∙ settled-length s _ ∙ c .before .before .before .before .before .before .before .before .before .before .before .before .loop .inv .1,
-      ap (λ (x : Totals). runFrom p j (n + 1) (c .before .before .before .before .before .before .before .before .step-known .last .1 .0) (device (c .before .before .before .before .before .before .before .before .step-known .result .core) (c .before .before .before .before .before .before .before .before .step-known .last .1 .1 .0)) x) (c .before .counted .ensures)
+    let p = now (c .before .before .before .before .before .before .before .before .before .before .before .before .before .before .before .before .args .program) in
+    let s = c .before .before .before .before .before .before .before .before .before .before .before .before .before .loop .store in
+    let d = device (c .before .before .before .before .before .before .before .before .before .before .before .before .before .loop .core) (c .before .before .before .before .before .before .before .before .before .before .before .before .before .loop .registers) in
+    let n = c .before .before .before .before .before .before .before .before .before .before .before .before .before .loop .steps in
+    let t = c .before .before .before .before .before .before .before .before .before .before .before .before .before .loop .totals in
+    let k = c .before .before .before .before .before .before .before .before .before .before .before .before .before .before .before .before .args .budget - n in
+    let j = c .before .before .before .before .before .before .before .before .before .before .before .before .before .before .before .before .args .budget - (n + 1) in
+    let left : k ≡ suc j = omega (arith, c .before .before .before .before .before .before .before .before .before .before .before .before .loop-test .taken) in
+    let q = c .before .before .before .before .before .before .before .before .before .step-known .ensures in
+    let passes = ap (λ (x : Result). refusalOf (x .answer)) (sym q) ∙ sym (c .before .before .before .before .before .refusal .ensures) ∙ c .before .before .before .enum-told .given .1 in (
+      omega (arith, c .before .before .before .before .before .before .before .before .before .before .before .before .loop-test .taken),
+      ap (λ (x : Result). length (x .store)) q ∙ settled-length s _ ∙ c .before .before .before .before .before .before .before .before .before .before .before .before .before .loop .inv .1,
+      ap (λ (x : Totals). runFrom p j (n + 1) (c .before .before .before .before .before .before .before .before .before .step-known .last .1 .0) (device (c .before .before .before .before .before .before .before .before .before .step-known .result .core) (c .before .before .before .before .before .before .before .before .before .step-known .last .1 .1 .0)) x) (c .before .before .counted .ensures)
           ∙ ap (λ (x : Result). runFrom p j (n + 1) (x .store) (x .device) (countedFrom t (x .answer) (x .stored))) q
-          ∙ sym (run-goes p k j n s d t left (ap (λ (x : Result). refusalOf (x .answer)) (sym q) ∙ sym (c .before .before .before .before .refusal .ensures) ∙ c .before .before .enum-told .given .1))
-          ∙ c .before .before .before .before .before .before .before .before .before .before .before .before .loop .inv .2,
+          ∙ sym (run-goes p k j n s d t left passes)
+          ∙ c .before .before .before .before .before .before .before .before .before .before .before .before .before .loop .inv .2,
       λ known.
           ap (λ (x : Result). look p (x .store) (x .device)) q
-          ∙ look-stays p s d (ap (λ (x : Result). soundAfter (x .answer)) (sym q) ∙ sym (c .sound-after .ensures) ∙ known),
+          ∙ look-stays p s d (unrefused (step p s d .answer) passes) (ap (λ (x : Result). soundAfter (x .stored) (x .answer) (x .store)) (sym q) ∙ sym (c .sound-after .ensures) ∙ known),
       λ zero. absurd (omega (arith, zero)),
-      λ one. q ∙ c .before .before .before .before .before .before .before .before .before .before .before .before .loop .inv .4 (omega (arith, one)),
+      λ one. q ∙ c .before .before .before .before .before .before .before .before .before .before .before .before .before .loop .inv .4 (omega (arith, one)),
     )
 
 same-length-2 : tie.Need-same-length-2 Inv-loop μ-loop

@@ -1,73 +1,40 @@
--- `sound_after` meets its contract, by the answer. Assumes nothing.
+-- `sound_after` meets its contract, by the word stored. Assumes nothing.
+use mathlib.Core.Path.{_∙_}
+use borrow.Author.Tests.{ne-eqb}
 use Rattle.model.specs.Claims.{soundAfter}
+use Rattle.model.specs.Test.{pick}
 use borrow.Author.Needs.{needs}
 use Rattle.runtime.proofs.sound_after.Statement.{statement}
 use Rattle.runtime.proofs.sound_after.Tie as tie
 
+enum-known-stored : tie.Need-enum-known-stored
+enum-known-stored c = search needs
+
 enum-told : tie.Need-enum-told
 enum-told c = search needs
 
-enum-told-2 : tie.Need-enum-told-2
-enum-told-2 c = search needs
-
-enum-told-3 : tie.Need-enum-told-3
-enum-told-3 c = search needs
-
-enum-told-4 : tie.Need-enum-told-4
-enum-told-4 c = search needs
-
-enum-told-5 : tie.Need-enum-told-5
-enum-told-5 c = search needs
-
-enum-told-6 : tie.Need-enum-told-6
-enum-told-6 c = search needs
-
-enum-told-7 : tie.Need-enum-told-7
-enum-told-7 c = search needs
-
 returns : tie.Need-returns
-unfolding soundAfter
+unfolding soundAfter pick
 returns c = simp (c .enum-told .given .1)
 
 returns-2 : tie.Need-returns-2
-unfolding soundAfter
-returns-2 c = simp (c .enum-told2 .given .1)
+unfolding soundAfter pick
+returns-2 c = simp (c .before .before .stored .given .1, ne-eqb _ _ (c .if1 .taken))
+
+sound-after-phase-requires : tie.Need-sound-after-phase-requires
+sound-after-phase-requires c κs = search needs
 
 returns-3 : tie.Need-returns-3
-unfolding soundAfter
-returns-3 c = simp (c .enum-told3 .given .1)
-
-returns-4 : tie.Need-returns-4
-unfolding soundAfter
-returns-4 c = simp (c .enum-told4 .given .1)
-
-returns-5 : tie.Need-returns-5
-unfolding soundAfter
-returns-5 c = simp (c .enum-told5 .given .1)
-
-returns-6 : tie.Need-returns-6
-unfolding soundAfter
-returns-6 c = simp (c .enum-told6 .given .1)
-
-returns-7 : tie.Need-returns-7
-unfolding soundAfter
-returns-7 c = simp (c .enum-told7 .given .1)
+unfolding soundAfter pick
+returns-3 c = c .sound-after-phase .ensures ∙ simp (c .before .before .before .stored .given .1, c .before .if1 .left)
 
 pub sound-after-spec : {M : Type 1} → statement M
 sound-after-spec =
     tie.close
     (tie.spec
+    enum-known-stored
     enum-told
-    enum-told-2
-    enum-told-3
-    enum-told-4
-    enum-told-5
-    enum-told-6
-    enum-told-7
     returns
     returns-2
-    returns-3
-    returns-4
-    returns-5
-    returns-6
-    returns-7)
+    sound-after-phase-requires
+    returns-3)

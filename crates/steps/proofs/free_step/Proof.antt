@@ -20,10 +20,10 @@ same-length c = search needs
 
 returns : tie.Need-returns
 returns c =
-    let s = now (c .before .before .before .before .before .before .before .args .store) in
-    let p = now (c .before .before .before .before .before .before .before .args .program) in
-    let d = device (c .before .before .before .before .before .before .before .args .core) (now (c .before .before .before .before .before .before .before .args .registers)) in
-    c .choose-step .ensures ∙ ap (λ (o : Outcome). ofOutcome s o) (sym (free-chooses p (view s) d (c .before .before .before .before .before .before .before .args .made) (c .before .before .before .if1 .taken)))
+    let s = now (c .before .before .before .before .before .before .before .before .before .args .store) in
+    let p = now (c .before .before .before .before .before .before .before .before .before .args .program) in
+    let d = device (c .before .before .before .before .before .before .before .before .before .args .core) (now (c .before .before .before .before .before .before .before .before .before .args .registers)) in
+    c .before .before .choose-step .ensures ∙ ap (λ (o : Outcome). ofOutcome s o) (sym (free-chooses p (view s) d (c .before .before .before .before .before .before .before .before .before .args .made) (c .before .before .before .before .before .if1 .taken)))
 
 copy-step-requires : tie.Need-copy-step-requires
 copy-step-requires c κs = (c .before .before .before .before .before .before .pre .0, (c .before .before .before .before .before .before .pre .1, c .before .before .if1 .left))

@@ -3,7 +3,8 @@
 use mathlib.Core.Bool.{not}
 use mathlib.Core.Path.{ap, _∙_}
 use Rattle.model.specs.Device.{bootCheck}
-use Rattle.model.proofs.TestLaws.{then-stop, then-go, must-refuses, must-accepts}
+use Rattle.model.proofs.Passed.{boot-passed}
+use Rattle.model.proofs.TestLaws.{answered, then-stop, then-go, must-refuses, must-accepts}
 use borrow.Author.Needs.{needs}
 use Rattle.device.proofs.calls.boot_check.Statement.{statement}
 use Rattle.device.proofs.calls.boot_check.Tie as tie
@@ -19,7 +20,7 @@ enum-told-2 c = search needs
 
 returns : tie.Need-returns
 unfolding bootCheck
-returns c = then-stop _ _ (c .before .before .check .ensures .0) (c .enum-told2 .given .1)
+returns c = answered (boot-passed _ _ (c .before .before .before .before .before .args .device)) (then-stop _ _ (c .before .before .check .ensures .0) (c .enum-told2 .given .1))
 
 store-rule-requires : tie.Need-store-rule-requires
 store-rule-requires c κs = c .before .before .check .ensures .1 (c .enum-told .given .1) .rows .contents
@@ -32,7 +33,7 @@ enum-told-4 c = search needs
 
 returns-2 : tie.Need-returns-2
 unfolding bootCheck
-returns-2 c = then-stop _ _ (c .before .before .store-rule .ensures .0) (c .enum-told4 .given .1) ∙ then-go _ _ (c .before .before .before .before .before .check .ensures .0) (c .before .before .before .enum-told .given .1)
+returns-2 c = answered (boot-passed _ _ (c .before .before .before .before .before .before .before .before .args .device)) (then-stop _ _ (c .before .before .store-rule .ensures .0) (c .enum-told4 .given .1) ∙ then-go _ _ (c .before .before .before .before .before .check .ensures .0) (c .before .before .before .enum-told .given .1))
 
 whole-requires : tie.Need-whole-requires
 whole-requires c κs = (c .before .before .before .before .before .check .ensures .1 (c .before .before .before .enum-told .given .1) .rows, c .before .before .store-rule .ensures .1 (c .enum-told3 .given .1))
@@ -45,15 +46,15 @@ enum-told-6 c = search needs
 
 returns-3 : tie.Need-returns-3
 unfolding bootCheck
-returns-3 c = then-stop _ _ (c .before .before .whole .ensures) (c .enum-told6 .given .1) ∙ then-go _ _ (c .before .before .before .before .before .store-rule .ensures .0) (c .before .before .before .enum-told3 .given .1) ∙ then-go _ _ (c .before .before .before .before .before .before .before .before .check .ensures .0) (c .before .before .before .before .before .before .enum-told .given .1)
+returns-3 c = answered (boot-passed _ _ (c .before .before .before .before .before .before .before .before .before .before .before .args .device)) (then-stop _ _ (c .before .before .whole .ensures) (c .enum-told6 .given .1) ∙ then-go _ _ (c .before .before .before .before .before .store-rule .ensures .0) (c .before .before .before .enum-told3 .given .1) ∙ then-go _ _ (c .before .before .before .before .before .before .before .before .check .ensures .0) (c .before .before .before .before .before .before .enum-told .given .1))
 
 returns-4 : tie.Need-returns-4
 unfolding bootCheck
-returns-4 c = must-refuses _ (ap not (c .if1 .taken)) ∙ then-go _ _ (c .before .before .before .whole .ensures) (c .before .enum-told5 .given .1) ∙ then-go _ _ (c .before .before .before .before .before .before .store-rule .ensures .0) (c .before .before .before .before .enum-told3 .given .1) ∙ then-go _ _ (c .before .before .before .before .before .before .before .before .before .check .ensures .0) (c .before .before .before .before .before .before .before .enum-told .given .1)
+returns-4 c = answered (boot-passed _ _ (c .before .before .before .before .before .before .before .before .before .before .before .before .args .device)) (must-refuses _ (ap not (c .if1 .taken)) ∙ then-go _ _ (c .before .before .before .whole .ensures) (c .before .enum-told5 .given .1) ∙ then-go _ _ (c .before .before .before .before .before .before .store-rule .ensures .0) (c .before .before .before .before .enum-told3 .given .1) ∙ then-go _ _ (c .before .before .before .before .before .before .before .before .before .check .ensures .0) (c .before .before .before .before .before .before .before .enum-told .given .1))
 
 returns-5 : tie.Need-returns-5
 unfolding bootCheck
-returns-5 c = must-accepts _ (ap not (c .if1 .left)) ∙ then-go _ _ (c .before .before .before .whole .ensures) (c .before .enum-told5 .given .1) ∙ then-go _ _ (c .before .before .before .before .before .before .store-rule .ensures .0) (c .before .before .before .before .enum-told3 .given .1) ∙ then-go _ _ (c .before .before .before .before .before .before .before .before .before .check .ensures .0) (c .before .before .before .before .before .before .before .enum-told .given .1)
+returns-5 c = answered (boot-passed _ _ (c .before .before .before .before .before .before .before .before .before .before .before .before .args .device)) (must-accepts _ (ap not (c .if1 .left)) ∙ then-go _ _ (c .before .before .before .whole .ensures) (c .before .enum-told5 .given .1) ∙ then-go _ _ (c .before .before .before .before .before .before .store-rule .ensures .0) (c .before .before .before .before .enum-told3 .given .1) ∙ then-go _ _ (c .before .before .before .before .before .before .before .before .before .check .ensures .0) (c .before .before .before .before .before .before .before .enum-told .given .1))
 
 pub boot-check-spec : {M : Type 1} → statement M
 boot-check-spec =

@@ -1,4 +1,4 @@
--- `recovered` ends: at most 99 steps are made. The copy keeps its 24 words. Assumes nothing.
+-- `recovered` ends: at most 99 steps are made. The copy keeps its 25 words. Assumes nothing.
 use Prim.Native.Nat.{_-_, _≤_}
 use lib.ListN.{length}
 use mathlib.Core.Path.{_≡_}
@@ -7,7 +7,7 @@ use Rattle.question_four.proofs.table.recovered.Statement.{statement}
 use Rattle.question_four.proofs.table.recovered.Tie as tie
 
 abbrev Inv-loop : tie.InvT-loop
-Inv-loop program copy₀ node₀ i₀ copy node i = (i ≤ 99) × (24 ≡ length copy)
+Inv-loop program copy₀ node₀ i₀ copy node i = (i ≤ 99) × (25 ≡ length copy)
 
 abbrev μ-loop : tie.MeasureT-loop
 μ-loop program copy₀ node₀ i₀ copy node i = 99 - i

@@ -22,14 +22,14 @@ add-result c = search needs
 
 returns : tie.Need-returns
 unfolding recoverySteps
-returns c = ap (λ (n : ℕ). n + 3) (c .before .word2 .ensures) ∙ sym (pick-true _ _ (eq-eqb _ _ (sym (c .before .before .word .ensures) ∙ c .if1 .taken)))
+returns c = ap (λ (n : ℕ). n + 4) (c .before .word2 .ensures) ∙ sym (pick-true _ _ (eq-eqb _ _ (sym (c .before .before .word .ensures) ∙ c .if1 .taken)))
 
 add-result-2 : tie.Need-add-result-2
 add-result-2 c = search needs
 
 returns-2 : tie.Need-returns-2
 unfolding recoverySteps
-returns-2 c = ap (λ (n : ℕ). n + 2) (c .before .before .word2 .ensures) ∙ sym (pick-false _ _ (ne-eqb _ _ (λ e. c .before .if1 .left (c .before .before .before .word .ensures ∙ e))) ∙ pick-true _ _ (eq-eqb _ _ (sym (c .before .before .before .word .ensures) ∙ c .if2 .taken)))
+returns-2 c = ap (λ (n : ℕ). n + 3) (c .before .before .word2 .ensures) ∙ sym (pick-false _ _ (ne-eqb _ _ (λ e. c .before .if1 .left (c .before .before .before .word .ensures ∙ e))) ∙ pick-true _ _ (eq-eqb _ _ (sym (c .before .before .before .word .ensures) ∙ c .if2 .taken)))
 
 returns-3 : tie.Need-returns-3
 unfolding recoverySteps

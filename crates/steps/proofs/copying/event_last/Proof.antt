@@ -30,15 +30,31 @@ returns c = simp (c .before .before .if1 .taken, c .stored .ensures)
 slice-write-store-2 : tie.Need-slice-write-store-2
 slice-write-store-2 c = search needs
 
-turned-on-requires : tie.Need-turned-on-requires
-turned-on-requires c κs = search needs
+add-t13 : tie.Need-add-t13
+add-t13 c = search needs
+
+stored-requires-2 : tie.Need-stored-requires-2
+stored-requires-2 c κs = search needs
 
 same-length-2 : tie.Need-same-length-2
 same-length-2 c = search needs
 
 returns-2 : tie.Need-returns-2
 unfolding storing eventLastStores withPlace pick settled storedWord index fresh
-returns-2 c = let e : c .before .before .before .before .args .last ≡ 1 = omega arith in rw (e, c .turned-on .ensures .0, c .turned-on .ensures .1)
+returns-2 c = rw (c .before .if2 .taken, c .stored2 .ensures)
+
+slice-write-store-3 : tie.Need-slice-write-store-3
+slice-write-store-3 c = search needs
+
+turned-on-requires : tie.Need-turned-on-requires
+turned-on-requires c κs = search needs
+
+same-length-3 : tie.Need-same-length-3
+same-length-3 c = search needs
+
+returns-3 : tie.Need-returns-3
+unfolding storing eventLastStores withPlace pick settled storedWord index fresh
+returns-3 c = let e : c .before .before .before .before .before .args .last ≡ 2 = omega (arith, c .before .before .before .if1 .left, c .before .before .if2 .left) in rw (e, c .turned-on .ensures .0, c .turned-on .ensures .1)
 
 pub event-last-spec : {M : Type 1} → statement M
 event-last-spec =
@@ -51,6 +67,11 @@ event-last-spec =
     same-length
     returns
     slice-write-store-2
-    turned-on-requires
+    add-t13
+    stored-requires-2
     same-length-2
-    returns-2)
+    returns-2
+    slice-write-store-3
+    turned-on-requires
+    same-length-3
+    returns-3)

@@ -49,15 +49,31 @@ returns-2 c = rw (c .before .before .if2 .taken, c .stored2 .ensures)
 slice-write-store-3 : tie.Need-slice-write-store-3
 slice-write-store-3 c = search needs
 
-turned-on-requires : tie.Need-turned-on-requires
-turned-on-requires c κs = search needs
+add-t18 : tie.Need-add-t18
+add-t18 c = search needs
+
+stored-requires-3 : tie.Need-stored-requires-3
+stored-requires-3 c κs = search needs
 
 same-length-3 : tie.Need-same-length-3
 same-length-3 c = search needs
 
 returns-3 : tie.Need-returns-3
 unfolding storing taskLastStores withPlace pick settled storedWord index fresh
-returns-3 c = let e : c .before .before .before .before .before .args .last ≡ 2 = omega arith in rw (e, c .turned-on .ensures .0, c .turned-on .ensures .1)
+returns-3 c = rw (c .before .if3 .taken, c .stored3 .ensures)
+
+slice-write-store-4 : tie.Need-slice-write-store-4
+slice-write-store-4 c = search needs
+
+turned-on-requires : tie.Need-turned-on-requires
+turned-on-requires c κs = search needs
+
+same-length-4 : tie.Need-same-length-4
+same-length-4 c = search needs
+
+returns-4 : tie.Need-returns-4
+unfolding storing taskLastStores withPlace pick settled storedWord index fresh
+returns-4 c = let e : c .before .before .before .before .before .before .args .last ≡ 3 = omega (arith, c .before .before .before .before .if1 .left, c .before .before .before .if2 .left, c .before .before .if3 .left) in rw (e, c .turned-on .ensures .0, c .turned-on .ensures .1)
 
 pub task-last-spec : {M : Type 1} → statement M
 task-last-spec =
@@ -76,6 +92,11 @@ task-last-spec =
     same-length-2
     returns-2
     slice-write-store-3
-    turned-on-requires
+    add-t18
+    stored-requires-3
     same-length-3
-    returns-3)
+    returns-3
+    slice-write-store-4
+    turned-on-requires
+    same-length-4
+    returns-4)
