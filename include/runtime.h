@@ -120,7 +120,7 @@
 #define RUNTIME_STORE_PENDING_OPEN 13
 #define RUNTIME_STORE_HEAD 14
 #define RUNTIME_STORE_TAIL 15
-#define RUNTIME_STORE_BEGUN 16        /* the kind of body that is chosen and not yet committed */
+#define RUNTIME_STORE_BEGUN 16        /* in phase 0: the kind of body that is chosen and not yet committed */
 
 #define RUNTIME_STORE_MEMORY 17 /* the first memory word */
 

@@ -112,7 +112,7 @@ pub const STORE_PENDING_HEAD: usize = 12; // phase 2
 pub const STORE_PENDING_OPEN: usize = 13;
 pub const STORE_HEAD: usize = 14;
 pub const STORE_TAIL: usize = 15;
-pub const STORE_BEGUN: usize = 16; // the kind of body that is chosen and not yet committed
+pub const STORE_BEGUN: usize = 16; // in phase 0: the kind of body that is chosen and not yet committed
 
 pub const STORE_MEMORY: usize = 17; // the first memory word
 
