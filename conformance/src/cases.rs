@@ -112,7 +112,7 @@ impl<'a> Bench<'a> {
 }
 
 /// A program of one task with these instructions.
-fn one_task(memory: u16, code: &[(u16, u16, u16, u16)]) -> Vec<u16> {
+pub(crate) fn one_task(memory: u16, code: &[(u16, u16, u16, u16)]) -> Vec<u16> {
     let mut program = vec![0xC0B1, 1, 0, memory, 0, 0, 9, code.len() as u16, 0];
     for (opcode, a, b, k) in code {
         program.push(opcode * 256 + a * 16 + b);

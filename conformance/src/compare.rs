@@ -8,6 +8,7 @@ use crate::reference::PHASE;
 use crate::runtime::*;
 use crate::scenario::{outcome_text, Call, Machine, Outcome, Scenario, CALL_KINDS, CALL_NAMES, LARGE_BUDGET};
 use crate::seven::Several;
+use crate::shift::situations::Shifts;
 
 /// Where and how two implementations differ, or one breaks a demand.
 #[derive(Clone, Debug)]
@@ -51,6 +52,8 @@ pub struct Counts {
     pub lines: Lines,
     /// Word 16.
     pub begun: Begun,
+    /// SHR of every word by every k, apart from the lists.
+    pub shifts: Shifts,
 }
 
 /// Above every number of the papers.
@@ -124,6 +127,7 @@ impl Counts {
         self.several.add_all(&other.several);
         self.lines.add_all(&other.lines);
         self.begun.add_all(&other.begun);
+        self.shifts.add_all(&other.shifts);
     }
 
     /// The counts that are one number each, with their names.
@@ -275,13 +279,19 @@ fn broken_refusal(side: &str, outcome: &Outcome, before: &Before, machine: &Mach
 }
 
 /// Two implementations, each with its words.
-struct Pair<'a> {
-    first: (&'a dyn Runtime, Machine),
-    second: (&'a dyn Runtime, Machine),
+pub(crate) struct Pair<'a> {
+    pub first: (&'a dyn Runtime, Machine),
+    pub second: (&'a dyn Runtime, Machine),
     before: Before,
 }
 
-impl Pair<'_> {
+impl<'a> Pair<'a> {
+    /// Before formatting.
+    pub fn new(first: &'a dyn Runtime, second: &'a dyn Runtime, scenario: &Scenario) -> Pair<'a> {
+        let machine = Machine::new(scenario);
+        Pair { first: (first, machine.clone()), second: (second, machine), before: Before::default() }
+    }
+
     /// Carry out a change on both sides.
     fn change(&mut self, call: &Call, [first, second]: &mut [Machine; 2]) {
         self.first.1.change(call, first);
@@ -289,7 +299,7 @@ impl Pair<'_> {
     }
 
     /// Perform one call on both sides, tell what they gave, and compare.
-    fn call(&mut self, index: Option<usize>, call: &Call, tell: Tell) -> Result<Outcome, Difference> {
+    pub fn call(&mut self, index: Option<usize>, call: &Call, tell: Tell) -> Result<Outcome, Difference> {
         let ((first, left), (second, right)) = ((self.first.0, &mut self.first.1), (self.second.0, &mut self.second.1));
         let differ = |text: String| Difference { index, text };
         self.before.take(left);
@@ -334,8 +344,7 @@ pub fn drive_telling(
     tell: Tell,
 ) -> Result<(), Difference> {
     counts.scenarios += 1;
-    let machine = Machine::new(scenario);
-    let mut pair = Pair { first: (first, machine.clone()), second: (second, machine), before: Before::default() };
+    let mut pair = Pair::new(first, second, scenario);
     let format = Call::Format { log_pairs: scenario.log_pairs, queue_records: scenario.queue_records };
     for call in [Call::Check, format] {
         let outcome = pair.call(None, &call, tell)?;

@@ -19,6 +19,7 @@ pub mod selfrun;
 pub mod serial;
 pub mod seven;
 pub mod sheet;
+pub mod shift;
 pub mod shorten;
 pub mod standin;
 pub mod turn;

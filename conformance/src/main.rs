@@ -1,8 +1,8 @@
 //! The self-run: the reference over generated programs and schedules. Undamaged lists are held against the
 //! serial run after every call; all lists, damaged ones too, go through the comparing driver.
 //!
-//!     conformance [--seed S] [--calls N]   the cases and the fixed lists, then scenarios from seed S on, until N calls
-//!                                          of these are made
+//!     conformance [--seed S] [--calls N]   the cases, the fixed lists and SHR of every word by every k, then scenarios
+//!                                          from seed S on, until N calls of these are made
 //!     conformance --replay FILE            one scenario in its text form, as a failure prints it (-: standard input),
 //!                                          call by call
 //!     ... --mistake NAME                   with an implementation that has this mistake as the second side

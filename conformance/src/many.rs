@@ -1,12 +1,12 @@
 //! Many scenarios, one after another, for two implementations: each of them alone over undamaged lists, both
-//! compared over fixed, undamaged and damaged ones, the counts, and the report of a failure with its shortened list
-//! and the command line that replays it. A program that puts another implementation beside the reference needs
-//! `many` and `replay`, or `command`, which has both; each ends in a `Verdict`.
+//! compared over fixed, undamaged and damaged ones and over SHR of every word by every k, the counts, and the report of a
+//! failure with its shortened list and the command line that replays it. A program that puts another implementation
+//! beside the reference needs `many` and `replay`, or `command`, which has both; each ends in a `Verdict`.
 
 use crate::compare::{self, Counts, Difference, POSSIBLE};
 use crate::runtime::{Answer, Runtime};
 use crate::scenario::{call_text, outcome_text, Call, Outcome, Scenario, Table, CALL_NAMES};
-use crate::{begun, cases, generate, lines, selfrun, seven, shorten};
+use crate::{begun, cases, generate, lines, selfrun, seven, shift, shorten};
 use std::io::Read;
 use std::time::Instant;
 
@@ -57,22 +57,26 @@ fn command_line() -> String {
     line
 }
 
+/// Print a list as its replay, with where it fails.
+fn print_replay(list: &Scenario, difference: Option<&Difference>) {
+    println!("{} --replay - <<'END'", command_line());
+    print!("{}", list.to_text());
+    if let Some(difference) = difference {
+        print_difference(list, difference);
+    }
+    println!("END");
+}
+
 /// Print a failure with its shortened list.
 fn report(what: &str, scenario: &Scenario, difference: &Difference, drive: Drive) {
-    let command = command_line();
     println!("FAILED: {what}, seed {}", scenario.seed);
     print_difference(scenario, difference);
     println!("the whole list again:\n");
-    println!("{command} --seed {} --calls 1\n", scenario.seed);
+    println!("{} --seed {} --calls 1\n", command_line(), scenario.seed);
     let fails = |candidate: &Scenario| drive(candidate, &mut Counts::default()).is_err();
     let short = shorten::shorten(scenario, &fails);
     println!("shortened from {} calls to {}; this again:\n", scenario.calls.len(), short.calls.len());
-    println!("{command} --replay - <<'END'");
-    print!("{}", short.to_text());
-    if let Err(difference) = drive(&short, &mut Counts::default()) {
-        print_difference(&short, &difference);
-    }
-    println!("END");
+    print_replay(&short, drive(&short, &mut Counts::default()).err().as_ref());
 }
 
 fn print_counts(undamaged: &Counts, damaged: &Counts, all: &Counts) {
@@ -91,6 +95,8 @@ fn print_counts(undamaged: &Counts, damaged: &Counts, all: &Counts) {
     print!("{}", all.begun.table());
     println!();
     print!("{}", all.lines.table());
+    println!();
+    print!("{}", all.shifts.table());
     println!();
 }
 
@@ -121,6 +127,7 @@ pub fn missing(all: &Counts) -> Vec<String> {
     lines.extend(all.several.missing());
     lines.extend(all.begun.missing());
     lines.extend(all.lines.missing());
+    lines.extend(all.shifts.missing());
     lines
 }
 
@@ -181,6 +188,18 @@ impl Lists<'_> {
         true
     }
 
+    /// SHR of every word by every k.
+    fn shifts(&mut self) -> bool {
+        let driven = shift::drive(self.first, self.second, &mut self.undamaged.shifts);
+        if let Err(failure) = &driven {
+            println!("FAILED: {}", failure.what);
+            println!("# {}", failure.text);
+            println!("this again:\n");
+            print_replay(&failure.list, failure.difference.as_ref());
+        }
+        driven.is_ok()
+    }
+
     fn seed(&mut self, seed: u64) -> bool {
         let Lists { first, second, undamaged, damaged } = self;
         let first_alone = |list: &Scenario, counts: &mut Counts| selfrun::drive(*first, list, counts);
@@ -204,13 +223,13 @@ impl Lists<'_> {
     }
 }
 
-/// The fixed lists, then scenarios from a seed on until so many calls of these are made.
+/// The fixed lists and SHR of every word by every k, then scenarios from a seed on until so many calls of these are made.
 pub fn many(first: &dyn Runtime, second: &dyn Runtime, first_seed: u64, calls: u64) -> Verdict {
     let start = Instant::now();
     let mut lists = Lists { first, second, undamaged: Counts::default(), damaged: Counts::default() };
     let mut seed = first_seed;
     println!("seed {seed}");
-    if !lists.fixed() {
+    if !lists.fixed() || !lists.shifts() {
         return Verdict::Failed;
     }
     let fixed = lists.all_calls();
@@ -226,11 +245,12 @@ pub fn many(first: &dyn Runtime, second: &dyn Runtime, first_seed: u64, calls: u
     println!("All lists: both sides compared after every call. Undamaged lists: for each side demand 3 by recovering");
     println!("a copy, after every call and every step of a run, a run held against single steps, and whose turn it is.");
     println!("fixed lists, several rules of 7 broken at once, word 16 and line tables: {fixed} calls");
+    println!("SHR of every word by every k, and by every other k: {} calls", all.shifts.calls);
     println!(
         "these and seeds {first_seed} to {}: {} programs, {} calls compared in {:.1} s",
         seed - 1,
-        all.scenarios,
-        all.all_calls(),
+        all.scenarios + shift::PROGRAMS,
+        all.all_calls() + all.shifts.calls,
         start.elapsed().as_secs_f64()
     );
     judge(&all)

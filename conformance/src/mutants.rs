@@ -6,6 +6,7 @@ use crate::lines;
 use crate::reference::*;
 use crate::runtime::*;
 use crate::scenario::{Call, Outcome};
+use crate::shift;
 
 #[derive(Clone, Copy, PartialEq, Eq, Debug)]
 pub enum Mistake {
@@ -27,8 +28,19 @@ pub enum Mistake {
     // The word told as stored.
     ValueToldAsAddress,
     SameValueNotTold,
-    // Instructions.
+    // SHR: how it rounds, what it divides and by what, and which k pass; the last ones are wrong for one word or one k.
     ShiftTowardsZero,
+    ShiftToNearest,
+    ShiftUnsigned,
+    ShiftOneTooFar,
+    ShiftZeroHalves,
+    ShiftFifteenAsFourteen,
+    ShiftModuloSixteen,
+    ShiftLowestWordToZero,
+    ShiftOneWordWrong,
+    ShiftOneWordWrongInRun,
+    ShiftOneLargePasses,
+    // Other instructions.
     UnsignedLess,
     IndexWraps,
     LoadPassesLog,
@@ -171,7 +183,7 @@ pub enum Mistake {
     StoreBeforeTable,
 }
 
-pub const MISTAKES: [Mistake; 145] = [
+pub const MISTAKES: [Mistake; 155] = [
     Mistake::HeadPlusOneOnRedo,
     Mistake::TailBeforeDatum,
     Mistake::PhaseBeforeTask,
@@ -188,6 +200,16 @@ pub const MISTAKES: [Mistake; 145] = [
     Mistake::ValueToldAsAddress,
     Mistake::SameValueNotTold,
     Mistake::ShiftTowardsZero,
+    Mistake::ShiftToNearest,
+    Mistake::ShiftUnsigned,
+    Mistake::ShiftOneTooFar,
+    Mistake::ShiftZeroHalves,
+    Mistake::ShiftFifteenAsFourteen,
+    Mistake::ShiftModuloSixteen,
+    Mistake::ShiftLowestWordToZero,
+    Mistake::ShiftOneWordWrong,
+    Mistake::ShiftOneWordWrongInRun,
+    Mistake::ShiftOneLargePasses,
     Mistake::UnsignedLess,
     Mistake::IndexWraps,
     Mistake::LoadPassesLog,
@@ -319,6 +341,16 @@ pub const MISTAKES: [Mistake; 145] = [
     Mistake::StoreBeforeTable,
 ];
 
+/// The mistakes about SHR.
+pub fn mistakes_about_shifts() -> &'static [Mistake] {
+    &MISTAKES[Mistake::ShiftTowardsZero as usize..=Mistake::ShiftOneLargePasses as usize]
+}
+
+/// Of these, the mistakes of one word or one k, which random lists don't meet.
+pub fn mistakes_in_one_shift() -> &'static [Mistake] {
+    &MISTAKES[Mistake::ShiftLowestWordToZero as usize..=Mistake::ShiftOneLargePasses as usize]
+}
+
 /// The mistakes about which of several broken rules 7 names.
 pub fn mistakes_about_the_lowest() -> &'static [Mistake] {
     &MISTAKES[Mistake::HighestAtBoot as usize..=Mistake::PostLooksAtAll as usize]
@@ -366,7 +398,7 @@ fn sound(program: &[u16], store: &mut [u16]) -> bool {
 }
 
 /// The instruction that a running body stands at, in a sound program.
-fn instruction(program: &[u16], device: &Device) -> Option<(u16, usize, usize, u16)> {
+pub(crate) fn instruction(program: &[u16], device: &Device) -> Option<(u16, usize, usize, u16)> {
     let (body, index) = match device.place {
         Place::Running { body, instruction, .. } => (body, instruction as usize),
         Place::HalfSave { body, instruction } => (body, instruction as usize),
@@ -608,20 +640,13 @@ impl Mutant {
                 let step = Reference.step(program, store, device, totals);
                 Some(StepAnswer { stored: step.stored.filter(|_| before != store), ..step })
             }
-            Mistake::ShiftTowardsZero
-            | Mistake::UnsignedLess
-            | Mistake::IndexWraps
-            | Mistake::LoadPassesLog
-            | Mistake::LastPairFound => {
+            Mistake::UnsignedLess | Mistake::IndexWraps | Mistake::LoadPassesLog | Mistake::LastPairFound => {
                 let step = Reference.step(program, store, device, totals);
                 let answer = step.answer;
                 let Some((opcode, a, b, k)) = instruction(program, &old) else { return Some(step) };
                 let Place::Running { body, instruction: index, .. } = old.place else { return Some(step) };
                 let (ra, rb) = (old.registers[a], old.registers[b]);
                 let next = Place::Running { body, instruction: index.wrapping_add(1), ending: 0 };
-                if answer == Answer::Worked && self.0 == Mistake::ShiftTowardsZero && opcode == SHR {
-                    device.registers[a] = (ra as i16 as i32 / (1 << k)) as u16;
-                }
                 if answer == Answer::Worked && self.0 == Mistake::UnsignedLess && opcode == JLT {
                     device.place =
                         if ra < rb { Place::Running { body, instruction: k, ending: 0 } } else { next };
@@ -649,6 +674,10 @@ impl Mutant {
                     }
                 }
                 Some(step)
+            }
+            Mistake::ShiftOneWordWrongInRun => None,
+            _ if mistakes_about_shifts().contains(&self.0) => {
+                Some(shift::mutants::step(self.0, program, store, device, totals))
             }
             _ if mistakes_about_begun().contains(&self.0) => {
                 begun::mutants::step(self.0, begun::mutants::Node { program, store, device, totals })
@@ -776,20 +805,24 @@ impl Mutant {
                 return step;
             }
         }
+        if self.0 == Mistake::ShiftOneWordWrongInRun {
+            return shift::mutants::step(self.0, program, store, device, totals);
+        }
         self.own_step(program, store, device, totals)
     }
 }
 
 impl Runtime for Mutant {
     fn check(&self, program: &[u16]) -> Answer {
-        Reference.check(program)
+        Reference.check(&shift::mutants::read(self.0, program))
     }
 
     fn format(&self, program: &[u16], log_pairs: u16, queue_records: u16, store: &mut [u16]) -> Answer {
-        Reference.format(program, log_pairs, queue_records, store)
+        Reference.format(&shift::mutants::read(self.0, program), log_pairs, queue_records, store)
     }
 
     fn boot(&self, program: &[u16], store: &mut [u16], device: &mut Device) -> Answer {
+        let program = &*shift::mutants::read(self.0, program);
         let old = *device;
         let answer = match self.0 {
             Mistake::EventInOpenTransaction => as_if_closed(store, |store| Reference.boot(program, store, device)),

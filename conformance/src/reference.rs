@@ -91,8 +91,8 @@ const OPCODE_RULES: [OpcodeRule; 17] = [
     OpcodeRule { last: true, stands: In::Events, ..rule(false, false, K::Unused) }, // DONE
 ];
 
-const POWERS_OF_TWO: [i32; 16] =
-    [1, 2, 4, 8, 16, 32, 64, 128, 256, 512, 1024, 2048, 4096, 8192, 16384, 32768];
+/// SHR's k is below this.
+const SHIFTS: usize = 16;
 
 /// The program's table of contents, words 1 to 5, after refusals 1 to 3.
 struct Head {
@@ -248,7 +248,7 @@ fn use_instruction(
     let bound = match rule.k {
         K::Unused => 1,
         K::Any => 65536,
-        K::Shift => POWERS_OF_TWO.len(),
+        K::Shift => SHIFTS,
         K::Memory => head.memory,
         K::Instruction => row.count,
         K::Task => head.tasks,
@@ -863,6 +863,16 @@ fn signed(word: u16) -> i32 {
     }
 }
 
+/// 2 to the k: 1, doubled k times.
+#[inline(always)]
+fn power_of_two(k: u16) -> i32 {
+    let mut power = 1;
+    for _ in 0..k {
+        power *= 2;
+    }
+    power
+}
+
 /// One instruction, neither GO nor DONE.
 #[inline(always)]
 fn execute(look: &Look, mut node: Node, stand: Stand, instruction: &Instruction) -> Result<Answer, Refusal> {
@@ -894,7 +904,7 @@ fn execute(look: &Look, mut node: Node, stand: Stand, instruction: &Instruction)
         XOR => registers[a] = ra ^ rb,
         SHR => {
             // The power is positive, so the Euclidean quotient is the one rounded down.
-            let quotient = signed(ra).div_euclid(POWERS_OF_TWO[k as usize]);
+            let quotient = signed(ra).div_euclid(power_of_two(k));
             registers[a] = (quotient & 0xFFFF) as u16;
         }
         LOAD | LOADX => {

@@ -4,9 +4,10 @@
 use conformance::compare::{self, Counts};
 use conformance::generate;
 use conformance::many::{fixed_lists, missing, replay_line};
-use conformance::mutants::{Mistake, Mutant};
+use conformance::mutants::{mistakes_about_shifts, Mistake, Mutant};
 use conformance::reference::Reference;
 use conformance::scenario::{Call, Machine, Scenario};
+use conformance::shift;
 use std::io::Write;
 use std::process::{Command, Stdio};
 
@@ -31,6 +32,7 @@ fn few_calls_are_too_few() {
     for list in fixed_lists() {
         compare::drive(&Reference, &Reference, &list, &mut counts).unwrap();
     }
+    shift::drive(&Reference, &Reference, &mut counts.shifts).unwrap();
     let fixed = counts.all_calls();
     for damaged in [false, true] {
         compare::drive(&Reference, &Reference, &generate::scenario(1, damaged), &mut counts).unwrap();
@@ -56,6 +58,21 @@ fn a_difference_fails_however_few_the_calls() {
     let (said, status) = conformance(&["--seed", "1", "--calls", "1", "--mistake", "TwelveOneRule"], "");
     assert_eq!(status, 1);
     assert!(said.contains("FAILED: comparison of a fixed list") && said.contains("refused 7, place 12 0"), "{said}");
+}
+
+#[test]
+fn a_shift_that_fails_is_replayed() {
+    for mistake in mistakes_about_shifts() {
+        let mistake = format!("{mistake:?}");
+        let (said, status) = conformance(&["--seed", "1", "--calls", "1", "--mistake", &mistake], "");
+        assert_eq!(status, 1);
+        assert!(said.contains("\nFAILED: SHR ") && !said.contains("Nothing differed, but"), "{said}");
+        let (_, list) = said.split_once("--replay - <<'END'\n").unwrap();
+        let (list, _) = list.split_once("END\n").unwrap();
+        let (said, status) = conformance(&["--mistake", &mistake, "--replay", "-"], list);
+        assert_eq!(status, 1);
+        assert!(said.contains("\nthe sides part here: the "), "{said}");
+    }
 }
 
 const LIST: &str = "\

@@ -4,7 +4,7 @@
 use conformance::compare::{self, Counts};
 use conformance::foreign::{Foreign, Functions, NO_STORE};
 use conformance::generate::scenario;
-use conformance::mutants::{Mistake, Mutant, MISTAKES};
+use conformance::mutants::{mistakes_in_one_shift, Mistake, Mutant, MISTAKES};
 use conformance::reference::Reference;
 use conformance::scenario::Scenario;
 use conformance::{selfrun, shorten, standin};
@@ -28,7 +28,8 @@ fn caught_by_comparison(mistake: Mistake) -> Option<(u64, Scenario)> {
 
 #[test]
 fn every_mistake_is_caught_by_comparison() {
-    for mistake in MISTAKES {
+    // Those of one word or one k are for tests/shift.rs.
+    for mistake in MISTAKES.into_iter().filter(|mistake| !mistakes_in_one_shift().contains(mistake)) {
         let caught = caught_by_comparison(mistake);
         let (calls, short) = caught.unwrap_or_else(|| panic!("{mistake:?} isn't caught"));
         println!("{mistake:?}: caught after {calls} calls, {} calls are enough", short.calls.len());

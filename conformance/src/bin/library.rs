@@ -1,7 +1,7 @@
 //! The reference against the library of the repository, call by call.
 //!
-//!     library [--seed S] [--calls N]   the cases and the fixed lists, then scenarios from seed S on, until N calls of
-//!                                      these are made
+//!     library [--seed S] [--calls N]   the cases, the fixed lists and SHR of every word by every k, then scenarios
+//!                                      from seed S on, until N calls of these are made
 //!     library --replay FILE            one scenario in its text form, as a failure prints it (-: standard input),
 //!                                      call by call
 //!

@@ -1,3 +1,2 @@
--- The plain readings of SHR and JLT, and tests that are computed over a range of numbers.
-pub mod Range
+-- The plain readings of SHR and JLT.
 pub mod TwosComplement

@@ -5,26 +5,6 @@ ghost use lib.IntN.{pos};
 ghost use lib.Signed.{mag, shrZ};
 ghost use Rattle.model.specs.Program.{signed, unsigned, shifted, less};
 
-// "The powers of two that SHR divides by are a constant table of sixteen."
-const POWERS: [i32; 16] = [
-    1,
-    2,
-    4,
-    8,
-    16,
-    32,
-    64,
-    128,
-    256,
-    512,
-    1024,
-    2048,
-    4096,
-    8192,
-    16384,
-    32768,
-];
-
 // The number that a word is as two's complement.
 fn signed(word: u16) -> i32
     ensures { λ r. ⌜ r ≡ signed word ⌝ }
@@ -48,12 +28,12 @@ fn unsigned(value: i32) -> u16
     }
 }
 
-// A power of two.
+// "SHR shall find its power of two by computing"
 fn power(exponent: u16) -> i32
     requires { ⌜ exponent < 16 ⌝ }
     ensures { λ r. ⌜ r ≡ pos (2 ^ exponent) ⌝ }
 {
-    POWERS[exponent as usize]
+    1 << exponent
 }
 
 // A number divided by a power of two, rounded down. Division of negative numbers rounds toward zero: so one is

@@ -1,37 +1,31 @@
--- `signed::power` meets its contract: the rule of the table, at each of its sixteen places. Assumes nothing.
-use Prim.Native.Nat.{ℕ, _^_, zero-le}
-use mathlib.Core.List.{List, [], _∷_}
-use mathlib.Core.Path.{_≡_, refl}
+-- `signed::power` meets its contract: one, shifted left by fewer than sixteen places, stays inside the machine's number, which is
+-- read back whole. Assumes nothing.
+use Prim.Native.Nat.{ℕ, _*_, _%_, _^_, _<_}
+use mathlib.Core.Path.{_≡_}
+use native.Mathlib.Nat.{one-mul}
 use native.Mathlib.Omega.{arith}
 use borrow.Author.Needs.{needs}
-use lib.IntN.{ℤ, pos}
-use lib.ListN.{getD}
+use lib.IntN.{pos}
+use lib.Pow.{pow-lt, shl-exact}
 use mir.Syntax.{w32}
-use mir.Val.{toZ, ofZ}
-use Rattle.signed.proofs.Range.{Each, within}
+use mir.Val.{toZ}
+use Rattle.signed.proofs.TwosComplement.{read-word}
 use Rattle.signed.proofs.power.Statement.{statement}
 use Rattle.signed.proofs.power.Tie as tie
 
-abbrev powers : List ℤ
-powers =
-    pos 1 ∷ pos 2 ∷ pos 4 ∷ pos 8 ∷ pos 16 ∷ pos 32 ∷ pos 64 ∷ pos 128 ∷ pos 256
-    ∷ pos 512 ∷ pos 1024 ∷ pos 2048 ∷ pos 4096 ∷ pos 8192 ∷ pos 16384 ∷ pos 32768 ∷ []
+one-shifted : (k : ℕ) → k < 16 → toZ w32 ((1 * 2 ^ k) % 2 ^ 32) ≡ pos (2 ^ k)
+one-shifted k h =
+    rw (shl-exact {a = 1} 1 k 32 (omega arith) (omega arith), one-mul (2 ^ k))
+    (read-word (2 ^ k) (pow-lt {i = k} {j = 16} h))
 
--- the power of two at a place
-abbrev Right : ℕ → Type 0
-Right k = toZ w32 (ofZ w32 (getD powers k (pos 0))) ≡ pos (2 ^ k)
+cast-result : tie.Need-cast-result
+cast-result c = search needs
 
-right : Each Right 0 16
-right = (refl, (refl, (refl, (refl, (refl, (refl, (refl, (refl, (refl, (refl, (refl, (refl, (refl, (refl, (refl, (refl, tt))))))))))))))))
-
-mul-result : tie.Need-mul-result
-mul-result c = search needs
-
-array-copy-out-result : tie.Need-array-copy-out-result
-array-copy-out-result c = search needs
+shl-result : tie.Need-shl-result
+shl-result c = search needs
 
 returns : tie.Need-returns
-returns c = within Right 0 16 (c .before .args .exponent) right zero-le (omega arith)
+returns c = one-shifted (c .args .exponent) (omega arith)
 
 pub power-spec : {M : Type 1} → statement M
-power-spec = tie.close (tie.spec mul-result array-copy-out-result returns)
+power-spec = tie.close (tie.spec cast-result shl-result returns)

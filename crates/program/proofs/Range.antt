@@ -1,5 +1,5 @@
 -- Ranges of numbers: what holds of each number of a range, one by one, holds of every number in it; and a number that is none
--- of a range and not below it is past it. Tables and the arms of a `match` are proved by these. Assumes nothing.
+-- of a range and not below it is past it. The arms of a `match` over opcodes are proved by these. Assumes nothing.
 use Prim.Native.Nat.{ℕ, zero, suc, _+_, _≤_, _<_}
 use mathlib.Core.Bool.{Bool, true, false}
 use mathlib.Core.Path.{_≡_, subst, refl}
