@@ -1,12 +1,13 @@
 #!/usr/bin/env python3
-"""How fast archives of the library are beside each other, wherever their code lies. The processor fetches code in lines of 64 bytes, and a
-row of `bench` moves by up to a quarter with the place in a line at which the library's code begins, which a change of the program around it
-changes, too. So each archive is measured at four places, its code beginning 0, 16, 32 and 48 bytes past a multiple of 64.
+"""How fast archives of the library are beside each other, wherever their code lies. The processor fetches code in lines of 64 bytes, and
+the place in a line at which the library's code begins can move a row of `bench` by a quarter; a change of the program around the library
+changes it, too. So each archive is measured at four places, its code beginning 0, 16, 32 and 48 bytes past a multiple of 64.
 
     tools/archives.py ARCHIVE ARCHIVE ..
 
-Prints Markdown: millions of steps a second, the archives in the order of the command line, at each place and on average. For a machine that
-does nothing else. It needs cargo, cc, ld and ar, and for each archive about three minutes.
+Prints Markdown: millions of steps a second, the archives in the order of the command line, at each place and on average, one run for
+each number: from run to run a row of one program varies by up to a tenth, so a small difference wants several. For a machine that does nothing
+else. It needs cargo, cc, ld and ar, and for each archive about three minutes.
 """
 import os
 import re
