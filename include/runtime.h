@@ -12,24 +12,26 @@
 
 /* ---- Lengths */
 
-#define RUNTIME_DEVICE_WORDS 18
+#define RUNTIME_DEVICE_WORDS 26
 #define RUNTIME_ANSWER_WORDS 5
 #define RUNTIME_STEP_ANSWER_WORDS 6 /* a step's answer tells the word stored, too */
 #define RUNTIME_TOTALS_NUMBERS 3
 #define RUNTIME_REGISTERS 8
+#define RUNTIME_BURST_WORDS 8        /* a burst: its first event, that event's data, its second event, .. */
 #define RUNTIME_LINES_ROW_WORDS 4   /* a line table's rows */
 
 /* The length of a store of M memory words, L log pairs and Q queue records. */
 #define RUNTIME_STORE_WORDS(memory_words, log_pairs, queue_records) \
     (19 + (memory_words) + 2 * (log_pairs) + 2 * (queue_records))
 
-/* ---- The largest values. The least is 1; of events, transaction numbers, lines and a line table's rows 0. */
+/* ---- The largest values. The least is 1; of events that a program has, transaction numbers, lines and a line table's rows 0. */
 
 #define RUNTIME_MAX_TASKS 32
 #define RUNTIME_MAX_EVENTS 16
 #define RUNTIME_MAX_MEMORY_WORDS 1024
 #define RUNTIME_MAX_LOG_PAIRS 64
 #define RUNTIME_MAX_QUEUE_RECORDS 32
+#define RUNTIME_MAX_BURST 4          /* events of one burst */
 #define RUNTIME_MAX_INSTRUCTIONS 256 /* of one body */
 #define RUNTIME_MAX_TRANSACTION 255
 #define RUNTIME_MAX_PROGRAM_WORDS 24726
@@ -47,15 +49,15 @@
 #define RUNTIME_ANSWER_STORED 5       /* of a step alone: the index of the store's word that it stored, even where
                                        * the value stayed the same, or RUNTIME_NO_STORE */
 
-#define RUNTIME_CASE_DONE 0           /* check, format, boot, post, cut; lines_check; raise: the event was posted */
+#define RUNTIME_CASE_DONE 0           /* check, format, boot, post, burst, cut; lines_check; raise: the event was posted */
 #define RUNTIME_CASE_CHOSEN 1         /* step: a body, with its kind and number */
 #define RUNTIME_CASE_WORKED 2         /* step */
 #define RUNTIME_CASE_STORED 3         /* step */
 #define RUNTIME_CASE_COMMITTED 4      /* step: a body, with its kind and number */
-#define RUNTIME_CASE_ACCEPTED 5       /* step */
+#define RUNTIME_CASE_ACCEPTED 5       /* step: every event of the handler's burst */
 #define RUNTIME_CASE_REFUSED 6        /* all but cut: the refusal's number and place */
 #define RUNTIME_CASE_SPENT 7          /* run */
-#define RUNTIME_CASE_NO_DEVICE 8      /* boot, step, post, run, raise: the device's words stand for no device state */
+#define RUNTIME_CASE_NO_DEVICE 8      /* boot, step, post, burst, run, raise: the device's words stand for no device state */
 #define RUNTIME_CASE_NOTHING_POSTED 9 /* raise: the line has no rows, or its row has no event */
 
 #define RUNTIME_KIND_TASK 0
@@ -74,11 +76,11 @@
 #define RUNTIME_REFUSAL_INSTRUCTION 5    /* place: body, instruction */
 #define RUNTIME_REFUSAL_STORE_CONTENTS 6 /* contents or length, or unlike the program's memory words */
 #define RUNTIME_REFUSAL_CONTROL 7        /* control words, log addresses, records; place: the lowest word of a broken rule */
-#define RUNTIME_REFUSAL_NO_EVENT 8       /* the program has no such event */
+#define RUNTIME_REFUSAL_NO_EVENT 8       /* the program has no such event; place: its position in the burst, from 0 */
 #define RUNTIME_REFUSAL_STORE_SIZE 9     /* log pairs or queue records, when formatting */
 #define RUNTIME_REFUSAL_HANDLER_BUSY 20  /* a handler is at work */
-#define RUNTIME_REFUSAL_QUEUE_FULL 21
-#define RUNTIME_REFUSAL_POWER_OFF 22     /* step, post or raise while off */
+#define RUNTIME_REFUSAL_QUEUE_FULL 21    /* no room for the whole burst */
+#define RUNTIME_REFUSAL_POWER_OFF 22     /* step, post, burst or raise while off */
 #define RUNTIME_REFUSAL_ADDRESS 23       /* past the memory words */
 #define RUNTIME_REFUSAL_LOG_FULL 24      /* SAVE to an address not in the log, with all pairs used */
 #define RUNTIME_REFUSAL_STATE 25         /* device state unlike program or store */
@@ -86,6 +88,7 @@
 #define RUNTIME_REFUSAL_LINES_ROW 30     /* a row that is one too many, incomplete or wrong; place: row */
 #define RUNTIME_REFUSAL_LINES_GAP 31     /* no row has a level of a line that has rows; place: line, lowest such level */
 #define RUNTIME_REFUSAL_LINES_OVERLAP 32 /* two rows have a level of a line; place: line, lowest such level */
+#define RUNTIME_REFUSAL_BURST_LENGTH 33  /* a burst of no events, or of more than RUNTIME_MAX_BURST */
 
 /* ---- The program's first words */
 
@@ -143,17 +146,16 @@
 #define RUNTIME_DEVICE_STORES 13      /* no body: made since copying began; running: made of those that end the body */
 #define RUNTIME_DEVICE_LOG_COUNT 14
 #define RUNTIME_DEVICE_HANDLER 15
-#define RUNTIME_DEVICE_EVENT 16       /* the handler's */
-#define RUNTIME_DEVICE_DATUM 17       /* the handler's */
+#define RUNTIME_DEVICE_BURST_LENGTH 16   /* the handler's: how many events */
+#define RUNTIME_DEVICE_HANDLER_STORES 17 /* made of its stores: of each event, of its data, and last of the tail */
+#define RUNTIME_DEVICE_BURST 18          /* the handler's, RUNTIME_BURST_WORDS of them; 0 behind its last event's data */
 
 #define RUNTIME_PLACE_NO_BODY 0
 #define RUNTIME_PLACE_RUNNING 1
 #define RUNTIME_PLACE_HALF_SAVE 2
 
 #define RUNTIME_HANDLER_AT_REST 0
-#define RUNTIME_HANDLER_EVENT 1 /* the next store; the third accepts the event */
-#define RUNTIME_HANDLER_DATUM 2
-#define RUNTIME_HANDLER_TAIL 3
+#define RUNTIME_HANDLER_STORING 1
 
 /* ---- The totals, which the host keeps. Each stays at its largest value. */
 
@@ -171,7 +173,7 @@
 #define RUNTIME_LINES_NO_EVENT 65535 /* in the event's place: raising posts nothing */
 
 /* ---- The functions. A program, a store and a line table are words with their number. No pointer is null. Store, device,
- * totals and answer don't overlap each other, the program or the table. */
+ * totals and answer don't overlap each other, the program, the table or the burst. */
 
 #ifdef __cplusplus
 extern "C" {
@@ -192,6 +194,12 @@ void runtime_step(const uint16_t *program, size_t program_length, uint16_t *stor
 void runtime_post(const uint16_t *program, size_t program_length, const uint16_t *store, size_t store_length,
                   uint16_t device[RUNTIME_DEVICE_WORDS], uint16_t event, uint16_t datum,
                   uint16_t answer[RUNTIME_ANSWER_WORDS]);
+
+/* As a post, of count events together: they are accepted by one store, all of them or none. The words behind the last
+ * event's data aren't looked at. */
+void runtime_burst(const uint16_t *program, size_t program_length, const uint16_t *store, size_t store_length,
+                   uint16_t device[RUNTIME_DEVICE_WORDS], uint16_t count, const uint16_t burst[RUNTIME_BURST_WORDS],
+                   uint16_t answer[RUNTIME_ANSWER_WORDS]);
 
 void runtime_cut(uint16_t device[RUNTIME_DEVICE_WORDS], uint16_t answer[RUNTIME_ANSWER_WORDS]);
 

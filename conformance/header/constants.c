@@ -24,6 +24,7 @@ static uint16_t device_expected[64];
 static uint32_t totals[64];
 static uint16_t answer[64];
 static uint16_t answer_expected[64];
+static uint16_t burst_words[64];
 static uint16_t line_words[512];
 static uint16_t *const table = line_words + 8; /* room for an index that is one less */
 static size_t table_length;
@@ -101,6 +102,12 @@ static void post(int event, int datum)
 {
     guard(answer, ALL(answer));
     runtime_post(program, program_length, store, store_length, device, (uint16_t)event, (uint16_t)datum, answer);
+}
+
+static void burst(int count)
+{
+    guard(answer, ALL(answer));
+    runtime_burst(program, program_length, store, store_length, device, (uint16_t)count, burst_words, answer);
 }
 
 static void step(void)
@@ -202,7 +209,8 @@ static void lengths(void)
 {
     HOLDS(RUNTIME_ANSWER_SECOND_PLACE == RUNTIME_ANSWER_WORDS - 1);
     HOLDS(RUNTIME_ANSWER_STORED == RUNTIME_STEP_ANSWER_WORDS - 1);
-    HOLDS(RUNTIME_DEVICE_DATUM == RUNTIME_DEVICE_WORDS - 1);
+    HOLDS(RUNTIME_DEVICE_BURST + RUNTIME_BURST_WORDS == RUNTIME_DEVICE_WORDS);
+    HOLDS(RUNTIME_BURST_WORDS == 2 * RUNTIME_MAX_BURST);
     HOLDS(RUNTIME_TOTALS_STORES == RUNTIME_TOTALS_NUMBERS - 1);
     HOLDS(RUNTIME_LINES_EVENT == RUNTIME_LINES_ROW_WORDS - 1);
 }
@@ -298,6 +306,27 @@ static void expect_body(int place, int kind, int number, int instruction)
     device_expected[RUNTIME_DEVICE_KIND] = (uint16_t)kind;
     device_expected[RUNTIME_DEVICE_NUMBER] = (uint16_t)number;
     device_expected[RUNTIME_DEVICE_INSTRUCTION] = (uint16_t)instruction;
+}
+
+/* A handler with so many of the burst's events, and no store made. */
+static void expect_burst(int count)
+{
+    device_expected[RUNTIME_DEVICE_HANDLER] = RUNTIME_HANDLER_STORING;
+    device_expected[RUNTIME_DEVICE_BURST_LENGTH] = (uint16_t)count;
+    device_expected[RUNTIME_DEVICE_HANDLER_STORES] = 0;
+    memcpy(device_expected + RUNTIME_DEVICE_BURST, burst_words, 2 * (size_t)count * sizeof *burst_words);
+}
+
+/* Events 1 and 0 in turn, with data from 77 on, as many as there may be. */
+static void build_burst(void)
+{
+    int number;
+
+    guard(burst_words, ALL(burst_words));
+    for (number = 0; number < RUNTIME_MAX_BURST; number++) {
+        burst_words[2 * number] = (uint16_t)(1 - number % 2);
+        burst_words[2 * number + 1] = (uint16_t)(77 + number);
+    }
 }
 
 static int device_is_expected(void)
@@ -400,15 +429,14 @@ static void next_task(void)
 static void handler_works(void)
 {
     HOLDS((post(1, 77), is(RUNTIME_CASE_DONE)));
+    build_burst();
     expect_on();
-    device_expected[RUNTIME_DEVICE_EVENT] = 1;
-    device_expected[RUNTIME_DEVICE_DATUM] = 77;
-    device_expected[RUNTIME_DEVICE_HANDLER] = RUNTIME_HANDLER_EVENT;
+    expect_burst(1);
     HOLDS(device_is_expected());
     HOLDS((post(1, 78), refuses(RUNTIME_REFUSAL_HANDLER_BUSY, 0, 0)));
-    device_expected[RUNTIME_DEVICE_HANDLER] = RUNTIME_HANDLER_DATUM;
+    device_expected[RUNTIME_DEVICE_HANDLER_STORES] = 1;
     HOLDS(steps_to_store(store[RUNTIME_STORE_QUEUE_START], 0));
-    device_expected[RUNTIME_DEVICE_HANDLER] = RUNTIME_HANDLER_TAIL;
+    device_expected[RUNTIME_DEVICE_HANDLER_STORES] = 2;
     HOLDS(steps_to_store(store[RUNTIME_STORE_QUEUE_START] + 1, 0));
     HOLDS(steps(RUNTIME_CASE_ACCEPTED, RUNTIME_STORE_TAIL));
     expect_on();
@@ -520,6 +548,59 @@ static void address_and_log(void)
     HOLDS(step_refuses(RUNTIME_REFUSAL_LOG_FULL));
 }
 
+/* ---- Bursts */
+
+/* As many events as there may be: each stored, then its data, and all accepted by one store. */
+static void burst_accepted(void)
+{
+    int number;
+
+    memset(totals, 0, sizeof totals);
+    guard(device, ALL(device));
+    life_program();
+    fresh(3, RUNTIME_MAX_BURST);
+    HOLDS((boot(), is(RUNTIME_CASE_DONE)));
+    build_burst();
+    HOLDS((burst(RUNTIME_MAX_BURST), is(RUNTIME_CASE_DONE)));
+    expect_on();
+    expect_burst(RUNTIME_MAX_BURST);
+    HOLDS(device_is_expected());
+    for (number = 0; number < RUNTIME_BURST_WORDS; number++) {
+        device_expected[RUNTIME_DEVICE_HANDLER_STORES]++;
+        HOLDS(steps_to_store(store[RUNTIME_STORE_QUEUE_START] + number, 0));
+    }
+    HOLDS(steps(RUNTIME_CASE_ACCEPTED, RUNTIME_STORE_TAIL));
+    expect_on();
+    HOLDS(device_is_expected());
+    HOLDS(store[RUNTIME_STORE_TAIL] == RUNTIME_MAX_BURST);
+    HOLDS(totals[RUNTIME_TOTALS_ACCEPTED] == RUNTIME_MAX_BURST);
+    HOLDS(totals[RUNTIME_TOTALS_STORES] == RUNTIME_BURST_WORDS + 1);
+}
+
+static void burst_refusals(void)
+{
+    guard(device, ALL(device));
+    life_program();
+    fresh(3, RUNTIME_MAX_BURST - 1);
+    build_burst();
+    HOLDS((burst(1), refuses(RUNTIME_REFUSAL_POWER_OFF, 0, 0)));
+    HOLDS((boot(), is(RUNTIME_CASE_DONE)));
+    HOLDS((burst(0), refuses(RUNTIME_REFUSAL_BURST_LENGTH, 0, 0)));
+    HOLDS((burst(RUNTIME_MAX_BURST + 1), refuses(RUNTIME_REFUSAL_BURST_LENGTH, 0, 0)));
+    HOLDS((burst(RUNTIME_MAX_BURST), refuses(RUNTIME_REFUSAL_QUEUE_FULL, 0, 0)));
+    burst_words[2 * 2] = 2; /* of the third event */
+    HOLDS((burst(RUNTIME_MAX_BURST), refuses(RUNTIME_REFUSAL_NO_EVENT, 2, 0)));
+    HOLDS((burst(2), is(RUNTIME_CASE_DONE)));
+    expect_on();
+    expect_burst(2);
+    HOLDS(device_is_expected());
+    HOLDS((burst(1), refuses(RUNTIME_REFUSAL_HANDLER_BUSY, 0, 0)));
+    device[RUNTIME_DEVICE_BURST_LENGTH] = RUNTIME_MAX_BURST; /* the queue has no room for it */
+    HOLDS(step_refuses(RUNTIME_REFUSAL_STATE));
+    device[RUNTIME_DEVICE_HANDLER] = RUNTIME_HANDLER_STORING + 1;
+    HOLDS(steps(RUNTIME_CASE_NO_DEVICE, RUNTIME_NO_STORE));
+}
+
 /* ---- Line tables */
 
 static void no_rows(void)
@@ -591,9 +672,8 @@ static void lines_raised(void)
     HOLDS((raise_line(5, 77), is(RUNTIME_CASE_NOTHING_POSTED)));
     HOLDS(device_is_expected());
     HOLDS((raise_line(4, 77), is(RUNTIME_CASE_DONE)));
-    device_expected[RUNTIME_DEVICE_HANDLER] = RUNTIME_HANDLER_EVENT;
-    device_expected[RUNTIME_DEVICE_EVENT] = 1;
-    device_expected[RUNTIME_DEVICE_DATUM] = 77;
+    build_burst();
+    expect_burst(1);
     HOLDS(device_is_expected());
     HOLDS((raise_line(4, 499), refuses(RUNTIME_REFUSAL_HANDLER_BUSY, 0, 0)));
     table_length -= RUNTIME_LINES_ROW_WORDS;
@@ -611,6 +691,8 @@ int main(void)
     store_refusals();
     power_and_queue();
     address_and_log();
+    burst_accepted();
+    burst_refusals();
     lines_limits();
     lines_refusals();
     lines_raised();

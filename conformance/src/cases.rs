@@ -2,6 +2,7 @@
 //! with what differs; `all` catches that and prints the case's name.
 
 use crate::begun::cases as begun;
+use crate::bursts::cases as bursts;
 use crate::lines::cases as lines;
 use crate::reference::{store_length, DONE, GO, JLT, JUMP, LOADX, MEMORY, SAVE, SET, SHR};
 use crate::runtime::*;
@@ -49,7 +50,7 @@ impl<'a> Bench<'a> {
     }
 
     /// Formatted and booted.
-    fn booted(runtime: &'a dyn Runtime, program: &[u16], log_pairs: u16, queue_records: u16) -> Bench<'a> {
+    pub fn booted(runtime: &'a dyn Runtime, program: &[u16], log_pairs: u16, queue_records: u16) -> Bench<'a> {
         let mut bench = Bench::new(runtime, program, log_pairs, queue_records);
         assert_eq!(bench.boot(), Answer::Done);
         bench
@@ -82,6 +83,10 @@ impl<'a> Bench<'a> {
 
     pub fn post(&mut self, event: u16, datum: u16) -> Answer {
         self.runtime.post(&self.program, &mut self.store, &mut self.device, event, datum)
+    }
+
+    pub fn burst(&mut self, count: u16, words: &BurstWords) -> Answer {
+        self.runtime.burst(&self.program, &mut self.store, &mut self.device, count, words)
     }
 
     pub fn raise(&mut self, table: &[u16], line: u16, level: u16) -> Answer {
@@ -360,7 +365,7 @@ fn words_that_are_no_device(runtime: &dyn Runtime) {
     let bench = Bench::counting(runtime);
     let on = bench.device.to_words();
     // On as 2; a place, a kind and a handler out of range; and words that their case doesn't have.
-    let one: [&[(usize, u16)]; 12] = [
+    let one: [&[(usize, u16)]; 14] = [
         &[(0, 2)],
         &[(0, 65535)],
         &[(9, 3)],
@@ -369,9 +374,11 @@ fn words_that_are_no_device(runtime: &dyn Runtime) {
         &[(11, 1)],
         &[(12, 1)],
         &[(9, 2), (13, 1)],
-        &[(15, 4)],
+        &[(15, 2)],
         &[(16, 1)],
         &[(17, 1)],
+        &[(18, 1)],
+        &[(15, 1), (25, 1)],
         &[(15, 65535)],
     ];
     for changes in one {
@@ -381,8 +388,8 @@ fn words_that_are_no_device(runtime: &dyn Runtime) {
         }
         assert_eq!(Device::from_words(&words), None);
         let (mut store, mut device, mut totals) = (bench.store.clone(), words, bench.totals);
-        let calls =
-            [Call::Boot, Call::Step, Call::Post { event: 0, datum: 1 }, Call::Cut, Call::Run { budget: u32::MAX }];
+        let (post, burst) = (Call::Post { event: 0, datum: 1 }, Call::Burst { count: 1, words: single(0, 1) });
+        let calls = [Call::Boot, Call::Step, post, burst, Call::Cut, Call::Run { budget: u32::MAX }];
         for call in calls.iter().filter(|call| call.looks_at_device()) {
             let outcome = runtime.stray(call, &COUNTING, &mut store, &mut device, &mut totals);
             assert!(outcome.no_device(), "{call:?} on {words:?} answers {outcome:?}");
@@ -396,7 +403,7 @@ fn words_that_are_no_device(runtime: &dyn Runtime) {
 
 /// T 2, E 2, M 4; task 0 has transaction number 5. With L and Q 3 the log addresses are words 21, 23 and 25, and the
 /// events of the ring's slots words 27, 29, 31 and 33.
-const TWO_TASKS: [u16; 30] = [
+pub(crate) const TWO_TASKS: [u16; 30] = [
     0xC0B1, 2, 2, 4, 0, 30, // contents
     18, 2, 5, 22, 2, 0, // the tasks' rows
     26, 1, 0, 28, 1, 0, // the events' rows
@@ -542,7 +549,7 @@ fn an_event_ends_with_done_only(runtime: &dyn Runtime) {
 }
 
 /// The cases by name.
-pub const CASES: [(&str, fn(&dyn Runtime)); 37] = [
+pub const CASES: [(&str, fn(&dyn Runtime)); 49] = [
     ("accepted and lengths", accepted_and_lengths),
     ("tasks and last instruction", tasks_and_last_instruction),
     ("load address", load_address),
@@ -580,6 +587,18 @@ pub const CASES: [(&str, fn(&dyn Runtime)); 37] = [
     ("what a raise posts", lines::what_a_raise_posts),
     ("what a raise meets first", lines::what_a_raise_meets_first),
     ("a raise without a device", lines::a_raise_without_a_device),
+    ("the stores of a burst", bursts::the_stores_of_a_burst),
+    ("a burst round the ring", bursts::a_burst_round_the_ring),
+    ("a burst is served in order", bursts::a_burst_is_served_in_order),
+    ("a cut in a burst", bursts::a_cut_in_a_burst),
+    ("a post is a burst of one", bursts::a_post_is_a_burst_of_one),
+    ("lengths of a burst", bursts::lengths_of_a_burst),
+    ("events of a burst", bursts::events_of_a_burst),
+    ("room for a burst", bursts::room_for_a_burst),
+    ("room in an event's commit", bursts::room_in_an_events_commit),
+    ("a handler unlike its store", bursts::a_handler_unlike_its_store),
+    ("the accepted total", bursts::the_accepted_total),
+    ("words that are no handler", bursts::words_that_are_no_handler),
 ];
 
 /// Every case on an implementation. Whether all hold.

@@ -3,6 +3,7 @@
 //! call, one without a device and a raise that posts nothing must have changed nothing. Also the counts of what came up.
 
 use crate::begun::situations::{Begun, Found, Past};
+use crate::bursts::situations::{Bursts, Gone};
 use crate::lines::situations::Lines;
 use crate::reference::PHASE;
 use crate::runtime::*;
@@ -52,12 +53,14 @@ pub struct Counts {
     pub lines: Lines,
     /// Word 16.
     pub begun: Begun,
+    /// Bursts.
+    pub bursts: Bursts,
     /// SHR of every word by every k, apart from the lists.
     pub shifts: Shifts,
 }
 
 /// Above every number of the papers.
-const NUMBERS: usize = 34;
+const NUMBERS: usize = 35;
 
 /// Counts by number.
 #[derive(Clone, Copy, Debug)]
@@ -127,6 +130,7 @@ impl Counts {
         self.several.add_all(&other.several);
         self.lines.add_all(&other.lines);
         self.begun.add_all(&other.begun);
+        self.bursts.add_all(&other.bursts);
         self.shifts.add_all(&other.shifts);
     }
 
@@ -193,9 +197,9 @@ impl Counts {
     }
 }
 
-/// The numbers of the papers: 1 to 9, 20 to 26, 30 to 32.
+/// The numbers of the papers: 1 to 9, 20 to 26, 30 to 33.
 pub fn refusal_numbers() -> Vec<usize> {
-    (1..=9).chain(20..=26).chain(30..=32).collect()
+    (1..=9).chain(20..=26).chain(30..=33).collect()
 }
 
 /// Which numbers a call may return, by `CALL_NAMES`.
@@ -209,6 +213,7 @@ pub const POSSIBLE: [&[usize]; CALL_KINDS] = [
     &[1, 2, 3, 4, 5, 6, 7, 22, 23, 24, 25],
     &[30, 31, 32],
     &[1, 2, 3, 6, 7, 8, 20, 21, 22, 25, 30, 31, 32],
+    &[1, 2, 3, 6, 7, 8, 20, 21, 22, 25, 33],
 ];
 
 /// The first index at which two slices differ, as text.
@@ -325,6 +330,34 @@ impl<'a> Pair<'a> {
     }
 }
 
+/// What has gone before in a list, as far as counts need it; all but the first as far as nothing was changed in it.
+#[derive(Default)]
+struct Trail {
+    /// A boot has come upon a commit that still goes on.
+    recovering: bool,
+    past: Past,
+    gone: Gone,
+}
+
+impl Counts {
+    /// Count a call of a list in every way. The machine is as the call left it.
+    fn add_call(&mut self, trail: &mut Trail, call: &Call, found: Found, left: &Machine, outcome: &Outcome) {
+        let phase = found.store.get(PHASE).copied().unwrap_or(0);
+        self.add(call, &found.device, phase, trail.recovering, outcome);
+        self.add_totals(&found.totals, &left.totals, found.store != left.store);
+        if let Some(Refusal { number: 7, place: (word, _) }) = outcome.refusal() {
+            self.several.add(call, left, word);
+        }
+        self.lines.add(call, left, outcome);
+        self.bursts.add(&mut trail.gone, call, &found, left, outcome);
+        self.begun.add(&mut trail.past, call, found, left, outcome);
+        trail.recovering = match (call, outcome) {
+            (Call::Boot, Outcome::Answer(Answer::Done)) => phase != 0,
+            _ => *call != Call::Cut && trail.recovering && left.store.get(PHASE) != Some(&0),
+        };
+    }
+}
+
 /// Compare two implementations over a scenario.
 pub fn drive(
     first: &dyn Runtime,
@@ -351,30 +384,18 @@ pub fn drive_telling(
         counts.add(&call, &pair.first.1.device, 0, false, &outcome);
     }
     let mut kept = [pair.first.1.clone(), pair.second.1.clone()];
-    let mut recovering = false;
-    let mut past = Past::default();
+    let mut trail = Trail::default();
     for (index, call) in scenario.calls.iter().enumerate() {
         if call.kind().is_none() {
             pair.change(call, &mut kept);
             tell(Some(index), call, None);
-            past = Past::default();
+            trail = Trail { recovering: trail.recovering, ..Trail::default() };
             continue;
         }
         let Machine { device, totals, .. } = pair.first.1;
-        let phase = pair.first.1.store.get(PHASE).copied().unwrap_or(0);
         let outcome = pair.call(Some(index), call, tell)?;
-        let left = &pair.first.1;
-        counts.add(call, &device, phase, recovering, &outcome);
-        counts.add_totals(&totals, &left.totals, pair.before.store != left.store);
-        if let Some(Refusal { number: 7, place: (word, _) }) = outcome.refusal() {
-            counts.several.add(call, left, word);
-        }
-        counts.lines.add(call, left, &outcome);
-        counts.begun.add(&mut past, call, Found { store: &pair.before.store, device }, left, &outcome);
-        recovering = match (call, &outcome) {
-            (Call::Boot, Outcome::Answer(Answer::Done)) => phase != 0,
-            _ => *call != Call::Cut && recovering && left.store.get(PHASE) != Some(&0),
-        };
+        let found = Found { store: &pair.before.store, device, totals };
+        counts.add_call(&mut trail, call, found, &pair.first.1, &outcome);
     }
     let (program, other) = (&pair.first.1.program, &pair.second.1.program);
     if program != other {

@@ -1,7 +1,7 @@
 //! An implementation behind C functions: plain pointers and words on one side, the trait on the other. Nothing
 //! is linked here; whoever has the functions, from a static library say, fills in `Functions`.
 //!
-//! The shapes are those of include/runtime.h. A device is 18 words (`Device::to_words`), totals are three 32-bit
+//! The shapes are those of include/runtime.h. A device is 26 words (`Device::to_words`), totals are three 32-bit
 //! numbers (committed, accepted, stores). An answer is five words: case, kind of body (0 task, 1 event), number,
 //! and a place of two words. Cases: 0 done, 1 chosen, 2 worked, 3 stored, 4 committed, 5 accepted, 6 refused,
 //! 7 spent (of a run), 8 no device, 9 nothing posted (of a raise). Words that a case doesn't have are 0. A step's
@@ -29,6 +29,8 @@ pub struct Functions {
     pub step: unsafe extern "C" fn(*const u16, usize, *mut u16, usize, *mut u16, *mut u32, *mut u16),
     /// program, its length, store, its length, device, event, datum, answer
     pub post: unsafe extern "C" fn(*const u16, usize, *mut u16, usize, *mut u16, u16, u16, *mut u16),
+    /// program, its length, store, its length, device, count, burst of eight words, answer
+    pub burst: unsafe extern "C" fn(*const u16, usize, *mut u16, usize, *mut u16, u16, *const u16, *mut u16),
     /// device, answer
     pub cut: unsafe extern "C" fn(*mut u16, *mut u16),
     /// program, its length, store, its length, device, totals, budget, answer; the steps made
@@ -43,7 +45,7 @@ pub type Raise =
     unsafe extern "C" fn(*const u16, usize, *mut u16, usize, *mut u16, *const u16, usize, u16, u16, *mut u16);
 
 /// Numbers that no call returns. They stand for words that are no answer of the call, for words that come back
-/// and are no device, and for a word written outside device, totals or answer, or in the table.
+/// and are no device, and for a word written outside device, totals or answer, or in the table or the burst.
 pub const NO_ANSWER: u16 = 65535;
 pub const BAD_DEVICE: u16 = 65534;
 pub const OUTSIDE: u16 = 65533;
@@ -129,6 +131,16 @@ struct Lent {
     totals: [u32; 5],
     answer: [u16; STEP_WORDS + 2],
     table: Vec<u16>,
+    burst: [u16; BURST_WORDS + 2],
+}
+
+/// A call's burst with a guard before and behind it; guards alone for a call without one.
+fn guarded_burst(call: &Call) -> [u16; BURST_WORDS + 2] {
+    let mut lent = [GUARD; BURST_WORDS + 2];
+    if let Call::Burst { words, .. } = call {
+        lent[1..=BURST_WORDS].copy_from_slice(words);
+    }
+    lent
 }
 
 impl Lent {
@@ -137,12 +149,13 @@ impl Lent {
         device[1..=DEVICE_WORDS].copy_from_slice(words);
         let Totals { committed, accepted, stores } = *totals;
         let totals = [GUARD as u32, committed, accepted, stores, GUARD as u32];
-        Lent { device, totals, answer: [GUARD; STEP_WORDS + 2], table: guarded(call) }
+        let burst = guarded_burst(call);
+        Lent { device, totals, answer: [GUARD; STEP_WORDS + 2], table: guarded(call), burst }
     }
 
     /// Make the call; of a run, the steps made.
     fn call(&mut self, functions: &Functions, call: &Call, program: &[u16], store: &mut [u16]) -> Option<u32> {
-        let Functions { check, format, boot, step, post, cut, run, lines_check, raise } = *functions;
+        let Functions { check, format, boot, step, post, burst, cut, run, lines_check, raise } = *functions;
         let (code, length) = (program.as_ptr(), program.len());
         let (words, many) = (store.as_mut_ptr(), store.len());
         let (table, table_length) = (self.table.as_ptr().wrapping_add(1), self.table.len().saturating_sub(2));
@@ -159,6 +172,9 @@ impl Lent {
                 Call::Boot => boot(code, length, words, many, d, answer),
                 Call::Step => step(code, length, words, many, d, t, answer),
                 Call::Post { event, datum } => post(code, length, words, many, d, *event, *datum, answer),
+                Call::Burst { count, .. } => {
+                    burst(code, length, words, many, d, *count, self.burst.as_ptr().add(1), answer)
+                }
                 Call::Cut => cut(d, answer),
                 Call::Run { budget } => return Some(run(code, length, words, many, d, t, *budget, answer)),
                 Call::LinesCheck { .. } => lines_check(table, table_length, answer),
@@ -171,13 +187,14 @@ impl Lent {
         None
     }
 
-    /// Whether a word outside was written, or one of the table.
+    /// Whether a word outside was written, or one of the table or the burst.
     fn outside(&self, call: &Call) -> bool {
         let told = if *call == Call::Step { STEP_WORDS } else { ANSWER_WORDS };
         let guards = [self.device[0], self.device[DEVICE_WORDS + 1], self.answer[0], self.answer[told + 1]];
         guards != [GUARD; 4]
             || [self.totals[0], self.totals[4]] != [GUARD as u32; 2]
             || (call.table().is_some() && self.table != guarded(call))
+            || self.burst != guarded_burst(call)
     }
 }
 
@@ -274,6 +291,17 @@ impl Runtime for Foreign {
 
     fn post(&self, program: &[u16], store: &mut [u16], device: &mut Device, event: u16, datum: u16) -> Answer {
         self.answer(&Call::Post { event, datum }, program, store, device, &mut Totals::default())
+    }
+
+    fn burst(
+        &self,
+        program: &[u16],
+        store: &mut [u16],
+        device: &mut Device,
+        count: u16,
+        words: &BurstWords,
+    ) -> Answer {
+        self.answer(&Call::Burst { count, words: *words }, program, store, device, &mut Totals::default())
     }
 
     fn cut(&self, device: &mut Device) -> Answer {

@@ -2,6 +2,7 @@
 //! reference runs it, so that cuts, posts and damage can be aimed; the list that comes out is fixed and can
 //! be replayed and shortened without the generator.
 
+use crate::bursts;
 use crate::lines;
 use crate::reference::*;
 use crate::runtime::*;
@@ -89,7 +90,7 @@ pub fn sizes(random: &mut Random) -> Sizes {
         events: if random.percent(10) { 0 } else { random.from(1, 3) },
         memory: random.from(1, 8),
         log_pairs: random.from(1, 6),
-        queue_records: random.from(1, 4),
+        queue_records: random.from(1, 8),
         body: random.from(1, 14),
         exact: false,
         fill: false,
@@ -242,6 +243,11 @@ impl Writer<'_> {
                 self.code.push(code(opcode, a, b, 0));
             }
             6 => {
+                // Of a word that is seldom 0 after the shift, now and then.
+                if self.random.percent(25) {
+                    let word = self.random.next() as u16 | 1;
+                    self.code.push(code(SET, a, 0, word as usize));
+                }
                 let k = self.random.below(16);
                 self.code.push(code(SHR, a, 0, k));
             }
@@ -472,6 +478,8 @@ struct Schedule {
     stuck: bool,
     /// The line tables; without any, no line is raised.
     tables: Vec<Table>,
+    /// Whether there are bursts besides posts.
+    bursts: bool,
 }
 
 impl Schedule {
@@ -510,10 +518,25 @@ impl Schedule {
         Call::Post { event, datum: self.random.word() }
     }
 
-    /// A raise in the place of a post, so often in a hundred.
+    /// How many records more the queue takes; 0 where the store doesn't tell.
+    fn room(&self) -> usize {
+        let store = &self.machine.store;
+        let ring = |index: usize| store[index] <= store[3];
+        if store.len() < MEMORY || !ring(HEAD) || !ring(TAIL) {
+            return 0;
+        }
+        bursts::room(store)
+    }
+
+    fn burst(&mut self) -> Call {
+        let (events, room) = (self.sizes.events, self.room());
+        bursts::generate::burst(&mut self.random, events, room)
+    }
+
+    /// A raise in the place of a post, so often in a hundred; of the rest more bursts than posts.
     fn post_or_raise(&mut self, chance: usize) -> Call {
         if self.tables.is_empty() || !self.random.percent(chance) {
-            return self.post();
+            return if self.bursts && self.random.percent(60) { self.burst() } else { self.post() };
         }
         let table = self.random.pick(&self.tables);
         lines::generate::raise(&mut self.random, &table)
@@ -586,9 +609,7 @@ impl Schedule {
         which -= run;
         if which < post {
             // A queue that is full, or a handler at work, is met often enough.
-            let word = |index: usize| self.machine.store.get(index).copied().unwrap_or(0) as usize;
-            let full = (word(TAIL) + 1) % (word(3) + 1) == word(HEAD);
-            if (full || device.handler.is_some()) && self.random.percent(70) {
+            if (self.room() == 0 || device.handler.is_some()) && self.random.percent(70) {
                 return Call::Step;
             }
             return self.post_or_raise(50);
@@ -677,6 +698,11 @@ impl Schedule {
         }
     }
 
+    /// Whether a word of a body may be SHR's k.
+    fn shifts_by(&self, index: usize) -> bool {
+        self.machine.program.get(index - 1).is_some_and(|word| word >> 8 == SHR)
+    }
+
     fn damage_program(&mut self) {
         let program = &self.machine.program;
         let rows_end = 6 + 3 * (self.sizes.tasks + self.sizes.events);
@@ -710,6 +736,9 @@ impl Schedule {
                 4 => self.random.pick(&[17u16, 18, 128, 255]) << 8,
                 _ => word,
             };
+        }
+        if index >= rows_end && self.shifts_by(index) && self.random.percent(40) {
+            word = 16;
         }
         self.make(Call::SetProgram { index, word });
         // A row that is changed so as to stay right in a step's eyes.
@@ -948,10 +977,11 @@ impl Schedule {
         for _ in 0..self.random.from(1, 3) {
             let place = self.fitting_place();
             self.make(Call::SetDevice(Device { place, ..Device::ON }));
-            let call = match self.random.below(6) {
-                0 | 1 => Call::Boot,
-                2 => self.post_or_raise(25),
-                3 => Call::Run { budget: self.budget() },
+            let call = match self.random.below(12) {
+                0..=2 => Call::Boot,
+                3 | 4 => self.post(),
+                5 => self.post_or_raise(40),
+                6 | 7 => Call::Run { budget: self.budget() },
                 _ => Call::Step,
             };
             // What a step uses of the program comes between the first look and some of the rest of 7.
@@ -1010,6 +1040,68 @@ impl Schedule {
         self.make(call);
     }
 
+    /// Any handler at work, on a store that may be strange, and a call that meets it.
+    fn strange_handler(&mut self) {
+        if self.random.percent(60) {
+            self.strange_control();
+            let place = self.fitting_place();
+            self.make(Call::SetDevice(Device { place, ..Device::ON }));
+        }
+        let (events, room) = (self.sizes.events, self.room());
+        let handler = Some(bursts::generate::handler(&mut self.random, events, room));
+        self.make(Call::SetDevice(Device { handler, ..self.machine.device }));
+        let call = match self.random.below(4) {
+            0 => self.post(),
+            1 => self.burst(),
+            2 => Call::Run { budget: self.budget() },
+            _ => Call::Step,
+        };
+        self.make(call);
+    }
+
+    /// An event's commit before its head has moved, and just too little room for a burst, which would fit by word 12: a
+    /// handler at work with it, or the burst itself.
+    fn one_short(&mut self) {
+        let Sizes { events, queue_records, .. } = self.sizes;
+        self.strange_control();
+        let length = self.random.from(1, queue_records.min(MAX_BURST));
+        let (slots, head) = (queue_records + 1, self.random.below(queue_records + 1));
+        let tail = (head + queue_records + 1 - length) % slots;
+        let words = [(PHASE, 2), (OPEN, 0), (PENDING, (head + 1) % slots), (HEAD, head), (TAIL, tail)];
+        for (index, word) in words {
+            self.make(Call::SetStore { index, word: word as u16 });
+        }
+        let mut words = [0; BURST_WORDS];
+        words.iter_mut().step_by(2).for_each(|event| *event = self.random.below(events.max(1)) as u16);
+        let handler = Handler { made: self.random.below(2 * length + 1) as u16, ..Handler::new(length as u16, &words) };
+        let handler = self.random.percent(60).then_some(handler);
+        let place = Place::NoBody { commit: self.random.below(2) as u16 };
+        self.make(Call::SetDevice(Device { place, handler, ..Device::ON }));
+        let call = match self.random.below(4) {
+            0 => self.post(),
+            1 => Call::Run { budget: self.budget() },
+            2 if handler.is_some() => Call::Step,
+            _ => Call::Burst { count: length as u16, words },
+        };
+        self.make(call);
+    }
+
+    /// Totals near their largest value, and a burst with its steps.
+    fn burst_at_the_largest(&mut self) {
+        let mut total = || u32::MAX - self.random.below(6) as u32;
+        let totals = Totals { committed: total(), accepted: total(), stores: total() };
+        self.make(Call::SetTotals(totals));
+        let burst = self.burst();
+        self.make(burst);
+        if self.random.percent(30) {
+            let budget = self.random.from(1, 12) as u32;
+            return self.make(Call::Run { budget });
+        }
+        for _ in 0..self.random.from(1, 9) {
+            self.make(Call::Step);
+        }
+    }
+
     /// A device that may well fit, though no list of calls leads there.
     fn strange_device(&mut self) {
         let Sizes { tasks, events, log_pairs, .. } = self.sizes;
@@ -1058,12 +1150,9 @@ impl Schedule {
         if self.random.percent(4) {
             device.log_count = log_pairs as u16 + 1;
         }
-        if self.random.percent(25) {
-            device.handler = Some(Handler {
-                next: self.random.pick(&[Next::Event, Next::Datum, Next::Tail]),
-                event: self.random.below(events + 1) as u16,
-                datum: self.random.word(),
-            });
+        if self.random.percent(35) {
+            let room = self.room();
+            device.handler = Some(bursts::generate::handler(&mut self.random, events, room));
         }
         if self.random.percent(5) {
             device.on = false;
@@ -1095,15 +1184,17 @@ impl Schedule {
     fn damage_device(&mut self) {
         for _ in 0..8 {
             let mut words = self.machine.device.to_words();
-            let index = match self.random.below(3) {
+            let index = match self.random.below(4) {
                 0 => self.random.below(DEVICE_WORDS),
+                1 if words[15] != 0 => self.random.from(15, 25),
                 _ => self.random.from(9, 17),
             };
             words[index] = match index {
                 0 => 1 - words[0].min(1),
                 9 => self.random.below(3) as u16,
-                10 => self.random.below(2) as u16,
-                15 => self.random.below(4) as u16,
+                10 | 15 => self.random.below(2) as u16,
+                16 => self.random.pick(&[0, 1, 2, 3, 4, 5, 6, 65535]),
+                17 => self.random.pick(&[0, 1, 2, 3, 4, 5, 6, 7, 8, 9, 10, 65535]),
                 _ => self.telling_word(words[index]),
             };
             if let Some(device) = Device::from_words(&words) {
@@ -1130,7 +1221,7 @@ impl Schedule {
         for _ in 0..changes {
             let index = match self.random.below(3) {
                 0 => self.random.below(DEVICE_WORDS),
-                1 => self.random.pick(&[0, 9, 10, 15]),
+                1 => self.random.pick(&[0, 9, 10, 15, 16, 18, 20, 22, 24, 25]),
                 _ => self.random.from(9, 17),
             };
             words[index] = match self.random.below(3) {
@@ -1171,6 +1262,9 @@ impl Schedule {
             6..=11 => return self.several_broken(),
             12 | 13 => return self.closing_commit(),
             14 => return self.another_event(),
+            15..=21 => return self.strange_handler(),
+            22 => return self.one_short(),
+            23 | 24 => return self.burst_at_the_largest(),
             _ => {}
         }
         match self.random.below(100) {
@@ -1229,7 +1323,8 @@ pub fn scenario(seed: u64, damaged: bool) -> Scenario {
     let mood = random.pick(&MOODS);
     let kept = machine.clone();
     let (calls, stuck) = (Vec::new(), false);
-    let mut schedule = Schedule { random, sizes, moods: &MOODS, mood, machine, kept, calls, stuck, tables };
+    let bursts = true;
+    let mut schedule = Schedule { random, sizes, moods: &MOODS, mood, machine, kept, calls, stuck, tables, bursts };
     // Large programs get short lists.
     let large = scenario.program.len() > 2000;
     let rounds = if damaged { schedule.random.from(1, 8) } else { 1 };
@@ -1281,8 +1376,9 @@ pub fn calls_with_cuts(mut random: Random, sizes: Sizes, machine: Machine, count
     let moods = &MOODS_WITH_CUTS;
     let mood = random.pick(moods);
     let kept = machine.clone();
-    let (calls, stuck, tables) = (Vec::new(), false, Vec::new());
-    let mut schedule = Schedule { random, sizes, moods, mood, machine, kept, calls, stuck, tables };
+    // A schedule of a sheet has no letter for a burst, nor for a raise.
+    let (calls, stuck, tables, bursts) = (Vec::new(), false, Vec::new(), false);
+    let mut schedule = Schedule { random, sizes, moods, mood, machine, kept, calls, stuck, tables, bursts };
     for _ in 0..count {
         match schedule.next() {
             Call::Run { budget } => schedule.steps(budget),

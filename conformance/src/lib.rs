@@ -3,6 +3,7 @@
 //! implementations call by call. Above it, exam sheets and their comparison with another program's.
 
 pub mod begun;
+pub mod bursts;
 pub mod cases;
 pub mod compare;
 pub mod foreign;

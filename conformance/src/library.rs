@@ -70,6 +70,36 @@ extern "C" {
     );
 }
 
+#[cfg(feature = "bursts")]
+extern "C" {
+    fn runtime_burst(
+        program: *const u16,
+        length: usize,
+        store: *mut u16,
+        store_length: usize,
+        device: *mut u16,
+        count: u16,
+        burst: *const u16,
+        answer: *mut u16,
+    );
+}
+
+// For an archive from before request N6. It isn't called.
+#[cfg(not(feature = "bursts"))]
+#[allow(clippy::too_many_arguments)]
+unsafe extern "C" fn runtime_burst(
+    _: *const u16,
+    _: usize,
+    _: *mut u16,
+    _: usize,
+    _: *mut u16,
+    _: u16,
+    _: *const u16,
+    _: *mut u16,
+) {
+    panic!("built without bursts");
+}
+
 // For an archive from before request N3. They aren't called.
 #[cfg(not(feature = "lines"))]
 unsafe extern "C" fn runtime_lines_check(_: *const u16, _: usize, _: *mut u16) {
@@ -98,6 +128,7 @@ pub const FUNCTIONS: Functions = Functions {
     boot: runtime_boot,
     step: runtime_step,
     post: runtime_post,
+    burst: runtime_burst,
     cut: runtime_cut,
     run: runtime_run,
     lines_check: runtime_lines_check,

@@ -4,9 +4,9 @@
 //! beside the reference needs `many` and `replay`, or `command`, which has both; each ends in a `Verdict`.
 
 use crate::compare::{self, Counts, Difference, POSSIBLE};
-use crate::runtime::{Answer, Runtime};
+use crate::runtime::{Answer, Runtime, BURST_WORDS};
 use crate::scenario::{call_text, outcome_text, Call, Outcome, Scenario, Table, CALL_NAMES};
-use crate::{begun, cases, generate, lines, selfrun, seven, shift, shorten};
+use crate::{begun, bursts, cases, generate, lines, selfrun, seven, shift, shorten};
 use std::io::Read;
 use std::time::Instant;
 
@@ -94,6 +94,8 @@ fn print_counts(undamaged: &Counts, damaged: &Counts, all: &Counts) {
     println!();
     print!("{}", all.begun.table());
     println!();
+    print!("{}", all.bursts.table());
+    println!();
     print!("{}", all.lines.table());
     println!();
     print!("{}", all.shifts.table());
@@ -105,10 +107,11 @@ pub fn missing(all: &Counts) -> Vec<String> {
     let mut lines = Vec::new();
     let table: Table = Table::from([]);
     let post = Call::Post { event: 0, datum: 0 };
+    let burst = Call::Burst { count: 1, words: [0; BURST_WORDS] };
     let format = Call::Format { log_pairs: 1, queue_records: 1 };
     let raise = Call::Raise { table: table.clone(), line: 0, level: 0 };
     let (run, lines_check) = (Call::Run { budget: 1 }, Call::LinesCheck { table });
-    for call in [Call::Check, format, Call::Boot, Call::Step, post, Call::Cut, run, lines_check, raise] {
+    for call in [Call::Check, format, Call::Boot, Call::Step, post, Call::Cut, run, lines_check, raise, burst] {
         let kind = call.kind().expect("a call of the runtime");
         let never = POSSIBLE[kind].iter().filter(|number| all.refusals[kind].0[**number] == 0);
         let mut never: Vec<String> = never.map(|number| number.to_string()).collect();
@@ -126,6 +129,7 @@ pub fn missing(all: &Counts) -> Vec<String> {
     }
     lines.extend(all.several.missing());
     lines.extend(all.begun.missing());
+    lines.extend(all.bursts.missing());
     lines.extend(all.lines.missing());
     lines.extend(all.shifts.missing());
     lines
@@ -146,9 +150,10 @@ fn judge(all: &Counts) -> Verdict {
     Verdict::TooLittle
 }
 
-/// The lists that don't come from a seed: several rules of 7 broken at once, word 16, and line tables.
+/// The lists that don't come from a seed: several rules of 7 broken at once, word 16, line tables, and bursts.
 pub fn fixed_lists() -> impl Iterator<Item = Scenario> {
-    seven::lists().into_iter().chain(begun::lists::lists()).chain(lines::lists::lists())
+    let first = seven::lists().into_iter().chain(begun::lists::lists());
+    first.chain(lines::lists::lists()).chain(bursts::lists::lists())
 }
 
 /// What both sides do with the lists of one seed: compared, and each alone. Whether nothing differs.
@@ -177,7 +182,7 @@ impl Lists<'_> {
             }
         }
         let alone: [(&str, Drive); 2] = [("first side", &first_alone), ("second side", &second_alone)];
-        for list in begun::lists::undamaged() {
+        for list in begun::lists::undamaged().into_iter().chain(bursts::lists::undamaged()) {
             for (side, drive) in alone {
                 if let Err(difference) = drive(&list, &mut Counts::default()) {
                     report(&format!("{side}, fixed list"), &list, &difference, drive);
@@ -243,8 +248,9 @@ pub fn many(first: &dyn Runtime, second: &dyn Runtime, first_seed: u64, calls: u
     all.add_all(&lists.damaged);
     print_counts(&lists.undamaged, &lists.damaged, &all);
     println!("All lists: both sides compared after every call. Undamaged lists: for each side demand 3 by recovering");
-    println!("a copy, after every call and every step of a run, a run held against single steps, and whose turn it is.");
-    println!("fixed lists, several rules of 7 broken at once, word 16 and line tables: {fixed} calls");
+    println!("a copy, after every call and every step of a run, bursts whole or not at all, a run held against single");
+    println!("steps, and whose turn it is.");
+    println!("fixed lists, several rules of 7 broken at once, word 16, line tables and bursts: {fixed} calls");
     println!("SHR of every word by every k, and by every other k: {} calls", all.shifts.calls);
     println!(
         "these and seeds {first_seed} to {}: {} programs, {} calls compared in {:.1} s",

@@ -2,6 +2,7 @@
 //! driver, or the check of demand 3, notices; so they are known to be able to fail.
 
 use crate::begun;
+use crate::bursts;
 use crate::lines;
 use crate::reference::*;
 use crate::runtime::*;
@@ -181,9 +182,71 @@ pub enum Mistake {
     PowerBeforeTable,
     ProgramBeforeTable,
     StoreBeforeTable,
+    // Bursts. A handler's stores, what they answer, and the accepted total.
+    TailBeforeLastDatum,
+    TailByOne,
+    TailWrapsAtTheEndOnly,
+    TailAfterEachRecord,
+    BurstReversed,
+    DatumStoredAsEvent,
+    DatumBeforeEvent,
+    EventsBeforeData,
+    EverySlotAtTail,
+    NoWrapInBurst,
+    RingOfQueueRecords,
+    LastRecordNotStored,
+    LastDatumAnswersAccepted,
+    AcceptedCountedOnce,
+    AcceptedCountedOnceInRun,
+    AcceptedWraps,
+    AcceptedNotRaisedPastLargest,
+    CutKeepsStoredRecords,
+    // Room.
+    OneMoreThanRoomPasses,
+    RoomOfOneIsEnough,
+    RoomByWaitingRecords,
+    BurstOfAllRoomRefused,
+    LongerThanQueueRefusedAsLength,
+    // 33 and 8, their places and the order.
+    LengthZeroPasses,
+    LengthFiveAsFour,
+    LengthOfEightBits,
+    LengthWithPlace,
+    EventPlaceZero,
+    EventPlaceFromOne,
+    EventPlaceAsWord,
+    LastBadEvent,
+    FirstEventAlone,
+    LastEventUnseen,
+    DataSeenAsEvents,
+    EventsBehindSeen,
+    WordsBehindKept,
+    EventsBeforeLength,
+    LengthBeforePower,
+    LengthBeforeState,
+    LengthBeforeStore,
+    LengthBeforeProgram,
+    BusyBeforeLength,
+    BusyBeforeEvents,
+    FullBeforeLength,
+    FullBeforeEvents,
+    FullBeforeBusy,
+    // 25 of a handler at work.
+    HandlerUnseenAtBurst,
+    StoredEventsUnseen,
+    FirstEventAloneInState,
+    NextEventAloneInState,
+    LengthZeroUnseen,
+    LengthAboveFourUnseen,
+    PastTailStoreUnseen,
+    PastTailStoreByOneUnseen,
+    RoomUnseenOnceStoring,
+    RoomForTheRest,
+    FullQueueAlone,
+    LastStoreUnlike,
 }
 
-pub const MISTAKES: [Mistake; 155] = [
+pub const MISTAKES: [Mistake; 213] = [
     Mistake::HeadPlusOneOnRedo,
     Mistake::TailBeforeDatum,
     Mistake::PhaseBeforeTask,
@@ -339,6 +402,64 @@ pub const MISTAKES: [Mistake; 155] = [
     Mistake::PowerBeforeTable,
     Mistake::ProgramBeforeTable,
     Mistake::StoreBeforeTable,
+    Mistake::TailBeforeLastDatum,
+    Mistake::TailByOne,
+    Mistake::TailWrapsAtTheEndOnly,
+    Mistake::TailAfterEachRecord,
+    Mistake::BurstReversed,
+    Mistake::DatumStoredAsEvent,
+    Mistake::DatumBeforeEvent,
+    Mistake::EventsBeforeData,
+    Mistake::EverySlotAtTail,
+    Mistake::NoWrapInBurst,
+    Mistake::RingOfQueueRecords,
+    Mistake::LastRecordNotStored,
+    Mistake::LastDatumAnswersAccepted,
+    Mistake::AcceptedCountedOnce,
+    Mistake::AcceptedCountedOnceInRun,
+    Mistake::AcceptedWraps,
+    Mistake::AcceptedNotRaisedPastLargest,
+    Mistake::CutKeepsStoredRecords,
+    Mistake::OneMoreThanRoomPasses,
+    Mistake::RoomOfOneIsEnough,
+    Mistake::RoomByWaitingRecords,
+    Mistake::BurstOfAllRoomRefused,
+    Mistake::LongerThanQueueRefusedAsLength,
+    Mistake::LengthZeroPasses,
+    Mistake::LengthFiveAsFour,
+    Mistake::LengthOfEightBits,
+    Mistake::LengthWithPlace,
+    Mistake::EventPlaceZero,
+    Mistake::EventPlaceFromOne,
+    Mistake::EventPlaceAsWord,
+    Mistake::LastBadEvent,
+    Mistake::FirstEventAlone,
+    Mistake::LastEventUnseen,
+    Mistake::DataSeenAsEvents,
+    Mistake::EventsBehindSeen,
+    Mistake::WordsBehindKept,
+    Mistake::EventsBeforeLength,
+    Mistake::LengthBeforePower,
+    Mistake::LengthBeforeState,
+    Mistake::LengthBeforeStore,
+    Mistake::LengthBeforeProgram,
+    Mistake::BusyBeforeLength,
+    Mistake::BusyBeforeEvents,
+    Mistake::FullBeforeLength,
+    Mistake::FullBeforeEvents,
+    Mistake::FullBeforeBusy,
+    Mistake::HandlerUnseenAtBurst,
+    Mistake::StoredEventsUnseen,
+    Mistake::FirstEventAloneInState,
+    Mistake::NextEventAloneInState,
+    Mistake::LengthZeroUnseen,
+    Mistake::LengthAboveFourUnseen,
+    Mistake::PastTailStoreUnseen,
+    Mistake::PastTailStoreByOneUnseen,
+    Mistake::RoomUnseenOnceStoring,
+    Mistake::RoomForTheRest,
+    Mistake::FullQueueAlone,
+    Mistake::LastStoreUnlike,
 ];
 
 /// The mistakes about SHR.
@@ -363,7 +484,12 @@ pub fn mistakes_about_begun() -> &'static [Mistake] {
 
 /// The mistakes about line tables and raises.
 pub fn mistakes_about_lines() -> &'static [Mistake] {
-    &MISTAKES[Mistake::SixtyFifthRowAllowed as usize..]
+    &MISTAKES[Mistake::SixtyFifthRowAllowed as usize..=Mistake::StoreBeforeTable as usize]
+}
+
+/// The mistakes about bursts.
+pub fn mistakes_about_bursts() -> &'static [Mistake] {
+    &MISTAKES[Mistake::TailBeforeLastDatum as usize..]
 }
 
 /// Of these, the mistakes in a table's check.
@@ -460,46 +586,25 @@ impl Mutant {
                 if !device.on || !sound(program, store) {
                     return None;
                 }
-                match handler.next {
-                    Next::Event => None,
-                    Next::Datum => {
-                        store[TAIL] = after(store, store[TAIL]);
-                        device.handler = Some(Handler { next: Next::Tail, ..handler });
-                        count_store(totals);
-                        totals.accepted = totals.accepted.saturating_add(1);
-                        Some(storing(Answer::Accepted, TAIL))
-                    }
-                    Next::Tail => {
-                        let slot = if store[TAIL] == 0 { store[3] } else { store[TAIL] - 1 };
-                        let index = store[7] as usize + 2 * slot as usize + 1;
-                        store[index] = handler.datum;
-                        device.handler = None;
-                        count_store(totals);
-                        Some(storing(Answer::Stored, index))
-                    }
-                }
+                bursts::mutants::tail_before_last_datum(store, device, totals, handler)
             }
             Mistake::PhaseBeforeTask => {
                 let Place::NoBody { commit } = device.place else { return None };
                 if !resting || !sound(program, store) {
                     return None;
                 }
-                let n = store[COUNT];
-                let (index, word) = if store[PHASE] == 1 && commit == n {
-                    (PHASE, 0)
-                } else if store[PHASE] == 0 && commit == n + 1 {
-                    (TASK, store[PENDING])
-                } else if store[PHASE] == 0 && commit == n + 2 {
-                    (OPEN, store[PENDING_OPEN])
-                } else if store[PHASE] == 0 && commit == n + 3 {
-                    (BEGUN, NOTHING_BEGUN)
-                } else {
-                    return None;
+                let past = commit.checked_sub(store[COUNT])?;
+                let (index, word) = match (store[PHASE], past) {
+                    (1, 0) => (PHASE, 0),
+                    (0, 1) => (TASK, store[PENDING]),
+                    (0, 2) => (OPEN, store[PENDING_OPEN]),
+                    (0, 3) => (BEGUN, NOTHING_BEGUN),
+                    _ => return None,
                 };
                 store[index] = word;
                 count_store(totals);
-                device.place = Place::NoBody { commit: commit + 1 };
-                if commit == n + 3 {
+                device.place = Place::NoBody { commit: commit.wrapping_add(1) };
+                if past == 3 {
                     *device = Device::ON;
                 }
                 Some(storing(Answer::Stored, index))
@@ -545,7 +650,7 @@ impl Mutant {
                 Some(step)
             }
             Mistake::LogFullEarly => {
-                if !resting || !sound(program, store) || device.log_count + 1 != store[2] {
+                if !resting || !sound(program, store) || device.log_count.checked_add(1) != Some(store[2]) {
                     return None;
                 }
                 let mut copy = store.to_vec();
@@ -682,6 +787,10 @@ impl Mutant {
             _ if mistakes_about_begun().contains(&self.0) => {
                 begun::mutants::step(self.0, begun::mutants::Node { program, store, device, totals })
             }
+            Mistake::AcceptedCountedOnceInRun => None,
+            _ if mistakes_about_bursts().contains(&self.0) => {
+                bursts::mutants::step(self.0, program, store, device, totals)
+            }
             _ => None,
         }
     }
@@ -709,7 +818,7 @@ impl Mutant {
             Mistake::SevenWithoutPlace => 0,
             Mistake::HighestAtBoot if call == Call::Boot => highest,
             Mistake::HighestAtStep if call == Call::Step => highest,
-            Mistake::HighestAtPost if matches!(call, Call::Post { .. }) => highest,
+            Mistake::HighestAtPost if matches!(call, Call::Burst { .. }) => highest,
             Mistake::HighestInRun if matches!(call, Call::Run { .. }) => highest,
             // As 7 has the rules: 8, 9, 10, 14, 15, records; 11, addresses; 12, 13.
             Mistake::ReadingOrder => first_by(&|word| match word {
@@ -808,6 +917,11 @@ impl Mutant {
         if self.0 == Mistake::ShiftOneWordWrongInRun {
             return shift::mutants::step(self.0, program, store, device, totals);
         }
+        if self.0 == Mistake::AcceptedCountedOnceInRun {
+            if let Some(step) = bursts::mutants::step(self.0, program, store, device, totals) {
+                return step;
+            }
+        }
         self.own_step(program, store, device, totals)
     }
 }
@@ -826,6 +940,7 @@ impl Runtime for Mutant {
         let old = *device;
         let answer = match self.0 {
             Mistake::EventInOpenTransaction => as_if_closed(store, |store| Reference.boot(program, store, device)),
+            Mistake::CutKeepsStoredRecords => bursts::mutants::boot(program, store, device),
             _ => begun::mutants::boot(self.0, program, store, device),
         };
         if self.0 == Mistake::BootRefusesUnlike && answer == Answer::Done && old != Device::OFF {
@@ -840,7 +955,14 @@ impl Runtime for Mutant {
         StepAnswer { answer: self.answer(Call::Step, program, store, step.answer), ..step }
     }
 
-    fn post(&self, program: &[u16], store: &mut [u16], device: &mut Device, event: u16, datum: u16) -> Answer {
+    fn burst(
+        &self,
+        program: &[u16],
+        store: &mut [u16],
+        device: &mut Device,
+        count: u16,
+        words: &BurstWords,
+    ) -> Answer {
         let old = *device;
         if self.0 == Mistake::PostLooksAtAll {
             if let Some(lowest) = broken(program, store).all.first() {
@@ -849,26 +971,26 @@ impl Runtime for Mutant {
         }
         let mistaken = match self.0 {
             Mistake::EventInOpenTransaction => {
-                Some(as_if_closed(store, |store| Reference.post(program, store, device, event, datum)))
+                Some(as_if_closed(store, |store| Reference.burst(program, store, device, count, words)))
             }
             _ if mistakes_about_begun().contains(&self.0) => {
-                begun::mutants::post(self.0, program, store, device, (event, datum))
+                begun::mutants::burst(self.0, program, store, device, (count, words))
+            }
+            _ if mistakes_about_bursts().contains(&self.0) => {
+                bursts::mutants::burst(self.0, program, store, device, (count, words))
             }
             _ => None,
         };
-        let answer = mistaken.unwrap_or_else(|| Reference.post(program, store, device, event, datum));
-        if self.0 == Mistake::QueueFullEarly && answer == Answer::Done {
-            let after_two = after(store, after(store, store[TAIL]));
-            if after_two == store[HEAD] {
-                *device = old;
-                return refused(21);
-            }
+        let answer = mistaken.unwrap_or_else(|| Reference.burst(program, store, device, count, words));
+        if self.0 == Mistake::QueueFullEarly && answer == Answer::Done && bursts::room(store) == count as usize {
+            *device = old;
+            return refused(21);
         }
-        self.answer(Call::Post { event, datum }, program, store, answer)
+        self.answer(Call::Burst { count, words: *words }, program, store, answer)
     }
 
     fn cut(&self, device: &mut Device) -> Answer {
-        Reference.cut(device)
+        bursts::mutants::cut(self.0, device)
     }
 
     fn run(

@@ -343,6 +343,16 @@ impl Parts {
             slot + 1
         }
     }
+
+    /// The slot so many after this one; not more than there are in the ring.
+    fn past(&self, slot: usize, many: usize) -> usize {
+        let slots = self.queue_records + 1;
+        if slot + many < slots {
+            slot + many
+        } else {
+            slot + many - slots
+        }
+    }
 }
 
 /// The length of a store: two words for each of L log pairs and of Q + 1 slots behind the memory.
@@ -530,20 +540,27 @@ pub fn broken(program: &[u16], store: &[u16]) -> Broken {
 // ---------------------------------------------------------------------------------------------------------
 // Step
 
-/// What a step or a post has looked at before it does anything.
+/// What a step, a post or a burst has looked at before it does anything.
 struct Look {
     head: Head,
     parts: Parts,
 }
 
 impl Look {
-    /// Empty: head equals tail. Full: the slot after tail is head.
+    /// Empty: head equals tail.
     fn queue_empty(&self, store: &[u16]) -> bool {
         store[HEAD] == store[TAIL]
     }
 
-    fn queue_full(&self, store: &[u16]) -> bool {
-        self.parts.after(store[TAIL] as usize) == store[HEAD] as usize
+    /// How many records more the queue takes: Q less the slots from head to tail. In phase 2 a committed record's slot is
+    /// among them until head has moved.
+    fn room(&self, store: &[u16]) -> usize {
+        let (head, tail) = (store[HEAD] as usize, store[TAIL] as usize);
+        if head <= tail {
+            self.parts.queue_records - (tail - head)
+        } else {
+            head - tail - 1
+        }
     }
 }
 
@@ -556,6 +573,23 @@ pub fn running_word(device: &Device) -> u16 {
     }
 }
 
+/// The position of a burst's first event that the program doesn't have.
+#[inline(always)]
+fn first_bad_event(look: &Look, length: usize, words: &BurstWords) -> Option<usize> {
+    words.iter().step_by(2).take(length).position(|event| *event as usize >= look.head.events)
+}
+
+/// 25 meets a handler "whose burst doesn't fit, is past its tail store or has a length or an event out of range".
+#[inline(always)]
+fn handler_unlike(look: &Look, store: &[u16], handler: &Handler) -> bool {
+    let length = handler.length as usize;
+    length == 0
+        || length > MAX_BURST
+        || handler.made as usize > 2 * length
+        || length > look.room(store)
+        || first_bad_event(look, length, &handler.words).is_some()
+}
+
 /// The parts of 25 that need no row, instruction, log pair or record.
 #[inline(always)]
 fn state_unlike(look: &Look, store: &[u16], device: &Device) -> bool {
@@ -565,8 +599,8 @@ fn state_unlike(look: &Look, store: &[u16], device: &Device) -> bool {
     if device.log_count as usize > look.parts.log_pairs {
         return true;
     }
-    if let Some(handler) = device.handler {
-        if look.queue_full(store) || handler.event as usize >= look.head.events {
+    if let Some(handler) = &device.handler {
+        if handler_unlike(look, store, handler) {
             return true;
         }
     }
@@ -612,7 +646,7 @@ fn state_unlike(look: &Look, store: &[u16], device: &Device) -> bool {
     }
 }
 
-/// What step and post look at first: 1, 2, 3, 6, 7, 25, 22.
+/// What step, post and burst look at first: 1, 2, 3, 6, 7, 25, 22.
 #[inline(always)]
 fn look(program: &[u16], store: &[u16], device: &Device) -> Result<Look, Refusal> {
     let head = head(program)?;
@@ -643,26 +677,25 @@ impl Node<'_> {
     fn make(&mut self, (index, word): Store) {
         self.store[index] = word;
         *self.made = Some(index);
-        add_one(&mut self.totals.stores);
+        add(&mut self.totals.stores, 1);
     }
 }
 
-/// A handler at work makes its next store: event, data, then tail.
+/// A handler at work makes its next store: each event and then its data, in the slots from tail on; then tail.
 #[inline(always)]
 fn handler_store(look: &Look, mut node: Node, handler: Handler) -> Answer {
     let tail = node.store[TAIL] as usize;
-    let slot = look.parts.slot(tail);
-    let (answer, made, next) = match handler.next {
-        Next::Event => (Answer::Stored, (slot, handler.event), Some(Next::Datum)),
-        Next::Datum => (Answer::Stored, (slot + 1, handler.datum), Some(Next::Tail)),
-        Next::Tail => (Answer::Accepted, (TAIL, look.parts.after(tail) as u16), None),
-    };
-    node.make(made);
-    if answer == Answer::Accepted {
-        add_one(&mut node.totals.accepted);
+    let (made, length) = (handler.made as usize, handler.length as usize);
+    if made < 2 * length {
+        let slot = look.parts.slot(look.parts.past(tail, made / 2));
+        node.make((slot + made % 2, handler.words[made]));
+        node.device.handler = Some(Handler { made: handler.made + 1, ..handler });
+        return Answer::Stored;
     }
-    node.device.handler = next.map(|next| Handler { next, ..handler });
-    answer
+    node.make((TAIL, look.parts.past(tail, length) as u16));
+    add(&mut node.totals.accepted, handler.length as u32);
+    node.device.handler = None;
+    Answer::Accepted
 }
 
 /// A commit makes its next store after the commit store: n copies; 9 from 12 and 10 from 13, or 14 from 12;
@@ -835,7 +868,7 @@ fn ending_store(mut node: Node, stand: Stand, stores: &[Store]) -> Answer {
     let made = stores[ending as usize];
     node.make(made);
     if made.0 == PHASE {
-        add_one(&mut node.totals.committed);
+        add(&mut node.totals.committed, 1);
         *node.device = Device::ON;
         return Answer::Committed(body);
     }
@@ -957,9 +990,12 @@ fn done_or<T>(result: Result<T, Refusal>) -> Answer {
     }
 }
 
-fn add_one(total: &mut u32) {
-    if *total < u32::MAX {
-        *total += 1;
+/// A total rises, and stays at its largest value.
+fn add(total: &mut u32, more: u32) {
+    if *total < u32::MAX - more {
+        *total += more;
+    } else {
+        *total = u32::MAX;
     }
 }
 
@@ -990,18 +1026,23 @@ fn boot(program: &[u16], store: &[u16], device: &mut Device) -> Result<(), Refus
     Ok(())
 }
 
-fn post(program: &[u16], store: &[u16], device: &mut Device, event: u16, datum: u16) -> Result<(), Refusal> {
+#[inline(always)]
+fn burst(program: &[u16], store: &[u16], device: &mut Device, count: u16, words: &BurstWords) -> Result<(), Refusal> {
     let look = look(program, store, device)?;
-    if event as usize >= look.head.events {
-        return Err(refusal(8));
+    let length = count as usize;
+    if length == 0 || length > MAX_BURST {
+        return Err(refusal(33));
+    }
+    if let Some(position) = first_bad_event(&look, length, words) {
+        return Err(refusal_at(8, position, 0));
     }
     if device.handler.is_some() {
         return Err(refusal(20));
     }
-    if look.queue_full(store) {
+    if length > look.room(store) {
         return Err(refusal(21));
     }
-    device.handler = Some(Handler { next: Next::Event, event, datum });
+    device.handler = Some(Handler::new(count, words));
     Ok(())
 }
 
@@ -1055,8 +1096,15 @@ impl Runtime for Reference {
         StepAnswer { answer, stored: made.map(|index| index as u16) }
     }
 
-    fn post(&self, program: &[u16], store: &mut [u16], device: &mut Device, event: u16, datum: u16) -> Answer {
-        done_or(post(program, store, device, event, datum))
+    fn burst(
+        &self,
+        program: &[u16],
+        store: &mut [u16],
+        device: &mut Device,
+        count: u16,
+        words: &BurstWords,
+    ) -> Answer {
+        done_or(burst(program, store, device, count, words))
     }
 
     fn cut(&self, device: &mut Device) -> Answer {

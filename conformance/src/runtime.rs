@@ -2,7 +2,7 @@
 //! the trait `Runtime` that every implementation stands behind. Nothing here decides anything.
 //!
 //! A word is a `u16`. A program and a store are slices of words. The device state is a plain value, also
-//! available as 18 words (`Device::to_words`), which is the form for functions of another language.
+//! available as 26 words (`Device::to_words`), which is the form for functions of another language.
 
 use crate::lines;
 use crate::scenario::{Call, Outcome};
@@ -71,20 +71,49 @@ pub enum Place {
     HalfSave { body: Body, instruction: u16 },
 }
 
-/// The handler's next store.
-#[derive(Clone, Copy, PartialEq, Eq, Debug)]
-pub enum Next {
-    Event,
-    Datum,
-    Tail,
-}
+/// The most events of a burst, and the words of a burst: its first event, that event's data, its second event, ..
+pub const MAX_BURST: usize = 4;
+pub const BURST_WORDS: usize = 2 * MAX_BURST;
+pub type BurstWords = [u16; BURST_WORDS];
 
-/// A handler at work.
+/// A handler at work: how many events its burst has, how many of its stores are made (of each event, of its data, and
+/// last of the tail), and the burst's words. Those behind its last event's data are 0.
 #[derive(Clone, Copy, PartialEq, Eq, Debug)]
 pub struct Handler {
-    pub next: Next,
-    pub event: u16,
-    pub datum: u16,
+    pub length: u16,
+    pub made: u16,
+    pub words: BurstWords,
+}
+
+impl Handler {
+    /// With no store made, and 0 behind the last event's data, whatever was there.
+    pub fn new(length: u16, words: &BurstWords) -> Handler {
+        let mut words = *words;
+        words[used_words(length)..].fill(0);
+        Handler { length, made: 0, words }
+    }
+
+    /// Of one event.
+    pub fn single(event: u16, datum: u16) -> Handler {
+        Handler::new(1, &single(event, datum))
+    }
+
+    /// How many of its words are events and data; all of them where the length is out of range above.
+    pub fn used(&self) -> usize {
+        used_words(self.length)
+    }
+}
+
+/// How many words of a burst of so many events are looked at.
+fn used_words(length: u16) -> usize {
+    2 * (length as usize).min(MAX_BURST)
+}
+
+/// The words of a burst of one.
+pub fn single(event: u16, datum: u16) -> BurstWords {
+    let mut words = [0; BURST_WORDS];
+    words[..2].copy_from_slice(&[event, datum]);
+    words
 }
 
 /// The device state, which a cut loses. No handler means a handler at rest.
@@ -98,7 +127,7 @@ pub struct Device {
 }
 
 /// The number of words in the flat form of a device state.
-pub const DEVICE_WORDS: usize = 18;
+pub const DEVICE_WORDS: usize = 26;
 
 impl Device {
     /// Off: one fixed value.
@@ -115,8 +144,8 @@ impl Device {
 
     /// The flat form. Words: 0 on; 1 to 8 registers; 9 place (0 no body, 1 running, 2 half a SAVE);
     /// 10 kind of body (0 task, 1 event); 11 its number; 12 its instruction; 13 commit place, or ending
-    /// stores made; 14 log count; 15 handler (0 at rest, else its next store: 1 event, 2 data, 3 tail);
-    /// 16 its event; 17 its data. What a case doesn't have is 0.
+    /// stores made; 14 log count; 15 handler (0 at rest, 1 at work); 16 the length of its burst; 17 how many
+    /// of its stores are made; 18 to 25 the burst's words. What a case doesn't have is 0.
     pub fn to_words(&self) -> [u16; DEVICE_WORDS] {
         let mut words = [0; DEVICE_WORDS];
         words[0] = self.on as u16;
@@ -144,13 +173,10 @@ impl Device {
         }
         words[14] = self.log_count;
         if let Some(handler) = self.handler {
-            words[15] = match handler.next {
-                Next::Event => 1,
-                Next::Datum => 2,
-                Next::Tail => 3,
-            };
-            words[16] = handler.event;
-            words[17] = handler.datum;
+            words[15] = 1;
+            words[16] = handler.length;
+            words[17] = handler.made;
+            words[18..].copy_from_slice(&handler.words);
         }
         words
     }
@@ -166,20 +192,17 @@ impl Device {
             1 => Place::Running { body, instruction: words[12], ending: words[13] },
             _ => Place::HalfSave { body, instruction: words[12] },
         };
-        let next = match words[15] {
-            0 => None,
-            1 => Some(Next::Event),
-            2 => Some(Next::Datum),
-            _ => Some(Next::Tail),
-        };
         let mut registers = [0; 8];
         registers.copy_from_slice(&words[1..9]);
+        let mut burst = [0; BURST_WORDS];
+        burst.copy_from_slice(&words[18..]);
+        let handler = Handler { made: words[17], ..Handler::new(words[16], &burst) };
         let device = Device {
             on: words[0] != 0,
             registers,
             place,
             log_count: words[14],
-            handler: next.map(|next| Handler { next, event: words[16], datum: words[17] }),
+            handler: (words[15] != 0).then_some(handler),
         };
         if device.to_words() == *words {
             Some(device)
@@ -197,7 +220,7 @@ pub struct Totals {
     pub stores: u32,
 }
 
-/// An implementation. Boot, post and raise get the store as a slice to be written, although they make no store,
+/// An implementation. Boot, post, burst and raise get the store as a slice to be written, although they make no store,
 /// so that a store made by mistake shows in the comparison.
 pub trait Runtime {
     fn check(&self, program: &[u16]) -> Answer;
@@ -208,7 +231,20 @@ pub trait Runtime {
 
     fn step(&self, program: &[u16], store: &mut [u16], device: &mut Device, totals: &mut Totals) -> StepAnswer;
 
-    fn post(&self, program: &[u16], store: &mut [u16], device: &mut Device, event: u16, datum: u16) -> Answer;
+    /// A burst of so many events, any number. Of its words those behind the last event's data aren't looked at.
+    fn burst(
+        &self,
+        program: &[u16],
+        store: &mut [u16],
+        device: &mut Device,
+        count: u16,
+        words: &BurstWords,
+    ) -> Answer;
+
+    /// "A single post is a burst of one."
+    fn post(&self, program: &[u16], store: &mut [u16], device: &mut Device, event: u16, datum: u16) -> Answer {
+        self.burst(program, store, device, 1, &single(event, datum))
+    }
 
     fn cut(&self, device: &mut Device) -> Answer;
 

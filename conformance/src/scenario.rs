@@ -19,6 +19,8 @@ pub enum Call {
     Boot,
     Step,
     Post { event: u16, datum: u16 },
+    /// So many events; of the words those behind the last one's data aren't looked at.
+    Burst { count: u16, words: BurstWords },
     Cut,
     Run { budget: u32 },
     LinesCheck { table: Table },
@@ -43,9 +45,9 @@ pub const LARGE_BUDGET: u32 = 10_000;
 
 /// The calls of the runtime by name, for counting.
 pub const CALL_NAMES: [&str; CALL_KINDS] =
-    ["check", "format", "boot", "step", "post", "cut", "run", "lines-check", "raise"];
+    ["check", "format", "boot", "step", "post", "cut", "run", "lines-check", "raise", "burst"];
 
-pub const CALL_KINDS: usize = 9;
+pub const CALL_KINDS: usize = 10;
 
 impl Call {
     /// The index in `CALL_NAMES`, or none for a change.
@@ -60,13 +62,14 @@ impl Call {
             Call::Run { .. } => Some(6),
             Call::LinesCheck { .. } => Some(7),
             Call::Raise { .. } => Some(8),
+            Call::Burst { .. } => Some(9),
             _ => None,
         }
     }
 
     /// Whether it is given the device.
     pub fn takes_device(&self) -> bool {
-        matches!(self.kind(), Some(2..=6 | 8))
+        matches!(self.kind(), Some(2..=6 | 8..))
     }
 
     /// Whether it looks at it. A cut leaves the off value, whatever it finds.
@@ -202,6 +205,7 @@ impl Machine {
             Call::Boot => runtime.boot(program, store, device),
             Call::Step => return Some(Outcome::Step(runtime.step(program, store, device, totals))),
             Call::Post { event, datum } => runtime.post(program, store, device, *event, *datum),
+            Call::Burst { count, words } => runtime.burst(program, store, device, *count, words),
             Call::Cut => runtime.cut(device),
             Call::Run { budget } => {
                 return Some(Outcome::Run(runtime.run(program, store, device, totals, *budget)));
@@ -277,6 +281,7 @@ pub fn call_text(call: &Call) -> String {
         Call::Boot => "boot".into(),
         Call::Step => "step".into(),
         Call::Post { event, datum } => format!("post {event} {datum}"),
+        Call::Burst { count, words } => words_text(&format!("burst {count}"), words),
         Call::Cut => "cut".into(),
         Call::Run { budget } => format!("run {budget}"),
         Call::LinesCheck { table } => words_text("lines-check", table),
@@ -437,11 +442,17 @@ impl<'a> Line<'a> {
         Ok(Totals { committed: self.number()?, accepted: self.number()?, stores: self.number()? })
     }
 
-    fn device(&mut self) -> Result<Call, String> {
-        let mut words = [0; DEVICE_WORDS];
+    /// So many words.
+    fn array<const COUNT: usize>(&mut self) -> Result<[u16; COUNT], String> {
+        let mut words = [0; COUNT];
         for place in &mut words {
             *place = self.word()?;
         }
+        Ok(words)
+    }
+
+    fn device(&mut self) -> Result<Call, String> {
+        let words = self.array()?;
         Ok(match Device::from_words(&words) {
             Some(device) => Call::SetDevice(device),
             None => Call::SetWords(words),
@@ -455,6 +466,7 @@ impl<'a> Line<'a> {
             "boot" => Call::Boot,
             "step" => Call::Step,
             "post" => Call::Post { event: self.word()?, datum: self.word()? },
+            "burst" => Call::Burst { count: self.word()?, words: self.array()? },
             "cut" => Call::Cut,
             "run" => Call::Run { budget: self.number()? },
             "lines-check" => Call::LinesCheck { table: self.words()?.into() },

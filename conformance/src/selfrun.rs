@@ -1,11 +1,11 @@
-//! One implementation over an undamaged list: demand 3 and whose turn it is after every call, at most one store for
-//! each step, the totals, run against single steps, and only the refusals that such a list may meet.
+//! One implementation over an undamaged list: demand 3, bursts whole or not at all, and whose turn it is after every call,
+//! at most one store for each step, the totals, run against single steps, and only the refusals that such a list may meet.
 
 use crate::compare::{word_difference, Counts, Difference};
 use crate::reference::PHASE;
 use crate::runtime::*;
 use crate::scenario::{Call, Machine, Outcome, Scenario};
-use crate::serial::{demand_3, Expected, Serial};
+use crate::serial::{demand_3, Expected, Serial, Whole};
 use crate::turn::Turn;
 
 /// Whether an undamaged list may meet this refusal.
@@ -14,6 +14,7 @@ fn expected_refusal(call: &Call, number: u16) -> bool {
         Call::Boot => number == 26,
         Call::Step => matches!(number, 22..=24),
         Call::Post { .. } => matches!(number, 8 | 20 | 21 | 22),
+        Call::Burst { .. } => matches!(number, 8 | 20 | 21 | 22 | 33),
         Call::LinesCheck { .. } => about_the_table(number),
         Call::Raise { .. } => matches!(number, 8 | 20 | 21 | 22) || about_the_table(number),
         _ => false,
@@ -38,6 +39,7 @@ struct Watch<'a> {
     machine: Machine,
     serial: Serial,
     turn: Turn,
+    whole: Whole,
     before: Vec<u16>,
     copy: Vec<u16>,
     recovering: bool,
@@ -68,6 +70,9 @@ impl Watch<'_> {
         };
         counts.add(call, &device, phase, self.recovering, &outcome);
         self.hold_stores(&outcome, &answer)?;
+        if in_the_list(call, &answer) {
+            self.whole.read(call, &answer, &self.machine.store).map_err(|text| format!("{answer:?}: {text}"))?;
+        }
         self.hold_totals(&totals, &answer, counts)?;
         self.hold_refusal(call, &device, &answer)?;
         match (call, answer) {
@@ -86,7 +91,7 @@ impl Watch<'_> {
 
     fn demand_3(&mut self) -> Result<(), String> {
         let Machine { program, store, device, .. } = &self.machine;
-        let expected = Expected { serial: &self.serial, turn: &self.turn };
+        let expected = Expected { serial: &self.serial, turn: &self.turn, whole: &self.whole };
         demand_3(self.runtime, program, store, device, expected, &mut self.copy)
     }
 
@@ -111,8 +116,9 @@ impl Watch<'_> {
             counts.committed += 1;
         }
         if *answer == Answer::Accepted {
-            expected.accepted = expected.accepted.saturating_add(1);
-            counts.accepted += 1;
+            let length = self.serial.carried().len();
+            expected.accepted = expected.accepted.saturating_add(length as u32);
+            counts.accepted += length as u64;
         }
         if self.machine.totals != expected {
             return Err(format!("{answer:?}: totals {:?}, {expected:?} expected", self.machine.totals));
@@ -203,6 +209,7 @@ pub fn drive(runtime: &dyn Runtime, scenario: &Scenario, counts: &mut Counts) ->
         machine,
         serial,
         turn: Turn::default(),
+        whole: Whole::default(),
         before: Vec::new(),
         copy: Vec::new(),
         recovering: false,

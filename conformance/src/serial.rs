@@ -1,6 +1,7 @@
 //! The serial run: the history that a list of calls with their answers must amount to. It has the program
 //! and reads the list, never the store. With it the check of demand 3 in running code: after every call a
-//! copy of the store is recovered and compared with the serial run's state. The interpreter here is its own
+//! copy of the store is recovered and compared with the serial run's state; and beside it that of N6's "several events
+//! or none". The interpreter here is its own
 //! and knows no log.
 
 use crate::reference::{BEGUN, COUNT, HEAD, MEMORY, OPEN, PENDING, PHASE, TAIL, TASK};
@@ -9,6 +10,9 @@ use crate::scenario::Call;
 use crate::turn::Turn;
 use std::collections::VecDeque;
 
+/// Event and data.
+pub type Record = (u16, u16);
+
 /// The serial run's state.
 #[derive(Clone, Debug)]
 pub struct Serial {
@@ -16,9 +20,9 @@ pub struct Serial {
     pub task: u16,
     pub open: u16,
     /// The records not yet taken: event and data, oldest first.
-    pub records: VecDeque<(u16, u16)>,
-    /// What the latest post with the answer done carried.
-    latest: Option<(u16, u16)>,
+    pub records: VecDeque<Record>,
+    /// What the latest post or burst with the answer done carried.
+    latest: Vec<Record>,
     /// Records added so far, events committed so far.
     pub accepted: u64,
     pub completed: u64,
@@ -40,7 +44,7 @@ impl Serial {
             task: program[4],
             open: 0,
             records: VecDeque::new(),
-            latest: None,
+            latest: Vec::new(),
             accepted: 0,
             completed: 0,
             calls: 0,
@@ -51,15 +55,13 @@ impl Serial {
     pub fn read(&mut self, program: &[u16], call: &Call, answer: &Answer) -> Result<(), String> {
         self.calls += 1;
         match (call, answer) {
-            (Call::Post { event, datum }, Answer::Done) => self.latest = Some((*event, *datum)),
-            (Call::Raise { table, line, level }, Answer::Done) => {
-                let event = event_of(table, *line, *level).ok_or("a raise without an event is done")?;
-                self.latest = Some((event, *level));
-            }
+            (Call::Post { .. } | Call::Burst { .. } | Call::Raise { .. }, Answer::Done) => self.latest = posted(call)?,
             (_, Answer::Accepted) => {
-                let record = self.latest.ok_or("accepted without a post")?;
-                self.records.push_back(record);
-                self.accepted += 1;
+                if self.latest.is_empty() {
+                    return Err("accepted without a post".into());
+                }
+                self.records.extend(&self.latest);
+                self.accepted += self.latest.len() as u64;
             }
             (_, Answer::Committed(Body::Task(number))) => {
                 if *number != self.task {
@@ -89,6 +91,11 @@ impl Serial {
             _ => {}
         }
         Ok(())
+    }
+
+    /// What the latest post or burst with the answer done carried.
+    pub fn carried(&self) -> &[Record] {
+        &self.latest
     }
 
     /// Run a body from its first instruction on the memory, register 0 holding an event's data.
@@ -137,6 +144,22 @@ impl Serial {
     }
 }
 
+/// The records of a post, a burst or a raise with the answer done.
+fn posted(call: &Call) -> Result<Vec<Record>, String> {
+    match call {
+        Call::Post { event, datum } => Ok(vec![(*event, *datum)]),
+        Call::Burst { count: count @ 1..=4, words } => {
+            Ok(words.chunks(2).take(*count as usize).map(|pair| (pair[0], pair[1])).collect())
+        }
+        Call::Burst { count, .. } => Err(format!("a burst of {count} is done")),
+        Call::Raise { table, line, level } => {
+            let event = event_of(table, *line, *level).ok_or("a raise without an event is done")?;
+            Ok(vec![(event, *level)])
+        }
+        _ => Ok(Vec::new()),
+    }
+}
+
 /// The event that a line table has for a level of a line.
 fn event_of(table: &[u16], line: u16, level: u16) -> Option<u16> {
     let row = table.chunks_exact(4).find(|row| row[0] == line && (row[1]..=row[2]).contains(&level))?;
@@ -147,27 +170,81 @@ fn transaction_of(program: &[u16], task: u16) -> u16 {
     program[8 + 3 * task as usize]
 }
 
-/// The store's waiting records are these: to tail from head, in phase 2 from word 12.
-fn compare_records(store: &[u16], serial: &Serial, when: &str) -> Result<(), String> {
+/// The store's waiting records: to tail from head, in phase 2 from word 12.
+fn waiting_records(store: &[u16]) -> Result<Vec<Record>, String> {
     let ring = store[3] as usize + 1;
     let queue = store[7] as usize;
     let tail = store[TAIL] as usize;
     let mut slot = if store[PHASE] == 2 { store[PENDING] as usize } else { store[HEAD] as usize };
     if slot >= ring || tail >= ring {
-        return Err(format!("{when}: head {slot} or tail {tail} outside the ring"));
+        return Err(format!("head {slot} or tail {tail} outside the ring"));
     }
-    let mut waiting = 0;
+    let mut records = Vec::new();
     while slot != tail {
-        let record = (store[queue + 2 * slot], store[queue + 2 * slot + 1]);
-        if serial.records.get(waiting) != Some(&record) {
+        records.push((store[queue + 2 * slot], store[queue + 2 * slot + 1]));
+        slot = (slot + 1) % ring;
+    }
+    Ok(records)
+}
+
+/// Request N6, "Several events or none": of each burst all records come in together, in order, or none. Read from calls,
+/// their answers and the store's waiting records alone.
+#[derive(Clone, Debug, Default)]
+pub struct Whole {
+    /// The records that waited after the latest call.
+    waiting: Vec<Record>,
+    /// What the latest post or burst with the answer done carried, unless that has come in.
+    latest: Vec<Record>,
+}
+
+impl Whole {
+    /// Read a call with its answer, and the store as it left it.
+    pub fn read(&mut self, call: &Call, answer: &Answer, store: &[u16]) -> Result<(), String> {
+        let records = waiting_records(store)?;
+        if *answer == Answer::Done && matches!(call, Call::Post { .. } | Call::Burst { .. } | Call::Raise { .. }) {
+            self.latest = posted(call)?;
+        }
+        // A committed event's record waits no more.
+        let gone = matches!(answer, Answer::Committed(Body::Event(_))) as usize;
+        let before = self.waiting.get(gone..).unwrap_or(&[]);
+        let Some(came) = records.strip_prefix(before) else {
+            return Err(format!("{:?} waited, now {records:?}", self.waiting));
+        };
+        if !came.is_empty() && came != self.latest {
+            return Err(format!("{came:?} came in of a burst of {:?}", self.latest));
+        }
+        if came.is_empty() != (*answer != Answer::Accepted) {
+            return Err(format!("{came:?} came in"));
+        }
+        if !came.is_empty() {
+            self.latest.clear();
+        }
+        self.waiting = records;
+        Ok(())
+    }
+
+    /// Uncut recovery has left this store: the same records wait.
+    fn recovered(&self, store: &[u16]) -> Result<(), String> {
+        let records = waiting_records(store)?;
+        if records != self.waiting {
+            return Err(format!("recovery: {:?} waited, now {records:?}", self.waiting));
+        }
+        Ok(())
+    }
+}
+
+/// The store's waiting records are the serial run's.
+fn compare_records(store: &[u16], serial: &Serial, when: &str) -> Result<(), String> {
+    let records = waiting_records(store).map_err(|text| format!("{when}: {text}"))?;
+    for (number, record) in records.iter().enumerate() {
+        if serial.records.get(number) != Some(record) {
             return Err(format!(
-                "{when}: waiting record {waiting} is {record:?}, serial records {:?}",
+                "{when}: waiting record {number} is {record:?}, serial records {:?}",
                 serial.records
             ));
         }
-        waiting += 1;
-        slot = (slot + 1) % ring;
     }
+    let waiting = records.len();
     if waiting != serial.records.len() {
         return Err(format!("{when}: {waiting} records wait, serial records {:?}", serial.records));
     }
@@ -212,10 +289,11 @@ fn recover(runtime: &dyn Runtime, program: &[u16], copy: &mut [u16], device: &De
     Ok(device)
 }
 
-/// What is expected at one point of a list: the serial run, and whose turn it is.
+/// What is expected at one point of a list: the serial run, whose turn it is, and the records that came in.
 pub struct Expected<'a> {
     pub serial: &'a Serial,
     pub turn: &'a Turn,
+    pub whole: &'a Whole,
 }
 
 /// Demand 3 at one point of a list: recover a copy of the store and compare it with the serial run, and with it what
@@ -225,13 +303,14 @@ pub fn demand_3(
     program: &[u16],
     store: &[u16],
     device: &Device,
-    Expected { serial, turn }: Expected,
+    Expected { serial, turn, whole }: Expected,
     copy: &mut Vec<u16>,
 ) -> Result<(), String> {
     compare_records(store, serial, "before recovery")?;
     copy.clear();
     copy.extend_from_slice(store);
     let device = recover(runtime, program, copy, device)?;
+    whole.recovered(copy)?;
     if (device, copy[BEGUN]) != (turn.recovered(serial), turn.word()) {
         return Err(format!("recovery: word 16 is {}, device {device:?}, {turn:?} expected", copy[BEGUN]));
     }

@@ -332,8 +332,8 @@ fn devices(phase: u16, begun: u16) -> Vec<Device> {
     places.into_iter().map(|place| Device { place, ..Device::ON }).collect()
 }
 
-/// The lists that every comparison starts with: from right words on, each of the changes, then a boot, a post, and a
-/// step and a run with each device.
+/// The lists that every comparison starts with: from right words on, each of the changes, then a boot, a post, a
+/// burst, and a step and a run with each device.
 pub fn lists() -> Vec<Scenario> {
     let (log_pairs, queue_records) = SIZES;
     let program = program();
@@ -348,6 +348,7 @@ pub fn lists() -> Vec<Scenario> {
             let mut call = |device: Device, call: Call| calls.extend([Call::SetDevice(device), call, Call::Restore]);
             call(Device::OFF, Call::Boot);
             call(Device::ON, Call::Post { event: 1, datum: 9 });
+            call(Device::ON, Call::Burst { count: 2, words: [1, 9, 0, 8, 0, 0, 0, 0] });
             for device in devices(control[0], control[BEGUN - CONTROL]) {
                 call(device, Call::Step);
                 call(device, Call::Run { budget: 3 });

@@ -1,7 +1,9 @@
 //! Shortening a list of calls that fails: remove parts of it, halves first and single calls last, as long as
-//! what is left still fails; then smaller budgets, one run in the place of several steps, and line tables with fewer rows.
+//! what is left still fails; then smaller budgets, one run in the place of several steps, line tables with fewer rows,
+//! and shorter bursts.
 
 use crate::lines::ROW_WORDS;
+use crate::runtime::Handler;
 use crate::scenario::{Call, Scenario};
 
 /// The shortened scenario. `fails` tells whether a scenario still fails.
@@ -11,6 +13,7 @@ pub fn shorten(scenario: &Scenario, fails: &dyn Fn(&Scenario) -> bool) -> Scenar
     smaller_budgets(&mut best, fails);
     gather_steps(&mut best, fails);
     fewer_rows(&mut best, fails);
+    shorter_bursts(&mut best, fails);
     best
 }
 
@@ -81,6 +84,24 @@ fn smaller_budgets(best: &mut Scenario, fails: &dyn Fn(&Scenario) -> bool) {
             match smaller {
                 Some(candidate) => *best = candidate,
                 None => break,
+            }
+        }
+    }
+}
+
+/// Bursts of as few events as still fail, with 0 behind the last one's data; one of one event as a post.
+fn shorter_bursts(best: &mut Scenario, fails: &dyn Fn(&Scenario) -> bool) {
+    for index in 0..best.calls.len() {
+        let Call::Burst { count, words } = best.calls[index] else { continue };
+        let burst = |count: u16| Call::Burst { count, words: Handler::new(count, &words).words };
+        let post = Call::Post { event: words[0], datum: words[1] };
+        let shorter = (1..=count.min(5)).map(burst).filter(|call| *call != best.calls[index]);
+        for call in [post].into_iter().chain(shorter) {
+            let mut candidate = best.clone();
+            candidate.calls[index] = call;
+            if fails(&candidate) {
+                *best = candidate;
+                break;
             }
         }
     }

@@ -127,6 +127,26 @@ pub unsafe extern "C" fn post(
 
 /// # Safety
 /// See `check`.
+#[allow(clippy::too_many_arguments)]
+pub unsafe extern "C" fn burst(
+    program: *const u16,
+    length: usize,
+    store: *mut u16,
+    store_length: usize,
+    device: *mut u16,
+    count: u16,
+    burst: *const u16,
+    out: *mut u16,
+) {
+    let (program, store) = (words(program, length), words_mut(store, store_length));
+    let mut lent = [0; BURST_WORDS];
+    lent.copy_from_slice(words(burst, BURST_WORDS));
+    let answer = with_device(device, |device| behind().burst(program, store, device, count, &lent));
+    put(answer_words(&answer.unwrap_or(Answer::NoDevice)), out);
+}
+
+/// # Safety
+/// See `check`.
 pub unsafe extern "C" fn cut(device: *mut u16, out: *mut u16) {
     words_mut(device, DEVICE_WORDS).copy_from_slice(&Device::OFF.to_words());
     let answer = with_device(device, |device| behind().cut(device));
@@ -189,4 +209,4 @@ pub unsafe extern "C" fn raise(
     put(answer_words(&answer), out);
 }
 
-pub const FUNCTIONS: Functions = Functions { check, format, boot, step, post, cut, run, lines_check, raise };
+pub const FUNCTIONS: Functions = Functions { check, format, boot, step, post, burst, cut, run, lines_check, raise };

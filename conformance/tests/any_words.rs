@@ -86,7 +86,7 @@ fn device(random: &mut Random) -> Device {
     words[0] = random.percent(90) as u16;
     words[9] %= 3;
     words[10] %= 2;
-    words[15] = if random.percent(70) { 0 } else { random.below(4) as u16 };
+    words[15] = random.percent(30) as u16;
     if words[9] == 0 {
         words[10] = 0;
         words[11] = 0;
@@ -96,10 +96,17 @@ fn device(random: &mut Random) -> Device {
         words[13] = 0;
     }
     if words[15] == 0 {
-        words[16] = 0;
-        words[17] = 0;
+        words[16..].fill(0);
     }
+    let used = 2 * words[16].min(4) as usize;
+    words[18 + used..].fill(0);
     Device::from_words(&words).expect("a device's words")
+}
+
+fn burst(random: &mut Random) -> BurstWords {
+    let mut words = [0; BURST_WORDS];
+    words.iter_mut().for_each(|word| *word = if random.percent(80) { random.below(3) as u16 } else { random.word() });
+    words
 }
 
 #[test]
@@ -118,7 +125,7 @@ fn any_words() {
         let mut machine = Machine { program, store, device: device(&mut random), stray: None, totals };
         for _ in 0..random.from(1, 6) {
             let lent = random.pick(&tables);
-            let call = match random.below(10) {
+            let call = match random.below(11) {
                 0 => Call::Check,
                 1 => Call::Format { log_pairs: random.word(), queue_records: random.word() },
                 2 => Call::Boot,
@@ -126,6 +133,7 @@ fn any_words() {
                 4 => Call::Run { budget: random.below(50) as u32 },
                 5 => raise(&mut random, &lent),
                 6 if random.percent(5) => Call::LinesCheck { table: lent },
+                7 => Call::Burst { count: random.below(6) as u16, words: burst(&mut random) },
                 _ => Call::Step,
             };
             let before = machine.clone();
@@ -150,5 +158,5 @@ fn any_words() {
     }
     println!("{effective} calls not refused, of these {nothing} posted nothing; refusals {seen:?}");
     assert!(effective > 5_000 && nothing > 1_000);
-    assert!(seen[30..=32].iter().all(|count| *count > 1_000));
+    assert!(seen[30..=32].iter().all(|count| *count > 1_000) && seen[33] > 100);
 }

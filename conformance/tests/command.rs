@@ -117,7 +117,7 @@ fn a_replay_shows_both_sides_call_by_call() {
 }
 
 /// A line of each kind whose last number is the largest that it may be, and one more than it.
-const LARGEST: [(&str, &str, &str); 19] = [
+const LARGEST: [(&str, &str, &str); 21] = [
     ("program C0B1", "FFFF", "10000"),
     ("sizes", "65535 65535", "65536 1"),
     ("sizes 1", "65535", "65536"),
@@ -136,7 +136,9 @@ const LARGEST: [(&str, &str, &str); 19] = [
     ("store-length", "1000000", "1000001"),
     ("program-length", "1000000", "99999999999999999999999999"),
     ("set-totals 0 0", "4294967295", "4294967296"),
-    ("set-device 1 0 0 0 0 0 0 0 0 0 0 0 0 0 0 0 0", "65535", "65536"),
+    ("set-device 1 0 0 0 0 0 0 0 0 0 0 0 0 0 0 0 0 0 0 0 0 0 0 0 0", "65535", "65536"),
+    ("burst", "65535 0 0 0 0 0 0 0 0", "65536 0 0 0 0 0 0 0 0"),
+    ("burst 1 0 0 0 0 0 0 0", "65535", "65536"),
 ];
 
 #[test]
@@ -147,7 +149,10 @@ fn a_number_that_doesnt_fit_is_an_error() {
         let (kind, number) = (name.split(' ').next().unwrap(), larger.split(' ').next().unwrap());
         assert!(error.starts_with(&format!("line 3, {kind}: {number} is above ")), "{error}");
     }
-    for line in ["post 1", "post 1 2 3", "raise", "raise 1", "lines-check 1 -1", "step 1", "run x", "run -1", "walk", "program 12 G"] {
+    let bursts = ["burst", "burst 1 2 3", "burst 1 2 3 4 5 6 7 8 9 10"];
+    let posts = ["post 1", "post 1 2 3", "raise", "raise 1", "lines-check 1 -1"];
+    let others = ["step 1", "run x", "run -1", "walk", "program 12 G"];
+    for line in bursts.into_iter().chain(posts).chain(others) {
         let error = Scenario::from_text(&format!("boot\n{line}\n")).unwrap_err();
         assert!(error.starts_with("line 2, "), "{error}");
     }

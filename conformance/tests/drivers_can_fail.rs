@@ -96,7 +96,7 @@ fn the_boundary_to_c_functions() {
         }
     }
     // Calls that look at the device met words that are none.
-    for kind in [2, 3, 4, 6] {
+    for kind in [2, 3, 4, 6, 9] {
         assert!(counts.no_device[kind] > 0);
     }
 }
@@ -116,9 +116,9 @@ unsafe extern "C" fn cut_without_an_answer(device: *mut u16, _answer: *mut u16) 
     standin::cut(device, answer.as_mut_ptr());
 }
 
-unsafe extern "C" fn cut_with_19_words(device: *mut u16, answer: *mut u16) {
+unsafe extern "C" fn cut_with_27_words(device: *mut u16, answer: *mut u16) {
     standin::cut(device, answer);
-    *device.add(18) = 0;
+    *device.add(26) = 0;
 }
 
 unsafe extern "C" fn check_with_six_words(program: *const u16, length: usize, answer: *mut u16) {
@@ -202,7 +202,7 @@ fn mistakes_at_the_boundary_are_caught() {
     let wrong = [
         Functions { cut: cut_looks_at_the_words, ..right },
         Functions { cut: cut_without_an_answer, ..right },
-        Functions { cut: cut_with_19_words, ..right },
+        Functions { cut: cut_with_27_words, ..right },
         Functions { check: check_with_six_words, ..right },
         Functions { check: check_by_another_case, ..right },
         Functions { step: step_reads_loosely, ..right },

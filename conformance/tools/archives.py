@@ -6,8 +6,8 @@ changes it, too. So each archive is measured at four places, its code beginning 
     tools/archives.py ARCHIVE ARCHIVE ..
 
 Prints Markdown: millions of steps a second, the archives in the order of the command line, at each place and on average, one run for
-each number: from run to run a row of one program varies by up to a tenth, so a small difference wants several. For a machine that does nothing
-else. It needs cargo, cc, ld and ar, and for each archive about three minutes.
+each number: from run to run a row of one program varies by up to a tenth, so a small difference wants several. Rows that one of the archives
+hasn't are left out. For a machine that does nothing else. It needs cargo, cc, ld, ar and nm, and for each archive about three minutes.
 """
 import os
 import re
@@ -34,14 +34,21 @@ def run(*words, **options):
     return subprocess.run(words, check=True, **options)
 
 
+def features(archive):
+    """What `bench` is built with for an archive: one from before N3 has no line tables, one from before N6 no bursts."""
+    names = run("nm", archive, stdout=subprocess.PIPE, stderr=subprocess.DEVNULL, text=True).stdout
+    known = (("lines", " T runtime_raise\n"), ("bursts", " T runtime_burst\n"))
+    return ",".join(["library"] + [name for name, symbol in known if symbol in names])
+
+
 def bench_at(archive, place, program, work):
     """Build the measuring program with this archive's code so many bytes past a multiple of 64."""
     padding, whole, moved, target = (os.path.join(work, name) for name in ("padding.o", "whole.o", "libmoved.a", "target"))
     run("cc", "-c", "-x", "assembler", "-", "-o", padding, input=PADDING.format(64 + place), text=True)
     run("ld", "-r", "-o", whole, padding, "--whole-archive", archive)
     run("ar", "rcs", moved, whole)
-    build = ("cargo", "build", "--release", "--offline", "--quiet", "--features", "library", "--bin", "bench")
-    run(*build, "--target-dir", target, cwd=HERE, env={**os.environ, "RUNTIME_ARCHIVE": moved})
+    build = ("cargo", "build", "--release", "--offline", "--quiet", "--no-default-features", "--features", features(archive))
+    run(*build, "--bin", "bench", "--target-dir", target, cwd=HERE, env={**os.environ, "RUNTIME_ARCHIVE": moved})
     return shutil.copy(os.path.join(target, "release", "bench"), program)
 
 
@@ -62,7 +69,8 @@ def main(archives):
         measured = {key: rows(program) for key, program in programs.items()}
     print("| Input | Call | " + " | ".join(f"at {place}" for place in PLACES) + " | average |")
     print("|---|---|" + "---:|" * (len(PLACES) + 1))
-    for name, call in measured[PLACES[0], 0]:
+    rows_of_all = [key for key in measured[PLACES[0], 0] if all(key in rows for rows in measured.values())]
+    for name, call in rows_of_all:
         speeds = [[measured[place, number][name, call] for number in range(len(archives))] for place in PLACES]
         speeds.append([sum(column) / len(PLACES) for column in zip(*speeds)])
         cells = (", ".join(f"{speed:.1f}" for speed in cell) for cell in speeds)

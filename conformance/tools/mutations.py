@@ -113,8 +113,67 @@ CHANGES = [
     # 25, early
     ("        return *device != Device::OFF;", "        return false;"),
     ("if device.log_count as usize > look.parts.log_pairs {", "if device.log_count as usize >= look.parts.log_pairs {"),
-    ("if look.queue_full(store) || handler.event as usize >= look.head.events {", "if handler.event as usize >= look.head.events {"),
-    ("if look.queue_full(store) || handler.event as usize >= look.head.events {", "if look.queue_full(store) {"),
+    # .. of a handler at work
+    ("    length == 0\n        || length > MAX_BURST\n", "    length > MAX_BURST\n"),
+    ("        || length > MAX_BURST\n", ""),
+    ("        || length > MAX_BURST\n", "        || length > MAX_BURST + 1\n"),
+    ("        || length > MAX_BURST\n", "        || length >= MAX_BURST\n"),
+    ("        || handler.made as usize > 2 * length\n", ""),
+    ("        || handler.made as usize > 2 * length\n", "        || handler.made as usize > 2 * length + 1\n"),
+    ("        || handler.made as usize > 2 * length\n", "        || handler.made as usize >= 2 * length\n"),
+    ("        || handler.made as usize > 2 * length\n", "        || handler.made as usize > 2 * MAX_BURST\n"),
+    ("        || length > look.room(store)\n", ""),
+    ("        || length > look.room(store)\n", "        || look.room(store) == 0\n"),
+    ("        || length > look.room(store)\n", "        || length >= look.room(store)\n"),
+    ("        || length > look.room(store)\n", "        || length > look.room(store) + 1\n"),
+    ("        || length > look.room(store)\n", "        || length.saturating_sub(handler.made as usize / 2) > look.room(store)\n"),
+    ("        || length > look.room(store)\n", "        || length > look.room(store) && handler.made == 0\n"),
+    ("        || first_bad_event(look, length, &handler.words).is_some()\n", ""),
+    ("        || first_bad_event(look, length, &handler.words).is_some()\n", "        || first_bad_event(look, length.min(1), &handler.words).is_some()\n"),
+    ("        || first_bad_event(look, length, &handler.words).is_some()\n", "        || first_bad_event(look, length - 1, &handler.words).is_some()\n"),
+    ("        || first_bad_event(look, length, &handler.words).is_some()\n", "        || first_bad_event(look, length, &handler.words).is_some_and(|position| 2 * position >= handler.made as usize)\n"),
+    ("        || first_bad_event(look, length, &handler.words).is_some()\n", "        || first_bad_event(look, length, &handler.words).is_some_and(|position| 2 * position < handler.made as usize)\n"),
+    ("        || first_bad_event(look, length, &handler.words).is_some()\n", "        || first_bad_event(look, MAX_BURST, &handler.words).is_some()\n", "same meaning"),
+    # bursts: events, room
+    (".position(|event| *event as usize >= look.head.events)", ".position(|event| *event as usize > look.head.events)"),
+    ("words.iter().step_by(2).take(length)", "words.iter().take(length)"),
+    ("words.iter().step_by(2).take(length)", "words.iter().skip(1).step_by(2).take(length)"),
+    ("words.iter().step_by(2).take(length)", "words.iter().step_by(2)"),
+    ("            self.parts.queue_records - (tail - head)\n", "            self.parts.queue_records + 1 - (tail - head)\n"),
+    ("            self.parts.queue_records - (tail - head)\n", "            (self.parts.queue_records - (tail - head)).max(1)\n"),
+    ("            head - tail - 1\n", "            head - tail\n"),
+    ("            head - tail - 1\n", "            0\n"),
+    ("        if head <= tail {\n", "        if head < tail {\n"),
+    ("        let (head, tail) = (store[HEAD] as usize, store[TAIL] as usize);\n        if head", "        let (head, tail) = (store[if store[PHASE] == 2 { PENDING } else { HEAD }] as usize, store[TAIL] as usize);\n        if head"),
+    # bursts: the call
+    ("    if length == 0 || length > MAX_BURST {\n", "    if length > MAX_BURST {\n"),
+    ("    if length == 0 || length > MAX_BURST {\n", "    if length == 0 || length > MAX_BURST + 1 {\n"),
+    ("    if length == 0 || length > MAX_BURST {\n", "    if length == 0 || length >= MAX_BURST {\n"),
+    ("    if length == 0 || length > MAX_BURST {\n", "    if length == 0 || length % 256 > MAX_BURST {\n"),
+    ("    if length == 0 || length > MAX_BURST {\n", "    if length == 0 || length > MAX_BURST.min(store[3] as usize) {\n"),
+    ("        return Err(refusal_at(8, position, 0));", "        return Err(refusal_at(8, 0, position));"),
+    ("        return Err(refusal_at(8, position, 0));", "        return Err(refusal_at(8, 0, 0));"),
+    ("        return Err(refusal_at(8, position, 0));", "        return Err(refusal_at(8, 2 * position, 0));"),
+    ("    if length > look.room(store) {\n", "    if length >= look.room(store) {\n"),
+    ("    if length > look.room(store) {\n", "    if look.room(store) == 0 {\n"),
+    ("    if length > look.room(store) {\n", "    if length > look.room(store) + 1 {\n"),
+    ("    device.handler = Some(Handler::new(count, words));", "    device.handler = Some(Handler { words: *words, ..Handler::new(count, words) });"),
+    # bursts: the stores
+    ("look.parts.past(tail, made / 2)", "tail"),
+    ("look.parts.past(tail, made / 2)", "look.parts.past(tail, made % length)"),
+    ("look.parts.past(tail, made / 2)", "(tail + made / 2).min(look.parts.queue_records)"),
+    ("look.parts.past(tail, made / 2)", "look.parts.past(tail, length - 1 - made / 2)"),
+    ("handler.words[made]));", "handler.words[made ^ 1]));"),
+    ("handler.words[made]));", "handler.words[made | (made == 2) as usize]));"),
+    ("(slot + made % 2, handler", "(slot + 1 - made % 2, handler"),
+    ("    if made < 2 * length {\n", "    if made + 1 < 2 * length {\n"),
+    ("    if made < 2 * length {\n", "    if made < 2 * length.min(3) {\n"),
+    ("(TAIL, look.parts.past(tail, length) as u16)", "(TAIL, look.parts.past(tail, 1) as u16)"),
+    ("(TAIL, look.parts.past(tail, length) as u16)", "(TAIL, (tail + length) as u16)"),
+    ("        if slot + many < slots {\n", "        if slot + many <= slots {\n"),
+    ("        let slots = self.queue_records + 1;\n", "        let slots = self.queue_records.max(4);\n"),
+    ("handler.length as u32);\n    node.device.handler = None;", "1);\n    node.device.handler = None;"),
+    ("Some(Handler { made: handler.made + 1, ..handler })", "Some(Handler { made: handler.made + 1, words: { let mut words = handler.words; words[made] = 0; words }, ..handler })"),
     ("                1 => n + 3,", "                1 => n + 4,"),
     ("                1 => n + 3,", "                1 => n + 2,"),
     ("                _ => n + 2,", "                _ => n + 3,"),
@@ -136,8 +195,11 @@ CHANGES = [
     ("    if !device.on {\n        return *device != Device::OFF;", "    if !device.on {\n        return *device != Device::OFF || (store[PHASE] == 0 && store[BEGUN] != 0);"),
     # the order
     ("    check_control(&head, &parts, store)?;\n    let look = Look { head, parts };\n    if state_unlike(&look, store, device) {\n        return Err(refusal(25));\n    }", "    let look = Look { head, parts };\n    check_control(&look.head, &look.parts, store)?;\n    if device.on && state_unlike(&look, store, device) {\n        return Err(refusal(25));\n    }"),
-    ("    if event as usize >= look.head.events {\n        return Err(refusal(8));\n    }\n    if device.handler.is_some() {\n        return Err(refusal(20));\n    }", "    if device.handler.is_some() {\n        return Err(refusal(20));\n    }\n    if event as usize >= look.head.events {\n        return Err(refusal(8));\n    }"),
-    ("    if device.handler.is_some() {\n        return Err(refusal(20));\n    }\n    if look.queue_full(store) {\n        return Err(refusal(21));\n    }", "    if look.queue_full(store) {\n        return Err(refusal(21));\n    }\n    if device.handler.is_some() {\n        return Err(refusal(20));\n    }", "same meaning"),
+    ("    if let Some(position) = first_bad_event(&look, length, words) {\n        return Err(refusal_at(8, position, 0));\n    }\n    if device.handler.is_some() {\n        return Err(refusal(20));\n    }", "    if device.handler.is_some() {\n        return Err(refusal(20));\n    }\n    if let Some(position) = first_bad_event(&look, length, words) {\n        return Err(refusal_at(8, position, 0));\n    }"),
+    ("    if device.handler.is_some() {\n        return Err(refusal(20));\n    }\n    if length > look.room(store) {\n        return Err(refusal(21));\n    }", "    if length > look.room(store) {\n        return Err(refusal(21));\n    }\n    if device.handler.is_some() {\n        return Err(refusal(20));\n    }"),
+    ("    if length == 0 || length > MAX_BURST {\n        return Err(refusal(33));\n    }\n    if let Some(position) = first_bad_event(&look, length, words) {\n        return Err(refusal_at(8, position, 0));\n    }", "    if let Some(position) = first_bad_event(&look, length, words) {\n        return Err(refusal_at(8, position, 0));\n    }\n    if length == 0 || length > MAX_BURST {\n        return Err(refusal(33));\n    }"),
+    ("    let look = look(program, store, device)?;\n    let length = count as usize;\n    if length == 0 || length > MAX_BURST {\n        return Err(refusal(33));\n    }", "    let length = count as usize;\n    if length == 0 || length > MAX_BURST {\n        return Err(refusal(33));\n    }\n    let look = look(program, store, device)?;"),
+    ("    let look = look(program, store, device)?;\n    let length = count as usize;\n    if length == 0 || length > MAX_BURST {\n        return Err(refusal(33));\n    }", "    let length = count as usize;\n    let bad = length == 0 || length > MAX_BURST;\n    let look = match look(program, store, device) {\n        Err(Refusal { number: 22, .. }) if bad => return Err(refusal(33)),\n        other => other?,\n    };\n    if bad {\n        return Err(refusal(33));\n    }"),
     ("    check_store(program, &head, &parts, store)?;\n    if device.on {\n        return Err(refusal(26));\n    }", "    if device.on {\n        return Err(refusal(26));\n    }\n    check_store(program, &head, &parts, store)?;"),
     ("        unlike = store[slot] != event;", "        if store[slot] != event {\n            return Err(refusal(25));\n        }"),
     ("        unlike = store[slot] != event;", "        unlike = false;\n        let _ = event;"),
@@ -156,7 +218,7 @@ CHANGES = [
     ("    // The rest of 7: a running task", "    if ending > 0 && instruction.as_ref().map_or(true, |i| i.opcode != GO && i.opcode != DONE) {\n        return Err(refusal(25));\n    }\n    // The rest of 7: a running task"),
     ("    if has_address && address >= look.head.memory {\n        return Err(refusal(23));\n    }\n    let found = if has_address { search(look, node.store, log_count, address) } else { None };", "    let found = if has_address { search(look, node.store, log_count, address) } else { None };\n    if (opcode == SAVE || opcode == SAVEX) && found.is_none() && log_count as usize == look.parts.log_pairs {\n        return Err(refusal(24));\n    }\n    if has_address && address >= look.head.memory {\n        return Err(refusal(23));\n    }"),
     ("    if let Some(handler) = handler {\n        return Ok(", "    if let (Some(_), Place::Running { body, .. }) = (handler, place) {\n        use_row(program, &look.head, look.head.body_number(body))?;\n    }\n    if let Some(handler) = handler {\n        return Ok("),
-    ("    let look = look(program, store, device)?;\n    if event as usize", "    let look = look(program, store, device)?;\n    check_store(program, &look.head, &look.parts, store)?;\n    if event as usize"),
+    ("    let look = look(program, store, device)?;\n    let length", "    let look = look(program, store, device)?;\n    check_store(program, &look.head, &look.parts, store)?;\n    let length"),
     ("            if node.store[PHASE] != 0 {\n", "            if node.store[PHASE] != 0 {\n                check_store(program, &look.head, &look.parts, node.store)?;\n"),
     ("                choose(&look, node)\n", "                if node.store[OPEN] != 0 || look.queue_empty(node.store) { use_row(program, &look.head, node.store[TASK] as usize)?; }\n                choose(&look, node)\n"),
     ("        return Ok(second_half(look, node, stand, &instruction));", "        if node.device.registers[instruction.b] as usize + instruction.k as usize >= head.memory && opcode == SAVEX { return Err(refusal(23)); }\n        return Ok(second_half(look, node, stand, &instruction));"),
@@ -213,9 +275,10 @@ CHANGES = [
     ("    store.fill(0);\n", ""),
     ("    store[TASK] = head.entry;\n", ""),
     ("    let head = check_program(program)?;\n    let parts", "    let head = head(program)?;\n    check_rows(program, &head)?;\n    let parts"),
-    ("        Next::Tail => (Answer::Accepted, (TAIL, look.parts.after(tail) as u16), None),", "        Next::Tail => (Answer::Accepted, (TAIL, (tail as u16 + 1) & 0x3F), None),"),
-    ("    if *total < u32::MAX {\n        *total += 1;\n    }", "    *total = total.wrapping_add(1);"),
-    ("        add_one(&mut node.totals.accepted);", "        add_one(&mut node.totals.committed);"),
+    ("    if *total < u32::MAX - more {\n        *total += more;\n    } else {\n        *total = u32::MAX;\n    }", "    *total = total.wrapping_add(more);"),
+    ("    if *total < u32::MAX - more {\n        *total += more;\n    } else {\n        *total = u32::MAX;\n    }", "    *total = total.checked_add(more).unwrap_or(*total);"),
+    ("    if *total < u32::MAX - more {\n", "    if *total <= u32::MAX - more {\n", "same meaning"),
+    ("    add(&mut node.totals.accepted, ", "    add(&mut node.totals.committed, "),
     ("        while steps < budget {", "        while steps < budget.min(299) {"),
 ]
 
@@ -300,8 +363,8 @@ impl Runtime for Lines {
     fn step(&self, program: &[u16], store: &mut [u16], device: &mut Device, totals: &mut Totals) -> StepAnswer {
         Reference.step(program, store, device, totals)
     }
-    fn post(&self, program: &[u16], store: &mut [u16], device: &mut Device, event: u16, datum: u16) -> Answer {
-        Reference.post(program, store, device, event, datum)
+    fn burst(&self, program: &[u16], store: &mut [u16], device: &mut Device, count: u16, words: &BurstWords) -> Answer {
+        Reference.burst(program, store, device, count, words)
     }
     fn cut(&self, device: &mut Device) -> Answer {
         Reference.cut(device)

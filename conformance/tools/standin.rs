@@ -74,6 +74,23 @@ pub unsafe extern "C" fn runtime_post(
 /// # Safety
 /// See `runtime_check`.
 #[no_mangle]
+#[allow(clippy::too_many_arguments)]
+pub unsafe extern "C" fn runtime_burst(
+    program: *const u16,
+    length: usize,
+    store: *mut u16,
+    store_length: usize,
+    device: *mut u16,
+    count: u16,
+    burst: *const u16,
+    answer: *mut u16,
+) {
+    standin::burst(program, length, store, store_length, device, count, burst, answer)
+}
+
+/// # Safety
+/// See `runtime_check`.
+#[no_mangle]
 pub unsafe extern "C" fn runtime_cut(device: *mut u16, answer: *mut u16) {
     standin::cut(device, answer)
 }

@@ -28,6 +28,8 @@ static uint16_t table[TABLE_WORDS] = {
     3, 1000, 65535, 0                  /* from there on it raises event 0 */
 };
 
+static uint16_t sample[RUNTIME_BURST_WORDS] = {0, 5, 0, 6}; /* a burst: event 0 with data 5, event 0 with data 6 */
+
 static uint16_t store[STORE_WORDS];                /* nonvolatile: a cut leaves it as it is */
 static uint16_t device[RUNTIME_DEVICE_WORDS];      /* lost at a cut; zeros are the device that is off */
 static uint32_t totals[RUNTIME_TOTALS_NUMBERS];
@@ -85,6 +87,15 @@ static void post(uint16_t event, uint16_t datum)
 {
     runtime_post(program, PROGRAM_WORDS, store, STORE_WORDS, device, event, datum, answer);
     print("post", 0);
+}
+
+static void burst(uint16_t count)
+{
+    char line[32];
+
+    runtime_burst(program, PROGRAM_WORDS, store, STORE_WORDS, device, count, sample, answer);
+    sprintf(line, "burst of %u", (unsigned)count);
+    print(line, 0);
 }
 
 static void check_lines(void)
@@ -145,6 +156,14 @@ int main(void)
 
     run(1500);
     print_memory();
+
+    burst(2);      /* it doesn't fit into a queue of one record: RUNTIME_REFUSAL_QUEUE_FULL */
+    sample[2] = 1; /* the program has event 0 alone: RUNTIME_REFUSAL_NO_EVENT, at position 1 */
+    burst(2);
+    burst(5);      /* RUNTIME_REFUSAL_BURST_LENGTH, whatever its events are */
+    burst(1);      /* as a post: what stands behind its data isn't looked at */
+    steps(2);
+    recover(); /* before its last store: none of it came in */
 
     check_lines();
     raise_line(3, 999);  /* its row has no event */

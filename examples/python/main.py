@@ -39,6 +39,7 @@ class Node:
             "boot": [words_at, length, words_at, length, words_at, words_at],
             "step": [words_at, length, words_at, length, words_at, numbers_at, words_at],
             "post": [words_at, length, words_at, length, words_at, word, word, words_at],
+            "burst": [words_at, length, words_at, length, words_at, word, words_at, words_at],
             "cut": [words_at, words_at],
             "run": [words_at, length, words_at, length, words_at, numbers_at, number, words_at],
             "lines_check": [words_at, length, words_at],
@@ -95,6 +96,10 @@ class Node:
         self.on_device("post", event, datum)
         self.show("post")
 
+    def burst(self, count, sample):
+        self.on_device("burst", count, sample)
+        self.show(f"burst of {count}")
+
     def check_lines(self, table):
         self.call("lines_check", table, len(table))
         self.show("lines_check")
@@ -140,6 +145,15 @@ def main():
 
     node.run(1500)
     node.show_memory()
+
+    sample = words([0, 5, 0, 6, 0, 0, 0, 0])  # event 0 with data 5, event 0 with data 6
+    node.burst(2, sample)  # it doesn't fit into a queue of one record: REFUSAL_QUEUE_FULL
+    sample[2] = 1  # the program has event 0 alone: REFUSAL_NO_EVENT, at position 1
+    node.burst(2, sample)
+    node.burst(5, sample)  # REFUSAL_BURST_LENGTH, whatever its events are
+    node.burst(1, sample)  # as a post: what stands behind its data isn't looked at
+    node.steps(2)
+    node.recover()  # before its last store: none of it came in
 
     table = words(LINES)
     node.check_lines(table)

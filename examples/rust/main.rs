@@ -65,6 +65,10 @@ fn recover(node: &mut Node) {
     print_memory(node);
 }
 
+fn burst(node: &mut Node, count: u16, words: &[u16; BURST_WORDS]) {
+    print(&format!("burst of {count}"), node.burst(count, words));
+}
+
 fn main() {
     print("check", check(&COUNTING));
     let mut node = Node::new(&COUNTING, LOG_PAIRS, QUEUE_RECORDS);
@@ -89,6 +93,15 @@ fn main() {
     let (made, end) = node.run(1500);
     print(&format!("run 1500: {made}"), end);
     print_memory(&node);
+
+    let mut sample = [0, 5, 0, 6, 0, 0, 0, 0]; // event 0 with data 5, event 0 with data 6
+    burst(&mut node, 2, &sample); // it doesn't fit into a queue of one record: REFUSAL_QUEUE_FULL
+    sample[2] = 1; // the program has event 0 alone: REFUSAL_NO_EVENT, at position 1
+    burst(&mut node, 2, &sample);
+    burst(&mut node, 5, &sample); // REFUSAL_BURST_LENGTH, whatever its events are
+    burst(&mut node, 1, &sample); // as a post: what stands behind its data isn't looked at
+    steps(&mut node, 2);
+    recover(&mut node); // before its last store: none of it came in
 
     let mut table = LINES;
     print("lines_check", lines_check(&table));

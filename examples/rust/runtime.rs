@@ -6,11 +6,12 @@ use std::fmt;
 
 // ---- Lengths
 
-pub const DEVICE_WORDS: usize = 18;
+pub const DEVICE_WORDS: usize = 26;
 pub const ANSWER_WORDS: usize = 5;
 pub const STEP_ANSWER_WORDS: usize = 6; // a step's answer tells the word stored, too
 pub const TOTALS_NUMBERS: usize = 3;
 pub const REGISTERS: usize = 8;
+pub const BURST_WORDS: usize = 8; // a burst: its first event, that event's data, its second event, ..
 pub const LINES_ROW_WORDS: usize = 4; // a line table's rows
 
 /// The length of a store of M memory words, L log pairs and Q queue records.
@@ -18,13 +19,14 @@ pub const fn store_words(memory_words: u16, log_pairs: u16, queue_records: u16) 
     19 + memory_words as usize + 2 * log_pairs as usize + 2 * queue_records as usize
 }
 
-// ---- The largest values. The least is 1; of events, transaction numbers, lines and a line table's rows 0.
+// ---- The largest values. The least is 1; of events that a program has, transaction numbers, lines and a line table's rows 0.
 
 pub const MAX_TASKS: u16 = 32;
 pub const MAX_EVENTS: u16 = 16;
 pub const MAX_MEMORY_WORDS: u16 = 1024;
 pub const MAX_LOG_PAIRS: u16 = 64;
 pub const MAX_QUEUE_RECORDS: u16 = 32;
+pub const MAX_BURST: u16 = 4; // events of one burst
 pub const MAX_INSTRUCTIONS: u16 = 256; // of one body
 pub const MAX_TRANSACTION: u16 = 255;
 pub const MAX_PROGRAM_WORDS: usize = 24726;
@@ -78,6 +80,7 @@ pub const REFUSAL_POWER_ON: u16 = 26;
 pub const REFUSAL_LINES_ROW: u16 = 30;
 pub const REFUSAL_LINES_GAP: u16 = 31;
 pub const REFUSAL_LINES_OVERLAP: u16 = 32;
+pub const REFUSAL_BURST_LENGTH: u16 = 33;
 
 // ---- The program's first words
 
@@ -135,17 +138,16 @@ pub const DEVICE_INSTRUCTION: usize = 12;
 pub const DEVICE_STORES: usize = 13;
 pub const DEVICE_LOG_COUNT: usize = 14;
 pub const DEVICE_HANDLER: usize = 15;
-pub const DEVICE_EVENT: usize = 16;
-pub const DEVICE_DATUM: usize = 17;
+pub const DEVICE_BURST_LENGTH: usize = 16;
+pub const DEVICE_HANDLER_STORES: usize = 17; // made of its stores: of each event, of its data, and last of the tail
+pub const DEVICE_BURST: usize = 18; // BURST_WORDS of them; 0 behind its last event's data
 
 pub const PLACE_NO_BODY: u16 = 0;
 pub const PLACE_RUNNING: u16 = 1;
 pub const PLACE_HALF_SAVE: u16 = 2;
 
 pub const HANDLER_AT_REST: u16 = 0;
-pub const HANDLER_EVENT: u16 = 1;
-pub const HANDLER_DATUM: u16 = 2;
-pub const HANDLER_TAIL: u16 = 3;
+pub const HANDLER_STORING: u16 = 1;
 
 // ---- The totals
 
@@ -200,6 +202,16 @@ mod library {
             device: *mut u16,
             event: u16,
             datum: u16,
+            answer: *mut u16,
+        );
+        pub fn runtime_burst(
+            program: *const u16,
+            program_length: usize,
+            store: *const u16,
+            store_length: usize,
+            device: *mut u16,
+            count: u16,
+            burst: *const u16,
             answer: *mut u16,
         );
         pub fn runtime_cut(device: *mut u16, answer: *mut u16);
@@ -398,6 +410,25 @@ impl<'a> Node<'a> {
                 self.device.as_mut_ptr(),
                 event,
                 datum,
+                answer.as_mut_ptr(),
+            )
+        };
+        Answer::from_words(&answer)
+    }
+
+    /// As a post, of count events together: they are accepted by one store, all of them or none. The words behind the last
+    /// event's data aren't looked at.
+    pub fn burst(&mut self, count: u16, words: &[u16; BURST_WORDS]) -> Answer {
+        let mut answer = [0; ANSWER_WORDS];
+        unsafe {
+            library::runtime_burst(
+                self.program.as_ptr(),
+                self.program.len(),
+                self.store.as_ptr(),
+                self.store.len(),
+                self.device.as_mut_ptr(),
+                count,
+                words.as_ptr(),
                 answer.as_mut_ptr(),
             )
         };

@@ -121,7 +121,7 @@ pub fn the_rules_of_word_16(runtime: &dyn Runtime) {
 pub fn the_device_and_word_16(runtime: &dyn Runtime) {
     // What word 16 says and what runs. The record at head is event 0's.
     let devices = [Device::ON, at_first(TASK, 0), at_first(EVENT, 0)];
-    let handler = Some(Handler { next: Next::Event, event: 1, datum: 5 });
+    let handler = Some(Handler::single(1, 5));
     for begun in 0..3 {
         for (runs, device) in devices.iter().enumerate() {
             let bench = |device: Device| Bench { device, ..damaged(runtime, 0, &[(16, begun as u16)]) };

@@ -148,16 +148,17 @@ fn running_places() -> Vec<Place> {
     places
 }
 
-/// A boot from off, and a boot, a post, a step and a run on a device, each from the words as they are.
+/// A boot from off, and a boot, a post, a burst, a step and a run on a device, each from the words as they are.
 fn calls_on(device: Device) -> Vec<Call> {
-    let on_it = [Call::Boot, post(0, 6), Call::Step, Call::Run { budget: 3 }].map(|call| (device, call));
+    let burst = Call::Burst { count: 1, words: single(0, 6) };
+    let on_it = [Call::Boot, post(0, 6), burst, Call::Step, Call::Run { budget: 3 }].map(|call| (device, call));
     let calls = [(Device::OFF, Call::Boot)].into_iter().chain(on_it);
     calls.flat_map(|(device, call)| [Call::SetDevice(device), call, Call::Restore]).collect()
 }
 
 /// In phase 0: everything that may run, on and off, with a handler at work and without, with every value of word 16.
 fn held_against_the_device() -> impl Iterator<Item = Scenario> {
-    let handler = Handler { next: Next::Datum, event: 1, datum: 5 };
+    let handler = Handler { made: 1, ..Handler::single(1, 5) };
     RUNNING.into_iter().map(move |control| {
         let mut calls = Vec::new();
         for begun in 0..4 {

@@ -371,11 +371,14 @@ pub fn boot(mistake: Mistake, program: &[u16], store: &mut [u16], device: &mut D
 // ---------------------------------------------------------------------------------------------------------
 // Posts
 
-/// The reference's post with word 16 as if it said what runs.
-fn post_with_what_runs(program: &[u16], store: &mut [u16], device: &mut Device, posted: (u16, u16)) -> Answer {
+/// The number of a burst's events, and its words.
+type Posted<'a> = (u16, &'a BurstWords);
+
+/// The reference's burst with word 16 as if it said what runs.
+fn burst_with_what_runs(program: &[u16], store: &mut [u16], device: &mut Device, posted: Posted) -> Answer {
     let begun = if store[PHASE] == 0 { running_word(device) } else { NOTHING_BEGUN };
     let old = std::mem::replace(&mut store[BEGUN], begun);
-    let answer = Reference.post(program, store, device, posted.0, posted.1);
+    let answer = Reference.burst(program, store, device, posted.0, posted.1);
     store[BEGUN] = old;
     if names_begun(&answer) {
         unlike_or_off(device)
@@ -384,18 +387,18 @@ fn post_with_what_runs(program: &[u16], store: &mut [u16], device: &mut Device, 
     }
 }
 
-/// A post of an event with data by the mistake; none where the reference's stands.
-pub fn post(
+/// A burst by the mistake, a post among them; none where the reference's stands.
+pub fn burst(
     mistake: Mistake,
     program: &[u16],
     store: &mut [u16],
     device: &mut Device,
-    posted: (u16, u16),
+    posted: Posted,
 ) -> Option<Answer> {
     if store.len() < MEMORY {
         return None;
     }
-    let answer = Reference.post(program, store, &mut device.clone(), posted.0, posted.1);
+    let answer = Reference.burst(program, store, &mut device.clone(), posted.0, posted.1);
     let other = differs(store, device) && answer == refused(25, 0);
     let unseen = match mistake {
         Mistake::BegunUnseenInUnlikeAtPost | Mistake::ChoosingStoresNothing => other,
@@ -406,7 +409,7 @@ pub fn post(
         _ => false,
     };
     if unseen {
-        return Some(post_with_what_runs(program, store, device, posted));
+        return Some(burst_with_what_runs(program, store, device, posted));
     }
     match mistake {
         Mistake::PostReadsBegunRecord => {

@@ -155,10 +155,11 @@ impl Past {
 // ---------------------------------------------------------------------------------------------------------
 // A call
 
-/// What a call found: the store and the device.
+/// What a call found: the store, the device and the totals.
 pub struct Found<'a> {
     pub store: &'a [u16],
     pub device: Device,
+    pub totals: Totals,
 }
 
 /// A call, what it found and gave, and the machine as it left it.

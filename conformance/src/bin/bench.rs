@@ -11,6 +11,9 @@
 //! Of line tables the library alone is measured: the reference counts every level. Built without the feature `lines`, for
 //! an archive from before request N3, there is nothing of them.
 //!
+//! Built without the feature `bursts`, for an archive from before request N6, there is no row of bursts. Such a library reads
+//! and writes 18 of the 26 words that it is lent as a device; where no handler is at work the others are 0.
+//!
 //! With BENCH_LAYOUT=18 in the environment the library is one from before request N4: its store has a word less, a commit
 //! takes a step less, and what the sides leave isn't compared.
 
@@ -50,6 +53,8 @@ trait Side<'a> {
     /// A run, all of whose budget is spent.
     fn run(&mut self, budget: u32);
     fn post(&mut self, event: u16, datum: u16);
+    fn burst(&mut self, count: u16, words: &BurstWords);
+    fn store(&mut self) -> &mut [u16];
     fn left(self) -> Left;
 }
 
@@ -76,10 +81,14 @@ struct Load {
     program: Vec<u16>,
     log_pairs: u16,
     queue_records: u16,
-    /// In one turn: so many posts, each with three steps, then so many steps with so many commits.
+    /// In one turn: so many posts, or bursts of so many events, each with its steps, then so many steps with so many
+    /// commits.
     posts: u32,
+    burst: u16,
     steps: u32,
     commits: u32,
+    /// Whether the queue is emptied after each post, by its tail.
+    emptied: bool,
 }
 
 impl Load {
@@ -93,8 +102,13 @@ impl Load {
         self.steps - if library && before_n4() { self.commits } else { 0 }
     }
 
+    /// The steps of one post or burst: each event and its data, then tail.
+    fn steps_of_a_post(&self) -> u32 {
+        2 * self.burst as u32 + 1
+    }
+
     fn steps_in_a_turn(&self, library: bool) -> u64 {
-        3 * self.posts as u64 + self.steps(library) as u64
+        self.steps_of_a_post() as u64 * self.posts as u64 + self.steps(library) as u64
     }
 }
 
@@ -197,6 +211,27 @@ impl<'a, const REFERENCE: bool> Side<'a> for Words<'a, REFERENCE> {
         assert_eq!(black_box(self.answer)[0], 0);
     }
 
+    fn burst(&mut self, count: u16, words: &BurstWords) {
+        let (program, words) = (black_box(self.program), black_box(words));
+        unsafe {
+            (self.functions.burst)(
+                program.as_ptr(),
+                program.len(),
+                self.store.as_mut_ptr(),
+                self.store.len(),
+                self.device.as_mut_ptr(),
+                black_box(count),
+                words.as_ptr(),
+                self.answer.as_mut_ptr(),
+            )
+        };
+        assert_eq!(black_box(self.answer)[0], 0);
+    }
+
+    fn store(&mut self) -> &mut [u16] {
+        &mut self.store
+    }
+
     fn left(self) -> Left {
         (self.store, self.device, self.totals)
     }
@@ -238,6 +273,16 @@ impl<'a> Side<'a> for Rust<'a> {
         assert_eq!(black_box(answer), Answer::Done);
     }
 
+    fn burst(&mut self, count: u16, words: &BurstWords) {
+        let (program, words) = (black_box(self.program), black_box(words));
+        let answer = Reference.burst(program, &mut self.store, &mut self.device, black_box(count), words);
+        assert_eq!(black_box(answer), Answer::Done);
+    }
+
+    fn store(&mut self) -> &mut [u16] {
+        &mut self.store
+    }
+
     fn left(self) -> Left {
         let Totals { committed, accepted, stores } = self.totals;
         (self.store, self.device.to_words(), [committed, accepted, stores])
@@ -256,17 +301,26 @@ enum How {
 }
 
 fn turn<'a, S: Side<'a>>(side: &mut S, load: &Load, how: How) {
-    for post in 0..load.posts {
-        side.post(0, post as u16);
-        match how {
-            How::Run => side.run(3),
-            How::Step | How::Call => (0..3).for_each(|_| side.step()),
+    for number in 0..load.posts as u16 {
+        match load.burst {
+            1 => side.post(0, number),
+            count => side.burst(count, &[0, number, 0, 1, 0, 2, 0, 3]),
+        }
+        steps(side, load.steps_of_a_post(), how);
+        if load.emptied {
+            let store = black_box(side.store());
+            store[TAIL] = store[HEAD];
         }
     }
-    let steps = load.steps(S::LIBRARY);
+    if load.steps > 0 {
+        steps(side, load.steps(S::LIBRARY), how);
+    }
+}
+
+fn steps<'a, S: Side<'a>>(side: &mut S, count: u32, how: How) {
     match how {
-        How::Run => side.run(steps),
-        How::Step | How::Call => (0..steps).for_each(|_| side.step()),
+        How::Run => side.run(count),
+        How::Step | How::Call => (0..count).for_each(|_| side.step()),
     }
 }
 
@@ -376,8 +430,19 @@ fn counting_inside(tasks: u16, events: u16, instructions: usize, memory: u16) ->
 
 /// A turn is so many posts, and then a number of bodies of so many steps each.
 fn load(name: &str, program: Vec<u16>, sizes: (u16, u16), posts: u32, [steps, bodies]: [u32; 2]) -> Load {
-    let (log_pairs, queue_records) = sizes;
-    Load { name: name.into(), program, log_pairs, queue_records, posts, steps: steps * bodies, commits: bodies }
+    let ((log_pairs, queue_records), name, steps, commits) = (sizes, name.into(), steps * bodies, bodies);
+    Load { name, program, log_pairs, queue_records, posts, burst: 1, steps, commits, emptied: false }
+}
+
+/// Posts of one event, and bursts of four where the library has them, each with its steps and nothing else.
+fn handler_loads() -> Vec<Load> {
+    let post = || load("a post and its three steps", COUNTING.to_vec(), (1, 4), 1000, [0, 0]);
+    let mut loads = vec![Load { emptied: true, ..post() }];
+    if cfg!(feature = "bursts") {
+        let name = "a burst of four and its nine steps".into();
+        loads.push(Load { name, burst: 4, emptied: true, ..post() });
+    }
+    loads
 }
 
 /// A task that counts: chosen, LOAD, SET, ADD, SAVE of two steps, four stores, one copy, four stores.
@@ -408,7 +473,7 @@ fn loads() -> Vec<Load> {
     };
     let event = vec![code(LOAD, 1, 0, 1), code(ADD, 1, 0, 0), code(SAVE, 1, 0, 1), code(DONE, 0, 0, 0)];
     let transactions = [(7, count(1, 0)), (7, count(2, 1)), (7, count(3, 2)), (0, count(0, 3))];
-    vec![
+    let loads = vec![
         load("the counting program", COUNTING.to_vec(), (1, 1), 0, COUNTS),
         // The loop never ends.
         Load {
@@ -420,7 +485,8 @@ fn loads() -> Vec<Load> {
         // Chosen, LOAD, ADD, SAVE of two steps, three stores, one copy, three stores.
         load("32 events queued and served", program(2, &[(0, counting(0))], &[event]), (1, 32), 32, [12, 32]),
         load("transactions of three tasks", program(4, &transactions, &[]), (1, 1), 0, COUNTS),
-    ]
+    ];
+    loads.into_iter().chain(handler_loads()).collect()
 }
 
 /// Programs of 26 to 24,726 words, stores of 25 to 1,235.

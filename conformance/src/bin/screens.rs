@@ -253,8 +253,15 @@ impl Runtime for HeadPlusOne {
         made
     }
 
-    fn post(&self, program: &[u16], store: &mut [u16], device: &mut Device, event: u16, data: u16) -> Answer {
-        Reference.post(program, store, device, event, data)
+    fn burst(
+        &self,
+        program: &[u16],
+        store: &mut [u16],
+        device: &mut Device,
+        count: u16,
+        words: &BurstWords,
+    ) -> Answer {
+        Reference.burst(program, store, device, count, words)
     }
 
     fn cut(&self, device: &mut Device) -> Answer {

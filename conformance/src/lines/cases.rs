@@ -153,8 +153,7 @@ pub fn what_a_raise_posts(runtime: &dyn Runtime) {
     for (line, level) in posted {
         let mut bench = Bench::counting(runtime);
         assert_eq!(bench.raise(&TABLE, line, level), Answer::Done, "line {line}, level {level}");
-        let handler = Handler { next: Next::Event, event: 0, datum: level };
-        assert_eq!(bench.device, Device { handler: Some(handler), ..Device::ON });
+        assert_eq!(bench.device, Device { handler: Some(Handler::single(0, level)), ..Device::ON });
         assert_eq!(bench.steps(3), Answer::Accepted);
         // Chosen, two steps of SAVE, three stores; then the copy, the head store and the last.
         bench.steps(9);

@@ -198,7 +198,7 @@ fn kinds_of_raise() -> Vec<(Vec<u16>, u16)> {
 
 /// Devices, and words that are none: off, on, with a handler at work, unlike the store, off unlike its fixed value.
 fn devices() -> Vec<Call> {
-    let handler = Some(Handler { next: Next::Datum, event: 2, datum: 9 });
+    let handler = Some(Handler { made: 1, ..Handler::single(2, 9) });
     let mut stray = Device::ON.to_words();
     stray[0] = 2;
     let device = |device: Device| Call::SetDevice(device);

@@ -177,7 +177,7 @@ impl Counts {
 
     fn cut(&mut self, Machine { store, device, .. }: &Machine, recovering: bool) {
         let (phase, log) = (if device.on { store[PHASE] } else { 0 }, store[6] as usize);
-        let next = device.handler.map(|handler| handler.next);
+        let made = device.handler.map(|handler| handler.made);
         let begun = device.on && store[PHASE] == 0 && store[BEGUN] == TASK_BEGUN;
         let waited_for = begun && store[OPEN] == 0 && store[HEAD] != store[TAIL];
         let copied = store[COUNT] == 0 || store[MEMORY + store[log] as usize] == store[log + 1];
@@ -187,8 +187,8 @@ impl Counts {
             ("cut in an event's commit", phase == 2),
             ("cut with memory not yet copied", phase != 0 && !copied),
             ("cut in the recovery from a cut", phase != 0 && recovering),
-            ("cut before a post's first store", next == Some(Next::Event)),
-            ("cut between a post's stores", matches!(next, Some(Next::Datum | Next::Tail))),
+            ("cut before a post's first store", made == Some(0)),
+            ("cut between a post's stores", matches!(made, Some(1..))),
             ("cut with a task begun, a record waiting", waited_for),
             ("cut with an event begun", device.on && store[PHASE] == 0 && store[BEGUN] == EVENT_BEGUN),
             ("cut in half a SAVE", matches!(device.place, Place::HalfSave { .. })),

@@ -6,6 +6,7 @@ use lib.ListN.{replicate}
 use Rattle.model.proofs.Definitions.{definitions}
 use Rattle.model.specs.Test.{_or_}
 use Rattle.model.specs.Store.{formatted, format}
+use Rattle.model.specs.Burst.{single}
 use Rattle.model.specs.Device.{off, boot, cut, post}
 use Rattle.device.specs.Result.{Result}
 use Rattle.model.specs.Calls.{RunOutcome, run}
@@ -38,10 +39,10 @@ module _ (p s : List ℕ) {s₁ s₂ : List ℕ} {d₁ : Device} (formatted : s�
   cut-seen n m a b e = rw (e, b, a, on, formatted)
 
   pub post-seen : (n : ℕ) {d₂ d₃ : Device}
-      → d₂ ≡ post p s₁ d₁ 0 7 .device
+      → d₂ ≡ post p s₁ d₁ (single 0 7) .device
       → s₂ ≡ run p n s₁ d₂ none .store
       → d₃ ≡ run p n s₁ d₂ none .device
-      → post p s₂ d₃ 0 7 .answer ≡ furtherPost p s n
+      → post p s₂ d₃ (single 0 7) .answer ≡ furtherPost p s n
   unfolding furtherPost
   post-seen n a b e = rw (e, b, a, on, formatted)
 

@@ -3,6 +3,7 @@ use Prim.Native.Nat.{ℕ}
 use mathlib.Core.List.{List, [], _∷_}
 use lib.ListN.{replicate}
 use Rattle.model.specs.Calls.{RunOutcome, run}
+use Rattle.model.specs.Burst.{single}
 use Rattle.model.specs.Device.{boot, cut, post, off}
 use Rattle.model.specs.Program.{word}
 use Rattle.model.specs.Starred.{counting}
@@ -32,5 +33,5 @@ cutAfter n m =
 unfoldable pub furtherPost : List ℕ → List ℕ → ℕ → Answer
 furtherPost p s n =
     let f = format p 1 1 s in
-    let r = run p n f (post p f (boot p f off .device) 0 7 .device) none in
-    post p (r .store) (r .device) 0 7 .answer
+    let r = run p n f (post p f (boot p f off .device) (single 0 7) .device) none in
+    post p (r .store) (r .device) (single 0 7) .answer

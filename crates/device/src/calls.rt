@@ -1,5 +1,6 @@
 // The calls that store nothing: boot, post and cut, with the checks of the first two.
 use super::CallResult;
+use super::burst;
 use super::look;
 use model::Answer;
 use model::Body;
@@ -14,6 +15,7 @@ use store::queue;
 ghost use Prim.Native.Nat.{_≤_};
 ghost use mathlib.Core.Path.{_≡_};
 ghost use Rattle.model.specs.Accepted.{Bootable, Shaped};
+ghost use Rattle.model.specs.Burst.{carried, single};
 ghost use Rattle.model.specs.Device.{turnedOn, out, judged, withPlace, withHandler, begunOf, takenUp, bootCheck, cut, postCheck};
 ghost use Rattle.model.specs.Program.{firstRegisters, word};
 ghost use Rattle.model.specs.Store.{view, none};
@@ -79,6 +81,7 @@ fn started(body: Body, datum: u16) -> Device
         place: Place::Run(body, 0, 0),
         count: 0,
         handler: Handler::Resting,
+        burst: [0; 8],
     }
 }
 
@@ -112,30 +115,43 @@ pub fn boot(program: &[u16], store: &[u16], device: Device) -> CallResult
     judge(found, device, taken_up(store))
 }
 
-// "post then 8, 20, 21"
-fn post_check(program: &[u16], store: &[u16], device: Device, event: u16) -> Checked
-    ensures { λ found. ⌜ found ≡ postCheck (now (program .entry)) (now (store .entry)) device event ⌝ }
+// "post then 8, 20, 21", and 33 "just before 8".
+pub fn post_check(
+    program: &[u16],
+    store: &[u16],
+    device: Device,
+    length: u16,
+    words: &[u16; 8],
+) -> Checked
+    ensures { λ found. ⌜ found ≡ postCheck (now (program .entry)) (now (store .entry)) device (carried (now (words .entry)) length) ⌝ }
 {
     let found = look::look_whole(program, store, device);
     let Checked::Accepted = found else {
         return found;
     };
-    if event >= program[2] {
-        return Checked::Refused(Refusal::NoEvent);
+    if length < 1 {
+        return Checked::Refused(Refusal::BurstLength);
     }
+    if length > 4 {
+        return Checked::Refused(Refusal::BurstLength);
+    }
+    let found = burst::events(program, words, length);
+    let Checked::Accepted = found else {
+        return found;
+    };
     let handler = device.handler;
     let Handler::Resting = handler else {
         return Checked::Refused(Refusal::HandlerBusy);
     };
-    if queue::room(store) < 1 {
+    if queue::room(store) < length {
         return Checked::Refused(Refusal::QueueFull);
     }
     Checked::Accepted
 }
 
-// The device with another handler.
-fn with_handler(device: Device, handler: Handler) -> Device
-    ensures { λ next. ⌜ next ≡ withHandler device handler ⌝ }
+// The device with another handler and its burst.
+fn with_handler(device: Device, handler: Handler, burst: [u16; 8]) -> Device
+    ensures { λ next. ⌜ next ≡ withHandler device handler burst ⌝ }
 {
     let registers = device.registers;
     let place = device.place;
@@ -145,15 +161,38 @@ fn with_handler(device: Device, handler: Handler) -> Device
         place,
         count: device.count,
         handler,
+        burst,
     }
 }
 
-// Post: the handler is set to work on an event with its data, and no word of the store changes.
-pub fn post(program: &[u16], store: &[u16], device: Device, event: u16, datum: u16) -> CallResult
-    ensures { λ r. ⌜ PostPerforms (now (program .entry)) (now (store .entry)) device event datum r ⌝ }
+// A post of a burst: the handler is set to work on so many records, and no word of the store changes. The words behind them aren't looked at.
+pub fn burst(
+    program: &[u16],
+    store: &[u16],
+    device: Device,
+    length: u16,
+    words: &[u16; 8],
+) -> CallResult
+    ensures { λ r. ⌜ PostPerforms (now (program .entry)) (now (store .entry)) device (carried (now (words .entry)) length) r ⌝ }
 {
-    let next = with_handler(device, Handler::Storing(0, event, datum));
-    judge(post_check(program, store, device, event), device, next)
+    let found = post_check(program, store, device, length, words);
+    let Checked::Accepted = found else {
+        return judge(found, device, device);
+    };
+    let kept = burst::words(words, length);
+    judge(
+        found,
+        device,
+        with_handler(device, Handler::Storing(length, 0), kept),
+    )
+}
+
+// "A single post is a burst of one."
+pub fn post(program: &[u16], store: &[u16], device: Device, event: u16, datum: u16) -> CallResult
+    ensures { λ r. ⌜ PostPerforms (now (program .entry)) (now (store .entry)) device (single event datum) r ⌝ }
+{
+    let words = [event, datum, 0, 0, 0, 0, 0, 0];
+    burst(program, store, device, 1, &words)
 }
 
 // Cut: the device is off, whatever it was. "A cut refuses nothing", and no word of a store changes.

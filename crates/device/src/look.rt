@@ -1,6 +1,7 @@
 // What a call looks at before it does anything. Refusal 25, "state unlike program or store", has its parts one by one; `look` is what step
 // and post ask first.
 use super::Core;
+use super::burst;
 use super::core_of;
 use model::Body;
 use model::Checked;
@@ -13,9 +14,10 @@ use store::queue;
 ghost use lib.ListN.{length};
 ghost use mathlib.Core.Path.{_≡_};
 ghost use Rattle.model.specs.Accepted.{Controlled, Contents, Looked, Shaped};
-ghost use Rattle.model.specs.Device.{lastStores, mayRun, endStores, placeSound, handlerSound, isFresh, zeros, deviceSound, look};
+ghost use Rattle.model.specs.Burst.{carried};
+ghost use Rattle.model.specs.Device.{lastStores, mayRun, endStores, placeSound, recordsSound, handlerSound, isFresh, zeros, deviceSound, look};
 ghost use Rattle.model.specs.Store.{view};
-ghost use Rattle.device.specs.Result.{device};
+ghost use Rattle.device.specs.Result.{deviceWith};
 
 // How many stores follow the copies of a commit.
 pub fn last_stores(store: &[u16]) -> u16
@@ -101,24 +103,40 @@ fn place_sound(program: &[u16], store: &[u16], log_count: u16, place: Place) -> 
     }
 }
 
-// A handler at work has an event below E, room in the queue, and one of its three stores to make.
-fn handler_sound(program: &[u16], store: &[u16], handler: Handler) -> bool
+// A handler at work on so many records, so many of whose stores are made: one to four, all of their events below E, room for all of them in
+// the queue, and a store left to make.
+fn records_sound(program: &[u16], store: &[u16], burst: &[u16; 8], length: u16, made: u16) -> bool
     requires { ⌜ Contents (now program) ⌝ }
     requires { ⌜ Shaped (now store) ⌝ }
     requires { ⌜ Controlled (now program) (view (now store)) ⌝ }
-    ensures { λ r. ⌜ r ≡ handlerSound (now (program .entry)) (view (now (store .entry))) handler ⌝ }
+    ensures { λ r. ⌜ r ≡ recordsSound (now (program .entry)) (view (now (store .entry))) made (carried (now (burst .entry)) length) ⌝ }
+{
+    if length < 1 {
+        return false;
+    }
+    if length > 4 {
+        return false;
+    }
+    let found = burst::events(program, burst, length);
+    if let Checked::Refused(_) = found {
+        return false;
+    }
+    if queue::room(store) < length {
+        return false;
+    }
+    made <= 2 * length
+}
+
+// A handler at rest has no burst.
+fn handler_sound(program: &[u16], store: &[u16], burst: &[u16; 8], handler: Handler) -> bool
+    requires { ⌜ Contents (now program) ⌝ }
+    requires { ⌜ Shaped (now store) ⌝ }
+    requires { ⌜ Controlled (now program) (view (now store)) ⌝ }
+    ensures { λ r. ⌜ r ≡ handlerSound (now (program .entry)) (view (now (store .entry))) (now (burst .entry)) handler ⌝ }
 {
     match handler {
-        Handler::Resting => true,
-        Handler::Storing(made, event, _) => {
-            if event >= program[2] {
-                return false;
-            }
-            if queue::room(store) < 1 {
-                return false;
-            }
-            made < 3
-        }
+        Handler::Resting => zeros(burst),
+        Handler::Storing(length, made) => records_sound(program, store, burst, length, made),
     }
 }
 
@@ -128,19 +146,19 @@ fn is_fresh(place: Place, handler: Handler) -> bool
     match place {
         Place::Free(made) => match handler {
             Handler::Resting => made == 0,
-            Handler::Storing(_, _, _) => false,
+            Handler::Storing(_, _) => false,
         },
         Place::Run(_, _, _) => false,
         Place::Half(_, _) => false,
     }
 }
 
-fn zeros(registers: &[u16; 8]) -> bool
-    ensures { λ r. ⌜ r ≡ zeros (now (registers .entry)) 8 ⌝ }
+fn zeros(words: &[u16; 8]) -> bool
+    ensures { λ r. ⌜ r ≡ zeros (now (words .entry)) 8 ⌝ }
 {
     let mut i: usize = 0;
     while i < 8 {
-        if registers[i] != 0 {
+        if words[i] != 0 {
             return false;
         }
         i += 1;
@@ -149,14 +167,21 @@ fn zeros(registers: &[u16; 8]) -> bool
 }
 
 // Refusal 25, without what needs a row, an instruction, a log pair or a record.
-fn device_sound(program: &[u16], store: &[u16], registers: &[u16; 8], core: Core) -> bool
+fn device_sound(
+    program: &[u16],
+    store: &[u16],
+    registers: &[u16; 8],
+    burst: &[u16; 8],
+    handler: Handler,
+    core: Core,
+) -> bool
     requires { ⌜ Contents (now program) ⌝ }
     requires { ⌜ Shaped (now store) ⌝ }
     requires { ⌜ Controlled (now program) (view (now store)) ⌝ }
-    ensures { λ r. ⌜ r ≡ deviceSound (now (program .entry)) (view (now (store .entry))) (device core (now (registers .entry))) ⌝ }
+    ensures { λ r. ⌜ r ≡ deviceSound (now (program .entry)) (view (now (store .entry)))
+        (deviceWith core (now (registers .entry)) handler (now (burst .entry))) ⌝ }
 {
     let place = core.place;
-    let handler = core.handler;
     if core.on {
         if core.count > store[2] {
             return false;
@@ -164,7 +189,7 @@ fn device_sound(program: &[u16], store: &[u16], registers: &[u16; 8], core: Core
         if !place_sound(program, store, core.count, place) {
             return false;
         }
-        return handler_sound(program, store, handler);
+        return handler_sound(program, store, burst, handler);
     }
     if !zeros(registers) {
         return false;
@@ -172,14 +197,25 @@ fn device_sound(program: &[u16], store: &[u16], registers: &[u16; 8], core: Core
     if core.count != 0 {
         return false;
     }
-    is_fresh(place, handler)
+    if !is_fresh(place, handler) {
+        return false;
+    }
+    zeros(burst)
 }
 
 // What step and post look at: refusals 1, 2, 3, 6, 7, 25 and 22.
-pub fn look(program: &[u16], store: &[u16], registers: &[u16; 8], core: Core) -> Checked
-    ensures { λ found. ⌜ found ≡ look (now (program .entry)) (now (store .entry)) (device core (now (registers .entry))) ⌝ }
+pub fn look(
+    program: &[u16],
+    store: &[u16],
+    registers: &[u16; 8],
+    burst: &[u16; 8],
+    handler: Handler,
+    core: Core,
+) -> Checked
+    ensures { λ found. ⌜ found ≡ look (now (program .entry)) (now (store .entry))
+        (deviceWith core (now (registers .entry)) handler (now (burst .entry))) ⌝ }
     ensures given { λ found. ⌜ (found ≡ Checked.Accepted
-        → Looked (now (program .entry)) (now (store .entry)) (device core (now (registers .entry)))) ⌝ }
+        → Looked (now (program .entry)) (now (store .entry)) (deviceWith core (now (registers .entry)) handler (now (burst .entry)))) ⌝ }
 {
     let found = program::contents(program);
     let Checked::Accepted = found else {
@@ -193,7 +229,7 @@ pub fn look(program: &[u16], store: &[u16], registers: &[u16; 8], core: Core) ->
     let Checked::Accepted = found else {
         return found;
     };
-    if !device_sound(program, store, registers, core) {
+    if !device_sound(program, store, registers, burst, handler, core) {
         return Checked::Refused(Refusal::State);
     }
     if !core.on {
@@ -208,5 +244,7 @@ pub fn look_whole(program: &[u16], store: &[u16], device: Device) -> Checked
     ensures given { λ found. ⌜ (found ≡ Checked.Accepted → Looked (now (program .entry)) (now (store .entry)) device) ⌝ }
 {
     let registers = device.registers;
-    look(program, store, &registers, core_of(device))
+    let burst = device.burst;
+    let handler = device.handler;
+    look(program, store, &registers, &burst, handler, core_of(device))
 }

@@ -8,7 +8,6 @@ use super::Core;
 use super::CoreResult;
 use model::Answer;
 use model::Body;
-use model::Handler;
 use model::Place;
 use model::Refusal;
 use model::Stored;
@@ -17,12 +16,10 @@ use model::Stored;
 pub fn at_place(core: Core, place: Place, log_count: u16) -> Core
     ensures { λ r. ⌜ r ≡ coreAt core place «log_count» ⌝ }
 {
-    let handler = core.handler;
     Core {
         on: core.on,
         place,
         count: log_count,
-        handler,
     }
 }
 
@@ -85,7 +82,6 @@ pub fn turned_on(registers: &mut [u16; 8], answer: Answer) -> CoreResult
         on: true,
         place: Place::Free(0),
         count: 0,
-        handler: Handler::Resting,
     };
     CoreResult {
         answer,

@@ -12,21 +12,21 @@ use Rattle.lines.proofs.RaiseLaws.{TypedPosting, posting-typed}
 use Rattle.lines.specs.Lines.{posting, postingCalls, raiseCalls}
 use Rattle.lines.specs.declared.Posting.{Posting}
 use Rattle.model.proofs.CallLaws.{after-append, totals-append, boot-counts-nothing, cut-counts-nothing, post-counts-nothing, run-is-steps, totals-are-counts}
+use Rattle.model.proofs.AllOrNone.{bursts-come-whole}
 use Rattle.model.proofs.Turns.{bodies-take-turns}
 use Rattle.model.proofs.Observed.{observed}
 use Rattle.model.proofs.Words.{fresh-device-words, words-stay-words, format-stays-words}
+use Rattle.model.specs.Burst.{single as singlePost}
 use Rattle.model.specs.Calls.{Call, Boot, Step, Cut, Post, Now, call, afterCalls, steps, noTotals, counted, totalsAfter, RunOutcome as Defined, run}
-use Rattle.model.specs.Claims.{TypedWords, TypedHandler, TypedDevice, TypedCall, IsSteps, AreCounts}
+use Rattle.model.specs.Claims.{TypedWords, TypedDevice, TypedCall, IsSteps, AreCounts}
 use Rattle.model.specs.Demand3.{Left, recoverySteps, recovering}
 use Rattle.model.specs.Device.{Outcome, fresh, off, boot, cut, post, step}
 use Rattle.model.specs.Store.{view, settled, format, formatCheck}
 use Rattle.model.specs.declared.Checked.{Checked}
 use Rattle.model.specs.declared.Device.{Device}
-use Rattle.model.specs.declared.Handler.{Handler}
-use Rattle.model.specs.declared.Handler.the-variants.{Resting, Storing}
 use Rattle.model.specs.declared.Totals.{Totals}
 use Rattle.words.proofs.Words.{back}
-use Rattle.words.specs.Words.{flag, placeWords, handlerWords, StoreLeft, HasWords, deviceOf, known, deviceWords, refusedWords, checkedWords}
+use Rattle.words.specs.Words.{flag, placeWords, handlerWords, HasWords, deviceOf, known, deviceWords, refusedWords, checkedWords}
 
 -- ---- what a host holds after the calls cs on the fresh store s is what the definitions have
 
@@ -42,15 +42,11 @@ record Did (p s : List ℕ) (cs : List Call) (c : Call) (a : List ℕ) (g : Host
   answered : Answered p s cs (single c a)
   store : g .store ≡ settled (afterCalls p s off cs .store) (call p (afterCalls p s off cs .store) (afterCalls p s off cs .device) c .write)
   device : g .device ≡ deviceWords (call p (afterCalls p s off cs .store) (afterCalls p s off cs .device) c .device)
-  totals : g .totals ≡ totalsWords (counted (totalsAfter p s off cs noTotals) (call p (afterCalls p s off cs .store) (afterCalls p s off cs .device) c))
+  totals : g .totals ≡ totalsWords (counted (totalsAfter p s off cs noTotals) (afterCalls p s off cs .device .handler) (call p (afterCalls p s off cs .store) (afterCalls p s off cs .device) c))
 
 totals-read : (t : Totals) → totalsOf (totalsWords t) ≡ t
 unfolding totalsOf totalsWords
 totals-read t = refl
-
-store-left : (h : Handler) → TypedHandler h → StoreLeft h
-store-left Resting ws = tt
-store-left (Storing c e x) ws = ws .0
 
 steps-words : (p : List ℕ) → TypedWords p → (n : ℕ) (s : List ℕ) (d : Device) → TypedWords s → TypedDevice d
     → TypedWords (afterCalls p s d (steps n) .store) × TypedDevice (afterCalls p s d (steps n) .device)
@@ -75,7 +71,7 @@ module _ (p : List ℕ) (ps : TypedWords p) (l q : ℕ) (before : List ℕ) (e :
     T = totalsAfter p s off cs noTotals
 
     has-words : HasWords D
-    has-words = record { registers = at .device-words .registers-length; handler = store-left (D .handler) (at .device-words .handler) }
+    has-words = record { registers = at .device-words .registers-length; burst = at .device-words .burst-length; unused = at .device-words .unused }
 
     read : deviceOf (h .device) ≡ known D
     read = ap deviceOf (at .device) ∙ back D has-words
@@ -83,12 +79,12 @@ module _ (p : List ℕ) (ps : TypedWords p) (l q : ℕ) (before : List ℕ) (e :
     -- ---- a call of its own
 
     did : (c : Call) (a : List ℕ) (g : HostState) (z : List ℕ) → TellsCall c (h .store) (call p (h .store) D c) a (g .device) z → g .store ≡ z
-        → g .totals ≡ totalsWords (counted T (call p S D c)) → Did p s cs c a g
+        → g .totals ≡ totalsWords (counted T (D .handler) (call p S D c)) → Did p s cs c a g
     did c a g z tells stays totals =
         let t = subst (λ (u : List ℕ). TellsCall c u (call p u D c) a (g .device) z) (at .store) tells in
         record { answered = t .answer; store = stays ∙ t .store; device = t .device; totals = totals }
 
-    unread : (g : HostState) (o : Outcome) → g .totals ≡ h .totals → counted T o ≡ T → g .totals ≡ totalsWords (counted T o)
+    unread : (g : HostState) (o : Outcome) → g .totals ≡ h .totals → counted T (D .handler) o ≡ T → g .totals ≡ totalsWords (counted T (D .handler) o)
     unread g o stays same = stays ∙ at .totals ∙ ap totalsWords (sym same)
 
     did-single : (c : Call) (a : List ℕ) (g : HostState) → Makes p h (single c a) g → Did p s cs c a g
@@ -97,20 +93,20 @@ module _ (p : List ℕ) (ps : TypedWords p) (l q : ℕ) (before : List ℕ) (e :
         did Boot a g (h .store) (b .state D read) stays (unread g (boot p S D) totals (boot-counts-nothing p S D T))
     did-single Step a g b =
         let (told, totals) = b .state D read in
-        let same : totalsWords (counted (totalsOf (h .totals)) (step p (h .store) D)) ≡ totalsWords (counted T (step p S D)) =
-        ap (λ (t : Totals). totalsWords (counted t (step p (h .store) D))) (ap totalsOf (at .totals) ∙ totals-read T)
-        ∙ ap (λ (u : List ℕ). totalsWords (counted T (step p u D))) (at .store) in
+        let same : totalsWords (counted (totalsOf (h .totals)) (D .handler) (step p (h .store) D)) ≡ totalsWords (counted T (D .handler) (step p S D)) =
+        ap (λ (t : Totals). totalsWords (counted t (D .handler) (step p (h .store) D))) (ap totalsOf (at .totals) ∙ totals-read T)
+        ∙ ap (λ (u : List ℕ). totalsWords (counted T (D .handler) (step p u D))) (at .store) in
         did Step a g (g .store) told refl (totals ∙ same)
     did-single Cut a g ((said, device), stays, totals) =
-        record { answered = said; store = stays ∙ at .store; device = device; totals = unread g cut totals (cut-counts-nothing T) }
-    did-single (Post n v) a g (b, stays, totals, _) =
-        did (Post n v) a g (h .store) (b .state D read) stays (unread g (post p S D n v) totals (post-counts-nothing p S D n v T))
+        record { answered = said; store = stays ∙ at .store; device = device; totals = unread g cut totals (cut-counts-nothing (D .handler) T) }
+    did-single (Post rs) a g (b, stays, totals, _) =
+        did (Post rs) a g (h .store) (b .state D read) stays (unread g (post p S D rs) totals (post-counts-nothing p S D rs T))
 
     single-words : (c : Call) (a : List ℕ) (g : HostState) → Makes p h (single c a) g → TypedCall c
     single-words Boot a g m = tt
     single-words Step a g m = tt
     single-words Cut a g m = tt
-    single-words (Post n v) a g (b, stays, totals, ws) = ws
+    single-words (Post rs) a g (b, stays, totals, ws) = ws
 
     at-single : (c : Call) (a : List ℕ) (g : HostState) → TypedCall c → Did p s cs c a g → At p s (cs ++ (c ∷ [])) g
     unfolding afterCalls totalsAfter
@@ -179,8 +175,8 @@ module _ (p : List ℕ) (ps : TypedWords p) (l q : ℕ) (before : List ℕ) (e :
     did-raise v a g (Posting.Refused r) u w (said, device) store totals = (said, at-unchanged g device store totals)
     did-raise v a g Posting.Nothing u w (said, device) store totals = (said, at-unchanged g device store totals)
     did-raise v a g (Posting.Event e) u w posts store totals =
-        let o = did-single (Post e v) a g (posts, store, totals, (w, u)) in
-        (o .answered, at-single (Post e v) a g (w, u) o)
+        let o = did-single (Post (singlePost e v)) a g (posts, store, totals, (w, u, tt)) in
+        (o .answered, at-single (Post (singlePost e v)) a g (w, u, tt) o)
 
     -- ---- an exported call
 
@@ -247,6 +243,7 @@ module _ (p : List ℕ) (ps : TypedWords p) (l q : ℕ) (before : List ℕ) (e :
               (totals-are-counts p s off calls);
           observed = observed p l q before e calls;
           turns = bodies-take-turns p l q before e calls;
+          bursts = bursts-come-whole p l q before e calls;
           recovers = recovers-to;
         }
 

@@ -1,5 +1,5 @@
 -- Demand 3 of the library that a bench links. A host makes a list of exported calls, each known only by what it promises (Exported.antt), on a
--- store that runtime_format accepted, with 18 zero words for the device and totals of 0 at first. These are the calls of which model's
+-- store that runtime_format accepted, with 26 zero words for the device and totals of 0 at first. These are the calls of which model's
 -- Demand3.antt speaks: same answers, same store, same device state; so what recovery by the same functions leaves is the serial run's. A raise
 -- that posts is a post of that list; one that posts nothing, or whose table is refused, is none of its calls and changes nothing.
 -- Assumes nothing.
@@ -11,6 +11,8 @@ use mathlib.Core.Path.{_≡_}
 use Rattle.exports.specs.Exported.{HostState, hostState, Formats, Boots, Posts, Cuts, Steps, Runs, Raises, wordsOf, totalsOf}
 use Rattle.lines.specs.Lines.{posting, raiseCalls}
 use Rattle.lines.specs.declared.Posting.{Posting}
+use Rattle.model.specs.AllOrNone.{ComeWhole}
+use Rattle.model.specs.Burst.{single as singlePost}
 use Rattle.model.specs.Calls.{Call, Boot, Step, Cut, Post, call, afterCalls, steps, noTotals, totalsAfter, run}
 use Rattle.model.specs.Claims.{TypedWords, TypedCall, AreCounts}
 use Rattle.model.specs.Demand3.{Left, recoverySteps, Observed}
@@ -21,8 +23,8 @@ use Rattle.model.specs.Turns.{TakesTurns}
 use Rattle.model.specs.declared.Checked.{Checked}
 use Rattle.words.specs.Words.{deviceWords, endedWords, refusedWords, checkedWords, nothingPostedWords}
 
--- an exported call with its answer: runtime_boot, runtime_step, runtime_post or runtime_cut; or runtime_run of a budget, with the steps returned;
--- or runtime_raise
+-- an exported call with its answer: runtime_boot, runtime_step, runtime_post or runtime_burst with the records that it posts, or runtime_cut; or
+-- runtime_run of a budget, with the steps returned; or runtime_raise
 pub data Exchange : Type 0 where
   single : Call → (answer : List ℕ) → Exchange
   run-of : (budget made : ℕ) (answer : List ℕ) → Exchange
@@ -33,8 +35,8 @@ abbrev pub Makes : List ℕ → HostState → Exchange → HostState → Type 0
 Makes p h (single Boot a) g = Boots p (h .store) (h .device) a (g .device) × (g .store ≡ h .store) × (g .totals ≡ h .totals)
 Makes p h (single Step a) g = Steps p h a g
 Makes p h (single Cut a) g = Cuts a (g .device) × (g .store ≡ h .store) × (g .totals ≡ h .totals)
-Makes p h (single (Post e v) a) g =
-    Posts p (h .store) (h .device) e v a (g .device) × (g .store ≡ h .store) × (g .totals ≡ h .totals) × TypedCall (Post e v)
+Makes p h (single (Post rs) a) g =
+    Posts p (h .store) (h .device) rs a (g .device) × (g .store ≡ h .store) × (g .totals ≡ h .totals) × TypedCall (Post rs)
 Makes p h (run-of b n a) g = Runs p h b n a g
 Makes p h (raise-of table line v a) g =
     Raises p (h .store) (h .device) table line v a (g .device) × (g .store ≡ h .store) × (g .totals ≡ h .totals) × TypedWords table × (v < 2 ^ 16)
@@ -65,7 +67,7 @@ AnsweredCall p s cs c a =
 abbrev pub AnsweredPosting : List ℕ → List ℕ → List Call → ℕ → List ℕ → Posting → Type 0
 AnsweredPosting p s cs v a (Posting.Refused r) = a ≡ refusedWords r
 AnsweredPosting p s cs v a Posting.Nothing = a ≡ nothingPostedWords
-AnsweredPosting p s cs v a (Posting.Event e) = AnsweredCall p s cs (Post e v) a
+AnsweredPosting p s cs v a (Posting.Event e) = AnsweredCall p s cs (Post (singlePost e v)) a
 
 abbrev pub Answered : List ℕ → List ℕ → List Call → Exchange → Type 0
 Answered p s cs (single c a) = AnsweredCall p s cs c a
@@ -94,12 +96,14 @@ pub record ExportsObserved (p : List ℕ) (l q : ℕ) (s : List ℕ) (xs : List 
   pub observed : Observed p l q s (allCalls xs)
   -- N4: a body that is begun has its turn, cut or no cut
   pub turns : TakesTurns p l q s (allCalls xs)
+  -- N6: of a burst all events come in, together and in order, or none
+  pub bursts : ComeWhole p l q s (allCalls xs)
   pub recovers : (ys : List Exchange) (m : ℕ) (r : HostState) → allCalls ys ≡ Cut ∷ Boot ∷ steps m → MakesAll p g ys r
       → RecoversTo g (observed .state) m r
 
 -- the words that a host has before its first call
 abbrev pub atFirst : List ℕ → HostState
-atFirst s = hostState s (replicate 18 0) (replicate 3 0)
+atFirst s = hostState s (replicate 26 0) (replicate 3 0)
 
 abbrev pub Demand3OfExports : Type 0
 Demand3OfExports =

@@ -5,11 +5,12 @@
 use Prim.Native.Nat.{ℕ}
 use mathlib.Core.List.{List, [], _∷_}
 use mathlib.Core.Path.{_≡_}
+use Rattle.model.specs.Burst.{single}
 use Rattle.model.specs.Calls.{Call, Boot, Step, Cut, Post, RunOutcome as Defined, counted, run}
 use Rattle.model.specs.Check.{check}
 use Rattle.model.specs.Device.{Outcome, boot, post, step, off}
 use Rattle.model.specs.Program.{word}
-use Rattle.model.specs.Store.{settled, storedWord, formatCheck, format}
+use Rattle.model.specs.Store.{Record, settled, storedWord, formatCheck, format}
 use Rattle.model.specs.declared.Answer.{Answer}
 use Rattle.model.specs.declared.Device.{Device}
 use Rattle.model.specs.declared.Stored.{Stored}
@@ -18,7 +19,7 @@ use Rattle.words.specs.Words.{deviceOf, known, unknown, deviceWords, answerWord
 use Rattle.lines.specs.Lines.{check as linesCheck, posting}
 use Rattle.lines.specs.declared.Posting.{Posting}
 
--- what a host holds: the store's words, the device's 18 words and the totals' three numbers
+-- what a host holds: the store's words, the device's 26 words and the totals' three numbers
 pub record HostState : Type 0 where
   pub store : List ℕ
   pub device : List ℕ
@@ -44,7 +45,7 @@ abbrev pub wordsOf : Call → Answer → Stored → List ℕ
 wordsOf Boot a w = answerWords a
 wordsOf Step a w = stepWords a w
 wordsOf Cut a w = answerWords a
-wordsOf (Post e v) a w = answerWords a
+wordsOf (Post rs) a w = answerWords a
 
 -- Call c on the words s, for which o is defined, left the answer a, the device words x and the words z.
 pub record TellsCall (c : Call) (s : List ℕ) (o : Outcome) (a x z : List ℕ) : Type 0 where
@@ -75,9 +76,9 @@ Formats p l q s a z = (a ≡ checkedWords (formatCheck p l q s)) × (z ≡ forma
 abbrev pub Boots : List ℕ → List ℕ → List ℕ → List ℕ → List ℕ → Type 0
 Boots p s x a y = OnDevice x (λ d. TellsCall Boot s (boot p s d) a y s) ((a ≡ unknownWords) × (y ≡ x))
 
--- runtime_post of event e with data v
-abbrev pub Posts : List ℕ → List ℕ → List ℕ → ℕ → ℕ → List ℕ → List ℕ → Type 0
-Posts p s x e v a y = OnDevice x (λ d. TellsCall (Post e v) s (post p s d e v) a y s) ((a ≡ unknownWords) × (y ≡ x))
+-- runtime_burst of the records rs, and runtime_post of one
+abbrev pub Posts : List ℕ → List ℕ → List ℕ → List Record → List ℕ → List ℕ → Type 0
+Posts p s x rs a y = OnDevice x (λ d. TellsCall (Post rs) s (post p s d rs) a y s) ((a ≡ unknownWords) × (y ≡ x))
 
 -- runtime_lines_check of a line table
 abbrev pub LinesChecks : List ℕ → List ℕ → Type 0
@@ -88,7 +89,7 @@ LinesChecks table a = a ≡ checkedWords (linesCheck table)
 abbrev pub PostsAs : List ℕ → List ℕ → List ℕ → ℕ → List ℕ → List ℕ → Posting → Type 0
 PostsAs p s x v a y (Posting.Refused r) = (a ≡ refusedWords r) × (y ≡ x)
 PostsAs p s x v a y Posting.Nothing = (a ≡ nothingPostedWords) × (y ≡ x)
-PostsAs p s x v a y (Posting.Event e) = Posts p s x e v a y
+PostsAs p s x v a y (Posting.Event e) = Posts p s x (single e v) a y
 
 abbrev pub Raises : List ℕ → List ℕ → List ℕ → List ℕ → ℕ → ℕ → List ℕ → List ℕ → Type 0
 Raises p s x table line v a y = PostsAs p s x v a y (posting table line v)
@@ -107,7 +108,7 @@ Steps p h a g =
     OnDevice (h .device)
     (λ d.
     TellsCall Step (h .store) (step p (h .store) d) a (g .device) (g .store)
-    × (g .totals ≡ totalsWords (counted (totalsOf (h .totals)) (step p (h .store) d))))
+    × (g .totals ≡ totalsWords (counted (totalsOf (h .totals)) (d .handler) (step p (h .store) d))))
     ((a ≡ unknownStepWords) × Unchanged h g)
 
 -- runtime_run with a budget of b, which returned n

@@ -1,10 +1,12 @@
 // The functions that a bench links, from C or Rust: include/runtime.h declares them and docs/USING.md explains them.
-// No enum crosses: a device state is 18 words, an answer 5, a step's answer 6, the totals are 3 numbers (crates/words, specs/Exported.antt).
+// No enum crosses: a device state is 26 words, an answer 5, a step's answer 6, the totals are 3 numbers (crates/words, specs/Exported.antt).
 ghost use mathlib.Core.Path.{_≡_};
 ghost use Rattle.exports.specs.Exported.{hostState, Checks, Formats, Boots, Posts, Cuts, Steps, Runs, totalsOf, totalsWords};
 ghost use Rattle.exports.specs.Exported.{LinesChecks, Raises};
+ghost use Rattle.model.specs.Burst.{carried, single};
 ghost use Rattle.words.specs.Words.{deviceWords, answerWords};
 use device::CallResult;
+use device::burst;
 use device::calls;
 use lines::Posting;
 use model::Checked;
@@ -39,7 +41,7 @@ pub extern "C" fn runtime_format(
 }
 
 // A result in words.
-fn tell(result: CallResult, device: &mut [u16; 18], answer: &mut [u16; 5])
+fn tell(result: CallResult, device: &mut [u16; 26], answer: &mut [u16; 5])
     ensures { λ _. ⌜ (now (answer .exit) ≡ answerWords (result .answer)) × (now (device .exit) ≡ deviceWords (result .device)) ⌝ }
 {
     let answered = result.answer;
@@ -53,7 +55,7 @@ fn tell(result: CallResult, device: &mut [u16; 18], answer: &mut [u16; 5])
 pub extern "C" fn runtime_boot(
     program: &[u16],
     store: &[u16],
-    device: &mut [u16; 18],
+    device: &mut [u16; 26],
     answer: &mut [u16; 5],
 )
     ensures { λ _. ⌜ Boots (now (program .entry)) (now (store .entry)) (now (device .entry))
@@ -67,17 +69,34 @@ pub extern "C" fn runtime_boot(
     tell(calls::boot(program, store, state), device, answer);
 }
 
-// post: 1, 2, 3, 6, 7, 25, 22, then 8, 20, 21.
+// post: 1, 2, 3, 6, 7, 25, 22, then 8, 20, 21. It is a burst of one.
 #[no_mangle]
 pub extern "C" fn runtime_post(
     program: &[u16],
     store: &[u16],
-    device: &mut [u16; 18],
+    device: &mut [u16; 26],
     event: u16,
     datum: u16,
     answer: &mut [u16; 5],
 )
-    ensures { λ _. ⌜ Posts (now (program .entry)) (now (store .entry)) (now (device .entry)) event datum
+    ensures { λ _. ⌜ Posts (now (program .entry)) (now (store .entry)) (now (device .entry)) (single event datum)
+        (now (answer .exit)) (now (device .exit)) ⌝ }
+{
+    let burst = [event, datum, 0, 0, 0, 0, 0, 0];
+    runtime_burst(program, store, device, 1, &burst, answer);
+}
+
+// A post of so many events with their data, in turn: as post, with 33 just before 8. Of the device words only those of the handler change.
+#[no_mangle]
+pub extern "C" fn runtime_burst(
+    program: &[u16],
+    store: &[u16],
+    device: &mut [u16; 26],
+    count: u16,
+    burst: &[u16; 8],
+    answer: &mut [u16; 5],
+)
+    ensures { λ _. ⌜ Posts (now (program .entry)) (now (store .entry)) (now (device .entry)) (carried (now (burst .entry)) count)
         (now (answer .exit)) (now (device .exit)) ⌝ }
 {
     if !words::is_state(device) {
@@ -85,16 +104,20 @@ pub extern "C" fn runtime_post(
         return;
     }
     let state = words::state_of(device);
-    tell(
-        calls::post(program, store, state, event, datum),
-        device,
-        answer,
-    );
+    let found = calls::post_check(program, store, state, count, burst);
+    words::write_checked(answer, found);
+    match found {
+        Checked::Accepted => {
+            let kept = burst::words(burst, count);
+            *device = words::with_burst(device, count, kept);
+        }
+        Checked::Refused(_) => words::write_device(device, state),
+    }
 }
 
 // cut: whatever the device words were, they become those of the off value. "A cut refuses nothing."
 #[no_mangle]
-pub extern "C" fn runtime_cut(device: &mut [u16; 18], answer: &mut [u16; 5])
+pub extern "C" fn runtime_cut(device: &mut [u16; 26], answer: &mut [u16; 5])
     ensures { λ _. ⌜ Cuts (now (answer .exit)) (now (device .exit)) ⌝ }
 {
     tell(calls::cut(), device, answer);
@@ -121,7 +144,7 @@ fn write_totals(words: &mut [u32; 3], totals: Totals)
 pub extern "C" fn runtime_step(
     program: &[u16],
     store: &mut [u16],
-    device: &mut [u16; 18],
+    device: &mut [u16; 26],
     totals: &mut [u32; 3],
     answer: &mut [u16; 6],
 )
@@ -133,11 +156,12 @@ pub extern "C" fn runtime_step(
         return;
     }
     let state = words::state_of(device);
+    let handler = state.handler;
     let result = runtime::step(program, store, state);
     let answered = result.answer;
     let stored = result.stored;
     let after = result.device;
-    let counted = totals::counted(totals_of(totals), answered, stored);
+    let counted = totals::counted(totals_of(totals), handler, answered, stored);
     write_totals(totals, counted);
     words::write_step(answer, answered, stored);
     words::write_device(device, after);
@@ -148,7 +172,7 @@ pub extern "C" fn runtime_step(
 pub extern "C" fn runtime_run(
     program: &[u16],
     store: &mut [u16],
-    device: &mut [u16; 18],
+    device: &mut [u16; 26],
     totals: &mut [u32; 3],
     budget: u32,
     answer: &mut [u16; 5],
@@ -185,7 +209,7 @@ pub extern "C" fn runtime_lines_check(table: &[u16], answer: &mut [u16; 5])
 pub extern "C" fn runtime_raise(
     program: &[u16],
     store: &[u16],
-    device: &mut [u16; 18],
+    device: &mut [u16; 26],
     table: &[u16],
     line: u16,
     level: u16,

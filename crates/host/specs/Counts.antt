@@ -14,4 +14,4 @@ use Rattle.model.specs.declared.Totals.{Totals}
 -- A step of program p on the words s, device d and totals t left r, the words z and the totals u.
 pub record StepCounts (p s : List ℕ) (d : Device) (t : Totals) (r : CallResult) (z : List ℕ) (u : Totals) : Type 0 where
   pub performs : StepPerforms p s d r z
-  pub totals : u ≡ counted t (step p s d)
+  pub totals : u ≡ counted t (d .handler) (step p s d)

@@ -5,12 +5,12 @@ use device::CallResult;
 use model::Device;
 use model::Totals;
 
-// A step, counted once it has answered: a refusal "changes no word, state or total".
+// A step, counted once it has answered, with the handler that it found: a refusal "changes no word, state or total".
 pub fn step(program: &[u16], store: &mut [u16], device: Device, totals: &mut Totals) -> CallResult
     ensures { λ r. ⌜ StepCounts (now (program .entry)) (now (store .entry)) device (now (totals .entry))
         r (now (store .exit)) (now (totals .exit)) ⌝ }
 {
     let r = runtime::step(program, store, device);
-    totals::count(totals, r.answer, r.stored);
+    totals::count(totals, device.handler, r.answer, r.stored);
     r
 }

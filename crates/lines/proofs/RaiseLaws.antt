@@ -7,6 +7,7 @@ use mathlib.Core.Path.{_≡_, refl, sym, ap, _∙_}
 use native.Mathlib.Omega.{arith}
 use borrow.Author.Tests.{eq-eqb, ne-eqb, lt-ltb, le-ltb}
 use Rattle.model.proofs.TestLaws.{pick-case, pick-true, pick-false, below-or}
+use Rattle.model.specs.Burst.{single}
 use Rattle.model.specs.Calls.{call, afterCalls}
 use Rattle.model.specs.Claims.{TypedWords}
 use Rattle.model.specs.Device.{out, judged, post}
@@ -75,7 +76,7 @@ unfolding judged settled
 judged-stores-nothing Checked.Accepted d e a s = refl
 judged-stores-nothing (Checked.Refused r) d e a s = refl
 
-post-stores-nothing : (p s : List ℕ) (d : Device) (e x : ℕ) → settled s (post p s d e x .write) ≡ s
+post-stores-nothing : (p s : List ℕ) (d : Device) (e x : ℕ) → settled s (post p s d (single e x) .write) ≡ s
 unfolding post
 post-stores-nothing p s d e x = judged-stores-nothing _ d _ _ s
 
@@ -85,7 +86,7 @@ unfolding afterCalls postingCalls raiseOf call
 posting-is-its-calls p s d x (Posting.Refused r) = refl
 posting-is-its-calls p s d x Posting.Nothing = refl
 posting-is-its-calls p s d x (Posting.Event e) =
-    ap (λ (z : List ℕ). record { store = z; device = post p s d e x .device }) (post-stores-nothing p s d e x)
+    ap (λ (z : List ℕ). record { store = z; device = post p s d (single e x) .device }) (post-stores-nothing p s d e x)
 
 pub raise-is-its-calls : RaiseIsItsCalls
 unfolding raise raiseCalls

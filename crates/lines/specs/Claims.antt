@@ -6,6 +6,7 @@ use mathlib.Core.List.{List}
 use mathlib.Core.Logic.{_⊎_, _≢_}
 use mathlib.Core.Path.{_≡_}
 use lib.ListN.{length}
+use Rattle.model.specs.Burst.{single}
 use Rattle.model.specs.Calls.{afterCalls}
 use Rattle.model.specs.Device.{post}
 use Rattle.model.specs.declared.Answer.{Answer}
@@ -97,7 +98,7 @@ RefusedIsBlamed = (t : List ℕ) (r : Refusal) → check t ≡ Checked.Refused r
 abbrev pub RaisePosts : Type 0
 RaisePosts =
     (p s : List ℕ) (d : Device) (t : List ℕ) (n x i : ℕ) → check t ≡ Checked.Accepted → x < levels → Covers t n x i → event t i ≢ noEvent
-    → raise p s d t n x ≡ raiseResult (RaiseAnswer.Answered (post p s d (event t i) x .answer)) (post p s d (event t i) x .device)
+    → raise p s d t n x ≡ raiseResult (RaiseAnswer.Answered (post p s d (single (event t i) x) .answer)) (post p s d (single (event t i) x) .device)
 
 -- "a line without rows, or event 65535, posts nothing and says so"
 abbrev pub RaisePostsNothing : Type 0

@@ -6,6 +6,7 @@ use mathlib.Core.Bool.{Bool}
 use mathlib.Core.List.{List, [], _∷_}
 use lib.Dec.{eqb, leb, ltb}
 use lib.ListN.{length}
+use Rattle.model.specs.Burst.{single}
 use Rattle.model.specs.Calls.{Call, Post}
 use Rattle.model.specs.Device.{post}
 use Rattle.model.specs.Program.{word}
@@ -125,7 +126,7 @@ raiseResult a d = record { answer = a; device = d }
 unfoldable pub raiseOf : List ℕ → List ℕ → Device → ℕ → Posting → RaiseResult
 raiseOf p s d x (Posting.Refused r) = raiseResult (RaiseAnswer.Answered (Answer.Refused r)) d
 raiseOf p s d x Posting.Nothing = raiseResult RaiseAnswer.Nothing d
-raiseOf p s d x (Posting.Event e) = raiseResult (RaiseAnswer.Answered (post p s d e x .answer)) (post p s d e x .device)
+raiseOf p s d x (Posting.Event e) = raiseResult (RaiseAnswer.Answered (post p s d (single e x) .answer)) (post p s d (single e x) .device)
 
 -- raising line n of table t at level x, on program p, store s and device d
 unfoldable pub raise : List ℕ → List ℕ → Device → List ℕ → ℕ → ℕ → RaiseResult
@@ -136,7 +137,7 @@ raise p s d t n x = raiseOf p s d x (posting t n x)
 unfoldable pub postingCalls : ℕ → Posting → List Call
 postingCalls x (Posting.Refused r) = []
 postingCalls x Posting.Nothing = []
-postingCalls x (Posting.Event e) = Post e x ∷ []
+postingCalls x (Posting.Event e) = Post (single e x) ∷ []
 
 unfoldable pub raiseCalls : List ℕ → ℕ → ℕ → List Call
 raiseCalls t n x = postingCalls x (posting t n x)

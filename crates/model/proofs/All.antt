@@ -5,6 +5,8 @@ use Rattle.model.proofs.Lowest.{first-is-lowest, lowest-is-one}
 use Rattle.model.proofs.Demand3.{demand3}
 use Rattle.model.proofs.Observed.{observed}
 use Rattle.model.proofs.Turns.{bodies-take-turns, begun-has-its-turn}
+use Rattle.model.proofs.AllOrNone.{bursts-come-whole}
+use Rattle.model.proofs.CameLaws.{all-or-none}
 use Rattle.model.proofs.Starred.{starred}
 use Rattle.model.proofs.Rows.{rows}
 use Rattle.model.proofs.RingLaws.{full-is-no-room}
@@ -16,6 +18,7 @@ use Rattle.model.proofs.Stores.{store-is-told}
 use Rattle.model.proofs.Repeats.{refusal-stays}
 use Rattle.model.proofs.Words.{words-stay-words, format-stays-words}
 use Rattle.model.proofs.LookStays.{look-stays}
+use Rattle.model.specs.AllOrNone.{BurstsComeWhole, AllOrNone}
 use Rattle.model.specs.Claims.{RefusedChangesNothing, WordsStayWords, FormatStaysWords, RefusalStays, FirstIsLowest, LowestIsOne, PlaceIsLowest, RunIsSteps, TotalsAreCounts, RecoveryByCalls, LookStays, StoreIsTold, FullIsNoRoom}
 use Rattle.model.specs.Demand3.{Demand3, SerialDetermined, TasksFollow, ObservedByCalls}
 use Rattle.model.specs.Rows.{Rows}
@@ -33,6 +36,10 @@ of-lists = (demand3, observed, serial-determined, tasks-follow)
 -- of the bodies of such a list
 pub of-turns : BodiesTakeTurns × BegunHasItsTurn
 of-turns = (bodies-take-turns, begun-has-its-turn)
+
+-- of its bursts
+pub of-bursts : BurstsComeWhole × AllOrNone
+of-bursts = (bursts-come-whole, all-or-none)
 
 -- of worked cases
 pub of-cases : Starred × Rows

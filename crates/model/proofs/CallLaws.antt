@@ -9,12 +9,12 @@ use native.Mathlib.Nat.{not-suc-le-zero, le-of-suc-le-suc, add-zero}
 use native.Mathlib.Omega.{arith}
 use borrow.Author.Tests.{eqb-true, eqb-false}
 use Rattle.model.proofs.TestLaws.{pick-case, pick-false, impossible}
-use Rattle.model.specs.Calls.{Call, Boot, Now, call, history, afterCalls, steps, countBy, unlessRefused, isRefusal, moreBy, oneIf, isCommit, isAccept, acceptedEvents, isStore, noTotals, counted, totalsAfter, storesMade, RunOutcome, runFrom, run, recovered, refused, unfinished, finish, recovery}
+use Rattle.model.specs.Calls.{Call, Boot, Now, call, history, afterCalls, steps, countBy, unlessRefused, isRefusal, moreBy, oneIf, isCommit, isAccept, acceptedEvents, isStore, noTotals, counted, totalsAfter, eventsAccepted, storesMade, RunOutcome, runFrom, run, recovered, refused, unfinished, finish, recovery}
 use Rattle.model.specs.Claims.{EndedSo, RunIsSteps, TotalsAreCounts, ByCalls, RecoveryByCalls}
 use Rattle.model.specs.Device.{Outcome, out, judged, off, begunOf, takenUp, bootCheck, boot, cut, postCheck, post, step}
-use Rattle.model.specs.Store.{view, none, settled}
+use Rattle.model.specs.Store.{Record, view, none, settled}
 use Rattle.model.specs.Test.{pick}
-use Rattle.model.specs.Types.{Answer, Checked, Device, Ended, Refusal, Totals}
+use Rattle.model.specs.Types.{Answer, Checked, Device, Ended, Handler, Refusal, Totals}
 
 -- ---- unlessRefused: one law for every proof about an answer
 
@@ -43,34 +43,34 @@ unfolding afterCalls totalsAfter
 totals-append p s d [] ds t = refl
 totals-append p s d (c ∷ cs) ds t =
     let o = call p s d c in
-    totals-append p (settled s (o .write)) (o .device) cs ds (counted t o)
+    totals-append p (settled s (o .write)) (o .device) cs ds (counted t (d .handler) o)
 
 -- an outcome that commits and accepts nothing and makes no store adds nothing to the totals
 none-more : (x : ℕ) → moreBy x 0 ≡ x
 unfolding moreBy
 none-more x = omega arith
 
-pub adds-nothing : (t : Totals) (o : Outcome) → isCommit (o .answer) ≡ false → acceptedEvents (o .answer) ≡ 0 → isStore (o .write) ≡ false → counted t o ≡ t
-unfolding counted oneIf pick
-adds-nothing t o c a w = simp (c, a, w, none-more)
+pub adds-nothing : (t : Totals) (h : Handler) (o : Outcome) → isCommit (o .answer) ≡ false → isAccept (o .answer) ≡ false → isStore (o .write) ≡ false → counted t h o ≡ t
+unfolding counted acceptedEvents oneIf pick
+adds-nothing t h o c a w = simp (c, a, w, none-more)
 
 -- boot, cut and post
-counts-nothing : (t : Totals) (d e : Device) (x : Checked) → counted t (judged x d (out none e Answer.Done)) ≡ t
-unfolding judged isCommit acceptedEvents isStore
-counts-nothing t d e Checked.Accepted = adds-nothing t _ refl refl refl
-counts-nothing t d e (Checked.Refused r) = adds-nothing t _ refl refl refl
+counts-nothing : (t : Totals) (h : Handler) (d e : Device) (x : Checked) → counted t h (judged x d (out none e Answer.Done)) ≡ t
+unfolding judged isCommit isAccept isStore
+counts-nothing t h d e Checked.Accepted = adds-nothing t h _ refl refl refl
+counts-nothing t h d e (Checked.Refused r) = adds-nothing t h _ refl refl refl
 
-pub boot-counts-nothing : (p s : List ℕ) (d : Device) (t : Totals) → counted t (boot p s d) ≡ t
+pub boot-counts-nothing : (p s : List ℕ) (d : Device) (t : Totals) → counted t (d .handler) (boot p s d) ≡ t
 unfolding boot
-boot-counts-nothing p s d t = counts-nothing t d (takenUp (view s) (begunOf (view s))) (bootCheck p s d)
+boot-counts-nothing p s d t = counts-nothing t (d .handler) d (takenUp (view s) (begunOf (view s))) (bootCheck p s d)
 
-pub cut-counts-nothing : (t : Totals) → counted t cut ≡ t
-unfolding cut isCommit acceptedEvents isStore
-cut-counts-nothing t = adds-nothing t cut refl refl refl
+pub cut-counts-nothing : (h : Handler) (t : Totals) → counted t h cut ≡ t
+unfolding cut isCommit isAccept isStore
+cut-counts-nothing h t = adds-nothing t h cut refl refl refl
 
-pub post-counts-nothing : (p s : List ℕ) (d : Device) (e x : ℕ) (t : Totals) → counted t (post p s d e x) ≡ t
+pub post-counts-nothing : (p s : List ℕ) (d : Device) (rs : List Record) (t : Totals) → counted t (d .handler) (post p s d rs) ≡ t
 unfolding post
-post-counts-nothing p s d e x t = counts-nothing t d _ (postCheck p s d e)
+post-counts-nothing p s d rs t = counts-nothing t (d .handler) d _ (postCheck p s d rs)
 
 -- ---- a run is its steps
 
@@ -99,7 +99,7 @@ run-made p zero n s d t =
 run-made p (suc k) n s d t =
     let o = step p s d in
     answer-case (Made p (suc k) n s d t) (o .answer) (λ f. record { steps = n; ended = Ended.Refused f; store = s; device = d; totals = t })
-    (runFrom p k (n + 1) (settled s (o .write)) (o .device) (counted t o))
+    (runFrom p k (n + 1) (settled s (o .write)) (o .device) (counted t (d .handler) o))
     (λ f e.
     record {
       made = 0;
@@ -111,7 +111,7 @@ run-made p (suc k) n s d t =
       ended = (omega arith, e);
     })
     (λ e.
-    let h = run-made p k (n + 1) (settled s (o .write)) (o .device) (counted t o) in
+    let h = run-made p k (n + 1) (settled s (o .write)) (o .device) (counted t (d .handler) o) in
     let budget : n + 1 + k ≡ n + suc k = omega arith in
     record {
       made = suc (h .made);
@@ -147,68 +147,64 @@ more-min : (a n : ℕ) {x y : ℕ} → y ≡ moreBy x n → x ≡ min a largest 
 unfolding moreBy
 more-min a n q e = omega arith
 
--- how many calls came out so
-tally : (Outcome → Bool) → List ℕ → List ℕ → Device → List Call → ℕ
+-- what calls add up to, each by the device before it and its outcome
+tally : (Device → Outcome → ℕ) → List ℕ → List ℕ → Device → List Call → ℕ
 tally f p s d [] = 0
 tally f p s d (c ∷ cs) =
     let o = call p s d c in
-    let rest = tally f p (settled s (o .write)) (o .device) cs in
-    pick (f o) (suc rest) rest
+    f d o + tally f p (settled s (o .write)) (o .device) cs
 
-count-tally : (f : Answer → Bool) (p s : List ℕ) (d : Device) (cs : List Call) → tally (λ o. f (o .answer)) p s d cs ≡ countBy f (history p s d cs)
+one-if : (b : Bool) (n : ℕ) → oneIf b + n ≡ pick b (suc n) n
+unfolding oneIf pick
+one-if true n = omega arith
+one-if false n = omega arith
+
+count-tally : (f : Answer → Bool) (p s : List ℕ) (d : Device) (cs : List Call) → tally (λ d o. oneIf (f (o .answer))) p s d cs ≡ countBy f (history p s d cs)
 unfolding tally countBy history
 count-tally f p s d [] = refl
 count-tally f p s d (c ∷ cs) =
     let o = call p s d c in
-    ap (λ (n : ℕ). pick (f (o .answer)) (suc n) n) (count-tally f p (settled s (o .write)) (o .device) cs)
+    one-if (f (o .answer)) _ ∙ ap (λ (n : ℕ). pick (f (o .answer)) (suc n) n) (count-tally f p (settled s (o .write)) (o .device) cs)
 
-stores-tally : (p s : List ℕ) (d : Device) (cs : List Call) → tally (λ o. isStore (o .write)) p s d cs ≡ storesMade p s d cs
+accepted-tally : (p s : List ℕ) (d : Device) (cs : List Call) → tally (λ d o. acceptedEvents (d .handler) (o .answer)) p s d cs ≡ eventsAccepted p s d cs
+unfolding tally eventsAccepted
+accepted-tally p s d [] = refl
+accepted-tally p s d (c ∷ cs) =
+    let o = call p s d c in
+    ap (λ (n : ℕ). acceptedEvents (d .handler) (o .answer) + n) (accepted-tally p (settled s (o .write)) (o .device) cs)
+
+stores-tally : (p s : List ℕ) (d : Device) (cs : List Call) → tally (λ d o. oneIf (isStore (o .write))) p s d cs ≡ storesMade p s d cs
 unfolding tally storesMade
 stores-tally p s d [] = refl
 stores-tally p s d (c ∷ cs) =
     let o = call p s d c in
-    ap (λ (n : ℕ). pick (isStore (o .write)) (suc n) n) (stores-tally p (settled s (o .write)) (o .device) cs)
+    one-if (isStore (o .write)) _ ∙ ap (λ (n : ℕ). pick (isStore (o .write)) (suc n) n) (stores-tally p (settled s (o .write)) (o .device) cs)
 
-sum-if : (b : Bool) (a n : ℕ) → a + oneIf b + n ≡ a + pick b (suc n) n
-unfolding oneIf pick
-sum-if true a n = omega arith
-sum-if false a n = omega arith
-
--- the field g of the totals counts the calls that came out so as f says
-module _ (g : Totals → ℕ) (f : Outcome → Bool) (is : (t : Totals) (o : Outcome) → g (counted t o) ≡ moreBy (g t) (oneIf (f o))) where
+-- the field g of the totals is what calls add up to by f
+module _ (g : Totals → ℕ) (f : Device → Outcome → ℕ) (is : (t : Totals) (d : Device) (o : Outcome) → g (counted t (d .handler) o) ≡ moreBy (g t) (f d o)) where
   total-from : (p s : List ℕ) (d : Device) (cs : List Call) (t : Totals) (a : ℕ) → g t ≡ min a largest
       → g (totalsAfter p s d cs t) ≡ min (a + tally f p s d cs) largest
   unfolding totalsAfter tally
   total-from p s d [] t a e = e ∙ ap (λ (n : ℕ). min n largest) (sym (add-zero a))
   total-from p s d (c ∷ cs) t a e =
       let o = call p s d c in
-      total-from p (settled s (o .write)) (o .device) cs (counted t o) (a + oneIf (f o)) (more-min a (oneIf (f o)) (is t o) e)
-      ∙ ap (λ (n : ℕ). min n largest) (sum-if (f o) a (tally f p (settled s (o .write)) (o .device) cs))
+      let rest = tally f p (settled s (o .write)) (o .device) cs in
+      let grouped : a + f d o + rest ≡ a + (f d o + rest) = omega arith in
+      total-from p (settled s (o .write)) (o .device) cs (counted t (d .handler) o) (a + f d o) (more-min a (f d o) (is t d o) e)
+      ∙ ap (λ (n : ℕ). min n largest) grouped
 
   total-is : (p s : List ℕ) (d : Device) (cs : List Call) → g noTotals ≡ 0 → g (totalsAfter p s d cs noTotals) ≡ min (tally f p s d cs) largest
   total-is p s d cs e =
       let none : 0 + tally f p s d cs ≡ tally f p s d cs = omega arith in
       total-from p s d cs noTotals 0 e ∙ ap (λ (n : ℕ). min n largest) none
 
-accepted-one : (a : Answer) → acceptedEvents a ≡ oneIf (isAccept a)
-unfolding acceptedEvents oneIf isAccept pick
-accepted-one Answer.Done = refl
-accepted-one (Answer.Chosen b) = refl
-accepted-one Answer.Worked = refl
-accepted-one Answer.Stored = refl
-accepted-one (Answer.Committed b) = refl
-accepted-one Answer.Accepted = refl
-accepted-one (Answer.Refused r) = refl
-
 pub totals-are-counts : TotalsAreCounts
 unfolding counted
 totals-are-counts p s d cs =
     record {
-      committed =
-          total-is (λ t. t .committed) (λ o. isCommit (o .answer)) (λ t o. refl) p s d cs refl ∙ ap (λ (n : ℕ). min n largest) (count-tally isCommit p s d cs);
-      accepted =
-          total-is (λ t. t .accepted) (λ o. isAccept (o .answer)) (λ t o. ap (moreBy (t .accepted)) (accepted-one (o .answer))) p s d cs refl ∙ ap (λ (n : ℕ). min n largest) (count-tally isAccept p s d cs);
-      stores = total-is (λ t. t .stores) (λ o. isStore (o .write)) (λ t o. refl) p s d cs refl ∙ ap (λ (n : ℕ). min n largest) (stores-tally p s d cs);
+      committed = total-is (λ t. t .committed) _ (λ t d o. refl) p s d cs refl ∙ ap (λ (n : ℕ). min n largest) (count-tally isCommit p s d cs);
+      accepted = total-is (λ t. t .accepted) _ (λ t d o. refl) p s d cs refl ∙ ap (λ (n : ℕ). min n largest) (accepted-tally p s d cs);
+      stores = total-is (λ t. t .stores) _ (λ t d o. refl) p s d cs refl ∙ ap (λ (n : ℕ). min n largest) (stores-tally p s d cs);
     }
 
 -- ---- recovery is a boot and steps

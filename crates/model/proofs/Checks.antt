@@ -12,15 +12,17 @@ use lib.ListN.{length}
 use Rattle.model.proofs.Invariant.{Handles, HeldAt, StillAt, CopyingAt, ChosenAt, EndingAt, HalfSaved, BodyAt, Placed, Begins, Resumes, On}
 use Rattle.model.proofs.Kept.{chosen-begins, known-waiting, first-head, first-pending, lasting-in, task-last-is, event-last-is}
 use Rattle.model.proofs.LogLaws.{addr}
-use Rattle.model.proofs.RingLaws.{Between, between-is, between-first, known-passes}
+use Rattle.model.proofs.BurstLaws.{burst-passes, known-passes}
+use Rattle.model.proofs.RingLaws.{Between, between-is, between-first}
 use Rattle.model.proofs.TestLaws.{pick-case, pick-true, pick-false, below-or, and-true, or-true-left, or-true-right, not-false, must-true, then-passed, and-false}
 use Rattle.model.specs.Accepted.{LegalEffect, Sound}
+use Rattle.model.specs.Burst.{carried}
 use Rattle.model.specs.Control.{obey, obeyAll, upTo, phaseRule, taskRule, openRule, openServing, countRule, pendingTaskRule, headRule, tailRule, pendingHeadRule, pendingMoveRule, pendingOpenRule, begunRule, begunEventRule, addressRule, between, recordRule, controlRules, rules, earlyRules}
-use Rattle.model.specs.Device.{taskStores, eventStores, eligible, mayRun, endStores, placeSound, recordsSound, handlerSound, deviceSound, recordSound, headSound, namedRow, openSound, headIs, ends, saves, placeFits, bodySound}
+use Rattle.model.specs.Device.{taskStores, eventStores, eligible, mayRun, endStores, placeSound, recordsSound, zeros, handlerSound, deviceSound, recordSound, headSound, namedRow, openSound, headIs, ends, saves, placeFits, bodySound}
 use Rattle.model.proofs.RuleLaws.{obey-kept, obey-unasked, obey-append, obey-upTo, obey-early}
 use Rattle.model.specs.Program.{tasks, events, memoryWords, instructions, transaction, bodyNumber, effectAt}
 use Rattle.model.specs.Serial.{Serial}
-use Rattle.model.specs.Store.{Store, event, carried, slotAfter, firstWaiting, distance, room, Task, Write}
+use Rattle.model.specs.Store.{Store, event, slotAfter, firstWaiting, distance, room, Task, Write}
 use Rattle.model.specs.Test.{_and_, _or_}
 use Rattle.model.specs.Types.{Body, Checked, Device, Effect, Free, Half, Handler, Place, Resting, Run, Storing}
 
@@ -265,12 +267,12 @@ module _ (p : List ℕ) (v : Store) (d : Device) (z : Serial) (k : ℕ) (i : On 
       and-true (eq-eqb _ _ (s .phase-is))
       (and-true (may-run b x m (r .body-in)) (lt-ltb _ _ (half-in (d .count) (effectAt p (bodyNumber p b) j (d .registers)) e)))
 
-  handler-sound : (h : Handler) → Handles p (v .queue) (v .queueRecords) (v .head) (v .tail) (z .posted) h → handlerSound p v h ≡ true
-  unfolding handlerSound recordsSound room
-  handler-sound Resting a = refl
-  handler-sound (Storing c e x) a =
-      let fits : length (carried e x) ≤ v .queueRecords - distance (v .queueRecords) (v .head) (v .tail) = omega (arith, a .room) in
-      and-true (known-passes p (carried e x) (a .known)) (and-true (le-leb _ _ fits) (lt-ltb _ _ (a .inside)))
+  handler-sound : (h : Handler) → Handles p (v .queue) (v .queueRecords) (v .head) (v .tail) (z .posted) (d .burst) h → handlerSound p v (d .burst) h ≡ true
+  unfolding handlerSound recordsSound room zeros _and_
+  handler-sound Resting a = ap (λ (ws : List ℕ). zeros ws 8) a
+  handler-sound (Storing n c) a =
+      let fits : length (carried (d .burst) n) ≤ v .queueRecords - distance (v .queueRecords) (v .head) (v .tail) = omega (arith, a .room) in
+      and-true (burst-passes _ (a .least) (a .most)) (and-true (known-passes p _ (a .known)) (and-true (le-leb _ _ fits) (lt-ltb _ _ (a .inside))))
 
   pub device-sound : Sound p → deviceSound p v d ≡ true
   unfolding deviceSound

@@ -3,7 +3,7 @@
 -- refused; `step-outcome` says that every step is one of these. Whatever is proved of a step's outcome splits on them. Demand 3 alone goes
 -- its own way through a step (Kept, KeptBody), so that a wrong definition fails there. Assumes nothing.
 use Prim.Native.Nat.{ℕ, zero, suc, _+_, _-_, _*_, _≤_, _<_}
-use mathlib.Core.Path.{_≡_, refl, ap, _∙_}
+use mathlib.Core.Path.{_≡_, refl, ap, subst, _∙_}
 use mathlib.Core.Logic.{_≢_}
 use mathlib.Core.Bool.{true, false}
 use mathlib.Core.List.{List}
@@ -12,14 +12,15 @@ use borrow.Author.Tests.{ltb-true, ltb-false, eqb-true, eqb-false, lt-ltb, le-lt
 use lib.ListN.{length, set}
 use Rattle.model.proofs.FirstStores.{storing-goes, storing-ends}
 use Rattle.model.proofs.ProgramLaws.{instruction-leads}
-use Rattle.model.proofs.RingLaws.{forward, RecordStore, record-store, tail-store, record-stores}
+use Rattle.model.proofs.RingLaws.{RecordStore, record-store, tail-store, record-stores}
 use Rattle.model.proofs.Passed.{look-passed, body-passed}
 use Rattle.model.proofs.TestLaws.{pick-case, pick-true, pick-false, clash, same-or, below-or}
 use Rattle.model.specs.Accepted.{LegalEffect, MayRun, Stands, Attends, Looked}
+use Rattle.model.specs.Burst.{carried}
 use Rattle.model.specs.Calls.{unlessRefused, isRefusal}
-use Rattle.model.specs.Device.{Outcome, out, refuse, judged, turnedOn, withPlace, withHandler, storing, recordStores, taskStores, eventStores, taskLastStores, eventLastStores, lastStores, currentTask, oldestEvent, endStores, look, bootCheck, boot, postCheck, post, handlerStep, pairSound, copyStep, recordSound, eventNext, choosing, chooseStep, saves, placeFits, bodySound, shown, saveStep, act, saveRest, placeStep, nextStep, step}
+use Rattle.model.specs.Device.{Outcome, out, refuse, judged, turnedOn, withPlace, withHandler, resting, storing, recordStores, taskStores, eventStores, taskLastStores, eventLastStores, lastStores, currentTask, oldestEvent, endStores, look, bootCheck, boot, postCheck, post, handlerStep, pairSound, copyStep, recordSound, eventNext, choosing, chooseStep, saves, placeFits, bodySound, shown, saveStep, act, saveRest, placeStep, nextStep, step}
 use Rattle.model.specs.Program.{events, memoryWords, transaction, bodyNumber, effectAt, newOpen}
-use Rattle.model.specs.Store.{Store, view, address, value, event, empty, carried, slotAfter, find, logAt, queueAt, Phase, Task, Open, Count, Pending, PendingOpen, Head, Tail, Begun, Memory, Address, Value, Event, Write, none, to}
+use Rattle.model.specs.Store.{Store, view, address, value, event, empty, Record, slotAfter, forward, find, logAt, queueAt, Phase, Task, Open, Count, Pending, PendingOpen, Head, Tail, Begun, Memory, Address, Value, Event, Write, none, to}
 use Rattle.model.specs.Test.{pick, _and_, must}
 use Rattle.model.specs.Types.{Answer, Body, Checked, Device, Effect, Found, Free, Half, Handler, Place, Refusal, Resting, Run, Storing}
 
@@ -49,9 +50,9 @@ pub boot-why : (p s : List ℕ) (d : Device) (r : Refusal) → boot p s d .answe
 unfolding boot
 boot-why p s d r = judged-done _ _ _ r
 
-pub post-why : (p s : List ℕ) (d : Device) (e x : ℕ) (r : Refusal) → post p s d e x .answer ≡ Answer.Refused r → postCheck p s d e ≡ Checked.Refused r
+pub post-why : (p s : List ℕ) (d : Device) (rs : List Record) (r : Refusal) → post p s d rs .answer ≡ Answer.Refused r → postCheck p s d rs ≡ Checked.Refused r
 unfolding post
-post-why p s d e x r = judged-done _ _ _ r
+post-why p s d rs r = judged-done _ _ _ r
 
 -- ---- a step, after the early checks
 
@@ -189,38 +190,41 @@ pub record Acts (p : List ℕ) (v : Store) (d : Device) (x : Place) (b : Body) (
 abbrev pub RunsAt : List ℕ → Store → Device → Body → ℕ → ℕ → Effect → Type 0
 RunsAt p v d b j c f = Acts p v d (Run b j c) b j f
 
--- what a handler does, c of whose stores are made: a store for one of its records, or the tail store
-pub data HandlerMade (p : List ℕ) (v : Store) (d : Device) (c e x : ℕ) : Outcome → Type 0 where
-  record-made : {w : Write} → Attends p v (Storing (c + 1) e x) → RecordStore (v .queueRecords) (v .tail) (carried e x) w
-      → HandlerMade p v d c e x (out w (withHandler d (Storing (c + 1) e x)) Answer.Stored)
-  tail-made : Attends p v (Storing c e x)
-      → HandlerMade p v d c e x (out (to Tail (forward (v .queueRecords) (v .tail) (length (carried e x)))) (withHandler d Resting) Answer.Accepted)
+-- what a handler does, c of the stores of whose n records are made: a store for one of these, or the tail store
+pub data HandlerMade (p : List ℕ) (v : Store) (d : Device) (n c : ℕ) : Outcome → Type 0 where
+  record-made : {w : Write} → Attends p v (d .burst) (Storing n (c + 1)) → RecordStore (v .queueRecords) (v .tail) (carried (d .burst) n) w
+      → HandlerMade p v d n c (out w (withHandler d (Storing n (c + 1)) (d .burst)) Answer.Stored)
+  tail-made : Attends p v (d .burst) (Storing n c)
+      → HandlerMade p v d n c (out (to Tail (forward (v .queueRecords) (v .tail) (length (carried (d .burst) n)))) (resting d) Answer.Accepted)
 
-module _ (p : List ℕ) (v : Store) (d : Device) (c e x : ℕ) (a : Attends p v (Storing c e x)) where
+module _ (p : List ℕ) (v : Store) (d : Device) (n c : ℕ) (a : Attends p v (d .burst) (Storing n c)) where
+  abbrev rs : List Record
+  rs = carried (d .burst) n
+
   abbrev stores : List Write
-  stores = recordStores (v .queueRecords) (v .tail) (carried e x)
+  stores = recordStores (v .queueRecords) (v .tail) rs
 
-  stores-are : length stores ≡ 2 * length (carried e x) + 1
-  stores-are = record-stores (v .queueRecords) (carried e x) (v .tail)
+  stores-are : length stores ≡ 2 * length rs + 1
+  stores-are = record-stores (v .queueRecords) rs (v .tail)
 
-  goes : c < 2 * length (carried e x) → HandlerMade p v d c e x (handlerStep v d c e x)
+  goes : c < 2 * length rs → HandlerMade p v d n c (handlerStep v d n c)
   unfolding handlerStep
   goes l =
       rw (storing-goes stores c _ _ _ (omega (arith, stores-are)))
-      (record-made (record { known = a .known; room = a .room; inside = omega (arith, stores-are) }) (record-store (v .queueRecords) (carried e x) (v .tail) c l))
+      (record-made (record { least = a .least; most = a .most; known = a .known; room = a .room; inside = omega (arith, stores-are) }) (record-store (v .queueRecords) rs (v .tail) c l))
 
-  ends : c ≡ 2 * length (carried e x) → HandlerMade p v d c e x (handlerStep v d c e x)
+  ends : c ≡ 2 * length rs → HandlerMade p v d n c (handlerStep v d n c)
   unfolding handlerStep
-  ends l = rw (storing-ends stores c _ _ _ (omega (arith, stores-are)), tail-store (v .queueRecords) (carried e x) (v .tail) c l) (tail-made a)
+  ends l = rw (storing-ends stores c _ _ _ (omega (arith, stores-are)), tail-store (v .queueRecords) rs (v .tail) c l) (tail-made a)
 
-  pub handler-made : HandlerMade p v d c e x (handlerStep v d c e x)
-  handler-made = below-or c (2 * length (carried e x)) goes (λ l. ends (omega (arith, stores-are, a .inside)))
+  pub handler-made : HandlerMade p v d n c (handlerStep v d n c)
+  handler-made = below-or c (2 * length rs) goes (λ l. ends (omega (arith, stores-are, a .inside)))
 
 -- ---- what a step that isn't refused does
 
 pub data Made (p : List ℕ) (v : Store) (d : Device) : Outcome → Type 0 where
   -- "A handler at work makes its next store: event, data, then tail."
-  handler : {c e x : ℕ} {o : Outcome} → d .handler ≡ Storing c e x → HandlerMade p v d c e x o → Made p v d o
+  handler : {n c : ℕ} {o : Outcome} → d .handler ≡ Storing n c → HandlerMade p v d n c o → Made p v d o
   -- "n copies, 9 from 12, 10 from 13, 8 becomes 0", in phase 2 "14 from 12, 8 becomes 0"
   commit-copy : {c : ℕ} → Commits v d c → c < v .count → address v c < memoryWords p
       → Made p v d (out (to (Memory (address v c)) (value v c)) (atPlace d (Free (c + 1))) Answer.Stored)
@@ -306,7 +310,7 @@ module _ (p s : List ℕ) (d : Device) (early : Looked p s d) where
   abbrev Is : Outcome → Type 0
   Is = StepOutcome p s d
 
-  handler-outcome : {c e x : ℕ} → d .handler ≡ Storing c e x → (o : Outcome) → HandlerMade p v d c e x o → Is o
+  handler-outcome : {n c : ℕ} → d .handler ≡ Storing n c → (o : Outcome) → HandlerMade p v d n c o → Is o
   unfolding isRefusal unlessRefused
   handler-outcome q o (record-made a s) = made early (handler q (record-made a s)) refl
   handler-outcome q o (tail-made a) = made early (handler q (tail-made a)) refl
@@ -419,7 +423,7 @@ module _ (p s : List ℕ) (d : Device) (early : Looked p s d) where
   next-outcome : (x : Handler) → d .handler ≡ x → Is (nextStep p v d x)
   unfolding nextStep
   next-outcome Resting q = place-outcome q (d .place) refl (early .place)
-  next-outcome (Storing c e x) q = handler-outcome q _ (handler-made p v d c e x (rw q at (early .handler)))
+  next-outcome (Storing n c) q = handler-outcome q _ (handler-made p v d n c (subst (Attends p v (d .burst)) q (early .handler)))
 
 pub step-outcome : (p s : List ℕ) (d : Device) → StepOutcome p s d (step p s d)
 unfolding step

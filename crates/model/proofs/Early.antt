@@ -8,16 +8,16 @@ use mathlib.Core.List.{List}
 use native.Mathlib.Omega.{arith}
 use borrow.Author.Tests.{eqb-true, eqb-false, lt-ltb, le-leb, eq-eqb, ne-eqb}
 use lib.Dec.{eqb}
+use Rattle.model.proofs.BurstLaws.{burst-passes, known-passes}
 use Rattle.model.proofs.Passed.{look-passed, early-are}
-use Rattle.model.proofs.RingLaws.{known-passes}
 use Rattle.model.proofs.RuleLaws.{obey-if}
 use Rattle.model.proofs.TestLaws.{pick-case, pick-true, clash, same-or, and-true, and-left, or-true-left, or-true-right, not-false, must-true, then-passed, then-first, then-rest}
 use Rattle.model.specs.Accepted.{ControlledBy, Controlled, EligibleBy, MayRun, Stands, Attends, Looked}
 use Rattle.model.specs.Check.{contentsRule}
 use Rattle.model.specs.Control.{obeyAll, phaseRule, taskRule, openServing, countRule, pendingTaskRule, headRule, tailRule, pendingHeadRule, pendingMoveRule, begunRule, begunEventRule, earlyRules}
-use Rattle.model.specs.Device.{withHandler, eligible, mayRun, placeSound, recordsSound, handlerSound, deviceSound, look}
+use Rattle.model.specs.Device.{withHandler, eligible, mayRun, placeSound, recordsSound, zeros, handlerSound, deviceSound, look}
 use Rattle.model.specs.Program.{tasks}
-use Rattle.model.specs.Store.{Store, view, carried, room, storeRule}
+use Rattle.model.specs.Store.{Store, view, room, storeRule}
 use Rattle.model.specs.Test.{_or_}
 use Rattle.model.specs.Types.{Body, Checked, Device, Free, Half, Handler, Place, Resting, Run, Storing}
 
@@ -89,11 +89,11 @@ place-passes p v l (Free c) m =
 place-passes p v l (Run b j c) m = and-true (eq-eqb _ _ (m .0)) (and-true (may-pass p v b (m .1)) (lt-ltb _ _ (m .2)))
 place-passes p v l (Half b j) m = and-true (eq-eqb _ _ (m .0)) (and-true (may-pass p v b (m .1)) (lt-ltb _ _ (m .2)))
 
-handler-passes : (p : List ℕ) (v : Store) (h : Handler) → Attends p v h → handlerSound p v h ≡ true
+handler-passes : (p : List ℕ) (v : Store) (burst : List ℕ) (h : Handler) → Attends p v burst h → handlerSound p v burst h ≡ true
 unfolding handlerSound recordsSound room
-handler-passes p v Resting m = refl
-handler-passes p v (Storing c e x) m =
-    and-true (known-passes p (carried e x) (m .known)) (and-true (le-leb _ _ (m .room)) (lt-ltb _ _ (m .inside)))
+handler-passes p v burst Resting m = m
+handler-passes p v burst (Storing n c) m =
+    and-true (burst-passes _ (m .least) (m .most)) (and-true (known-passes p _ (m .known)) (and-true (le-leb _ _ (m .room)) (lt-ltb _ _ (m .inside))))
 
 -- ---- what step and post look at
 
@@ -103,7 +103,7 @@ pub record Fit (p : List ℕ) (v : Store) (d : Device) : Type 0 where
   pub on : d .on ≡ true
   pub count-in : d .count ≤ v .logPairs
   pub place : Stands p v (d .count) (d .place)
-  pub handler : Attends p v (d .handler)
+  pub handler : Attends p v (d .burst) (d .handler)
 
 pub early-fit : {p s : List ℕ} {d : Device} → Looked p s d → Fit p (view s) d
 early-fit h = record { control = h .control; on = h .on; count-in = h .count-in; place = h .place; handler = h .handler }
@@ -113,15 +113,16 @@ pub look-passes : (p s : List ℕ) (d : Device) → contentsRule p ≡ Checked.A
 unfolding look deviceSound
 look-passes p s d contents rule fit =
     let v = view s in
-    let rest = and-true (place-passes p v (d .count) (d .place) (fit .place)) (handler-passes p v (d .handler) (fit .handler)) in
+    let rest = and-true (place-passes p v (d .count) (d .place) (fit .place)) (handler-passes p v (d .burst) (d .handler) (fit .handler)) in
     let sound = pick-true _ _ (fit .on) ∙ and-true (le-leb _ _ (fit .count-in)) rest in
     then-passed contents
     (then-passed rule (then-passed (control-passes p v (fit .control)) (then-passed (must-true _ sound) (must-true _ (fit .on)))))
 
--- they pass with the handler at rest as well
-pub look-rests : (p s : List ℕ) (d : Device) → look p s d ≡ Checked.Accepted → look p s (withHandler d Resting) ≡ Checked.Accepted
+-- they pass with the handler at rest as well, and without a burst
+pub look-rests : (p s : List ℕ) (d : Device) (burst : List ℕ) → zeros burst 8 ≡ true → look p s d ≡ Checked.Accepted
+    → look p s (withHandler d Resting burst) ≡ Checked.Accepted
 unfolding look withHandler
-look-rests p s d e =
+look-rests p s d burst none e =
     let h = look-passed p s d e in
-    look-passes p s (withHandler d Resting) (then-first _ _ e) (then-first _ _ (then-rest _ _ e))
-    (record { control = h .control; on = h .on; count-in = h .count-in; place = h .place; handler = tt })
+    look-passes p s (withHandler d Resting burst) (then-first _ _ e) (then-first _ _ (then-rest _ _ e))
+    (record { control = h .control; on = h .on; count-in = h .count-in; place = h .place; handler = none })

@@ -11,10 +11,11 @@ use Rattle.model.proofs.FirstStores.{First}
 use Rattle.model.proofs.LogLaws.{addr, overlay, Distinct}
 use Rattle.model.proofs.RingLaws.{RecordsMade}
 use Rattle.model.specs.Accepted.{Known}
+use Rattle.model.specs.Burst.{carried, noBurst}
 use Rattle.model.specs.Device.{off, recordStores, taskStores, eventStores, taskLastStores, eventLastStores, kindOf}
 use Rattle.model.specs.Program.{firstRegisters, word, tasks, events, memoryWords, instructions, transaction, bodyNumber, effectAt}
 use Rattle.model.specs.Serial.{Serial, walk}
-use Rattle.model.specs.Store.{Store, Record, carried, slotAfter, firstWaiting, recordsFrom, distance, Phase, Task, Open, Count, Pending, PendingOpen, Head, Tail, Begun, Memory, Address, Value, Event, Datum, Write, none, to}
+use Rattle.model.specs.Store.{Store, Record, slotAfter, firstWaiting, recordsFrom, distance, Phase, Task, Open, Count, Pending, PendingOpen, Head, Tail, Begun, Memory, Address, Value, Event, Datum, Write, none, to}
 use Rattle.model.specs.Types.{Body, Device, Effect, Free, Half, Handler, Place, Resting, Run, Storing}
 
 -- ---- the control words, but tail, which is the handler's
@@ -82,15 +83,17 @@ pub record Waiting (p : List ℕ) (queue : List ℕ) (q f t : ℕ) (records : Li
 
 -- the handler's records wait for its tail store; the first c of its stores are made behind tail
 pub record AtWork (p : List ℕ) (queue : List ℕ) (q h t : ℕ) (posted : List Record) (c : ℕ) (rs : List Record) : Type 0 where
+  pub least : 1 ≤ length rs
+  pub most : length rs ≤ 4
   pub known : Known p rs
   pub room : distance q h t + length rs ≤ q
   pub posted-is : posted ≡ rs
   pub inside : c < length (recordStores q t rs)
   pub made : RecordsMade queue q t rs c
 
-abbrev pub Handles : List ℕ → List ℕ → ℕ → ℕ → ℕ → List Record → Handler → Type 0
-Handles p queue q h t posted Resting = Unit {0}
-Handles p queue q h t posted (Storing c e x) = AtWork p queue q h t posted c (carried e x)
+abbrev pub Handles : List ℕ → List ℕ → ℕ → ℕ → ℕ → List Record → List ℕ → Handler → Type 0
+Handles p queue q h t posted burst Resting = burst ≡ noBurst
+Handles p queue q h t posted burst (Storing n c) = AtWork p queue q h t posted c (carried burst n)
 
 -- ---- what holds of the store, whatever the device: of its head, waiting records and word 16, and of the serial run's task and open number
 
@@ -231,7 +234,7 @@ pub record Off (p : List ℕ) (v : Store) (d : Device) (z : Serial) : Type 0 whe
 pub record On (p : List ℕ) (v : Store) (d : Device) (z : Serial) (k : ℕ) : Type 0 where
   pub held : HeldAt p v z
   pub on : d .on ≡ true
-  pub handles : Handles p (v .queue) (v .queueRecords) (v .head) (v .tail) (z .posted) (d .handler)
+  pub handles : Handles p (v .queue) (v .queueRecords) (v .head) (v .tail) (z .posted) (d .burst) (d .handler)
   pub count-in : d .count ≤ v .logPairs
   pub placed : Placed p v d z k (d .place)
 

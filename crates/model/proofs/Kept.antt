@@ -4,7 +4,7 @@ use Prim.Native.Nat.{ℕ, zero, suc, _+_, _-_, _*_, _≤_, _<_, min}
 use mathlib.Core.Path.{_≡_, refl, sym, ap, subst, _∙_}
 use mathlib.Core.Logic.{_⊎_, inl, inr, ⊎-elim, _≢_}
 use mathlib.Core.Bool.{true, false}
-use mathlib.Core.List.{List, _++_}
+use mathlib.Core.List.{List, [], _∷_, _++_}
 use mathlib.Core.Option.{Option, some}
 use native.Mathlib.Numerals.{add-one}
 use native.Mathlib.Omega.{arith}
@@ -14,16 +14,17 @@ use borrow.Author.Tests.{lt-ltb, le-ltb, eq-eqb}
 use Rattle.model.proofs.FirstStores.{First, storing-goes, storing-ends}
 use Rattle.model.proofs.Invariant.{Controls, controls, Has, Lengths, Waiting, AtWork, Handles, HeldAt, Lasting, Copying, CopyingAt, TaskCommitAt, EventCommitAt, CommitAt, ChosenAt, Running, Placed, Begins, On, Inv}
 use Rattle.model.proofs.LogLaws.{overlay, overlay-suc}
-use Rattle.model.proofs.RingLaws.{Between, known-between, forward, forward-le, distance-some, distance-head, forward-distance, distance-forward, tail-apart, slot-apart, records-append, records-same, known-append, RecordStore, event-store, datum-store, record-store, tail-store, record-stores, records-made, queueAfter, slot-stays, next-made}
+use Rattle.model.proofs.RingLaws.{Between, known-between, forward-le, distance-some, distance-head, forward-distance, distance-forward, tail-apart, slot-apart, records-append, records-same, known-append, RecordStore, event-store, datum-store, record-store, tail-store, record-stores, records-made, queueAfter, slot-stays, next-made}
 use Rattle.model.proofs.StoreLaws.{apply, withPhase, withBegun, withQueue, withNext, Inside}
 use Rattle.model.proofs.TestLaws.{pick-case, pick-true, pick-false, below-or, must-true}
 use Rattle.model.specs.Demand3.{Expected}
-use Rattle.model.specs.Calls.{Call, Step, acceptedEvents}
+use Rattle.model.specs.Burst.{carried, noBurst}
+use Rattle.model.specs.Calls.{Call, Step}
 use Rattle.model.specs.Accepted.{Known}
-use Rattle.model.specs.Device.{Outcome, out, refuse, judged, fresh, withHandler, withPlace, recordStores, handlerStep, storing, taskStores, eventStores, taskLastStores, eventLastStores, lastStores, kindOf, begunOf, pairSound, copyStep}
+use Rattle.model.specs.Device.{Outcome, out, refuse, judged, fresh, withHandler, resting, withPlace, recordStores, handlerStep, storing, taskStores, eventStores, taskLastStores, eventLastStores, lastStores, kindOf, begunOf, pairSound, copyStep}
 use Rattle.model.specs.Program.{word, tasks, events, memoryWords}
 use Rattle.model.specs.Serial.{Serial, given, tell, withRecords, accept}
-use Rattle.model.specs.Store.{Store, address, value, event, logAt, Record, carried, slotAfter, distance, firstWaiting, slot, Phase, Task, Open, Head, Tail, Begun, Memory, Write, none, to}
+use Rattle.model.specs.Store.{Store, address, value, event, logAt, Record, slotAfter, forward, distance, firstWaiting, slot, Phase, Task, Open, Head, Tail, Begun, Memory, Write, none, to}
 use Rattle.model.specs.Test.{pick}
 use Rattle.model.specs.Turns.{begunAfter, InTurn}
 use Rattle.model.specs.Types.{Answer, Body, Checked, Device, Free, Half, Handler, Place, Refusal, Resting, Run, Storing}
@@ -157,6 +158,12 @@ module _ (p : List ℕ) (v : Store) (d : Device) (z : Serial) (k : ℕ) (i : On 
       by-place (Run b j c) ((s, r), e) = by-head 0 (s .phase-is) refl
       by-place (Half b j) ((s, r), e) = by-head 0 (s .phase-is) refl
 
+-- the serial run adds what was posted, if it is something
+accept-some : (z : Serial) (posted rs : List Record) → posted ≡ rs → 1 ≤ length rs → accept z posted ≡ some (withRecords z rs)
+unfolding accept
+accept-some z posted [] e l = absurd (omega arith)
+accept-some z posted (r ∷ rs) e l = ap (accept z) e
+
 -- ---- the handler: only the queue and its tail change
 
 -- other records and another latest post
@@ -167,12 +174,12 @@ module _ (p : List ℕ) (v : Store) (d : Device) (z : Serial) (k : ℕ) (queue :
   abbrev pub ChosenStays : Type 0
   ChosenStays = (b : Body) (x : ℕ) → ChosenAt v x b → ChosenAt (withQueue v queue t) x b
 
-  pub placed-queue : (h : Handler) (rs : List Record) (y : List Record) → ChosenStays → (v .head ≢ v .tail → v .head ≢ t) → (x : Place)
-      → Placed p v d z k x → Placed p (withQueue v queue t) (withHandler d h) (queued z rs y) (suc k) x
+  pub placed-queue : (h : Handler) (burst : List ℕ) (rs : List Record) (y : List Record) → ChosenStays → (v .head ≢ v .tail → v .head ≢ t) → (x : Place)
+      → Placed p v d z k x → Placed p (withQueue v queue t) (withHandler d h burst) (queued z rs y) (suc k) x
   unfolding withHandler taskStores eventStores taskLastStores eventLastStores
-  placed-queue h rs y f g (Free c) (inl s) = inl s
-  placed-queue h rs y f g (Free c) (inr (m, inl s)) = inr (m, inl s)
-  placed-queue h rs y f g (Free c) (inr (m, inr s)) =
+  placed-queue h burst rs y f g (Free c) (inl s) = inl s
+  placed-queue h burst rs y f g (Free c) (inr (m, inl s)) = inr (m, inl s)
+  placed-queue h burst rs y f g (Free c) (inr (m, inr s)) =
       inr (
         m,
         inr
@@ -185,8 +192,8 @@ module _ (p : List ℕ) (v : Store) (d : Device) (z : Serial) (k : ℕ) (queue :
               lasting = s .lasting;
             }),
       )
-  placed-queue h rs y f g (Run b j c) ((s, (x, m, r)), e) = ((s, (x, f b x m, running-later r)), e)
-  placed-queue h rs y f g (Half b j) ((s, (x, m, r)), e) = ((s, (x, f b x m, running-later r)), e)
+  placed-queue h burst rs y f g (Run b j c) ((s, (x, m, r)), e) = ((s, (x, f b x m, running-later r)), e)
+  placed-queue h burst rs y f g (Half b j) ((s, (x, m, r)), e) = ((s, (x, f b x m, running-later r)), e)
 
   -- what is begun stays
   pub begun-queue : ChosenStays → (x : Place) → Placed p v d z k x → begunOf (withQueue v queue t) ≡ begunOf v
@@ -255,10 +262,11 @@ module _ (p : List ℕ) (v : Store) (lengths : Lengths p v) (d : Device) (z : Se
           known = q .known;
         }
 
-    pub record-kept : (h : Handler) → Handles p queue′ (v .queueRecords) (v .head) (v .tail) (z .posted) h → Kept p v z k Step (out w (withHandler d h) Answer.Stored)
+    pub record-kept : (h : Handler) → Handles p queue′ (v .queueRecords) (v .head) (v .tail) (z .posted) (d .burst) h
+        → Kept p v z k Step (out w (withHandler d h (d .burst)) Answer.Stored)
     unfolding withHandler firstWaiting
     record-kept h hs =
-        stored-kept w (withHandler d h) store-inside (rw store-is (begun-queue p v d z k queue′ (v .tail) chosen-stays (d .place) (i .placed)))
+        stored-kept w (withHandler d h (d .burst)) store-inside (rw store-is (begun-queue p v d z k queue′ (v .tail) chosen-stays (d .place) (i .placed)))
         (rw store-is
         (inr
         (record {
@@ -266,18 +274,18 @@ module _ (p : List ℕ) (v : Store) (lengths : Lengths p v) (d : Device) (z : Se
           on = i .on;
           handles = hs;
           count-in = i .count-in;
-          placed = placed-queue p v d z k queue′ (v .tail) h (z .records) (z .posted) chosen-stays (λ ne. ne) (d .place) (i .placed);
+          placed = placed-queue p v d z k queue′ (v .tail) h (d .burst) (z .records) (z .posted) chosen-stays (λ ne. ne) (d .place) (i .placed);
         })))
 
   -- ---- the last, after which the records wait
 
-  module _ (last : c ≡ 2 * length rs) (some-record : 0 < length rs) where
+  module _ (last : c ≡ 2 * length rs) where
     abbrev tail′ : ℕ
     tail′ = forward (v .queueRecords) (v .tail) (length rs)
 
     -- head isn't the new tail
     tail-free : v .head ≢ tail′
-    tail-free = tail-apart (v .queueRecords) (v .head) (v .tail) (length rs) (i .held .head-in) (i .held .waits .tail-in) (a .room) (omega arith)
+    tail-free = tail-apart (v .queueRecords) (v .head) (v .tail) (length rs) (i .held .head-in) (i .held .waits .tail-in) (a .room) (omega (arith, a .least))
 
     held-longer : HeldAt p (withQueue v (v .queue) tail′) (withRecords z rs)
     unfolding firstWaiting withRecords
@@ -307,64 +315,69 @@ module _ (p : List ℕ) (v : Store) (lengths : Lengths p v) (d : Device) (z : Se
     chosen-tail (Body.Task n) y m = m
     chosen-tail (Body.Event n) y ((o, (ne, m)), kind) = ((o, (tail-free, m)), kind)
 
-    tail-stored : Inv p (withQueue v (v .queue) tail′) (withHandler d Resting) (withRecords z rs) (suc k)
+    tail-stored : Inv p (withQueue v (v .queue) tail′) (resting d) (withRecords z rs) (suc k)
     unfolding withHandler withRecords
     tail-stored =
         inr
         (record {
           held = held-longer;
           on = i .on;
-          handles = tt;
+          handles = refl;
           count-in = i .count-in;
-          placed = placed-queue p v d z k (v .queue) tail′ Resting (z .records ++ rs) (z .posted) chosen-tail (λ _. tail-free) (d .place) (i .placed);
+          placed = placed-queue p v d z k (v .queue) tail′ Resting noBurst (z .records ++ rs) (z .posted) chosen-tail (λ _. tail-free) (d .place) (i .placed);
         })
 
-    pub tail-kept : length rs ≡ acceptedEvents Answer.Accepted → Kept p v z k Step (out (to Tail tail′) (withHandler d Resting) Answer.Accepted)
-    unfolding apply tell accept begunAfter
-    tail-kept one =
+    pub tail-kept : Kept p v z k Step (out (to Tail tail′) (resting d) Answer.Accepted)
+    unfolding apply tell begunAfter
+    tail-kept =
         record {
           inside = tt;
           serial = withRecords z rs;
-          tells = λ fuel l. pick-true _ _ (eq-eqb _ _ (ap length (a .posted-is) ∙ one)) ∙ ap (λ (xs : List Record). some (withRecords z xs)) (a .posted-is);
+          tells = λ fuel l. accept-some z (z .posted) rs (a .posted-is) (a .least);
           expected = tt;
           turn = tt;
           begins = begun-queue p v d z k (v .queue) tail′ chosen-tail (d .place) (i .placed);
           inv = tail-stored;
         }
 
-module _ (p : List ℕ) (v : Store) (lengths : Lengths p v) (d : Device) (z : Serial) (k : ℕ) (i : On p v d z k) (c e x : ℕ)
-    (a : AtWork p (v .queue) (v .queueRecords) (v .head) (v .tail) (z .posted) c (carried e x)) where
+module _ (p : List ℕ) (v : Store) (lengths : Lengths p v) (d : Device) (z : Serial) (k : ℕ) (i : On p v d z k) (n c : ℕ)
+    (a : AtWork p (v .queue) (v .queueRecords) (v .head) (v .tail) (z .posted) c (carried (d .burst) n)) where
+  abbrev rs : List Record
+  rs = carried (d .burst) n
+
   abbrev stores : List Write
-  stores = recordStores (v .queueRecords) (v .tail) (carried e x)
+  stores = recordStores (v .queueRecords) (v .tail) rs
 
   abbrev many : ℕ
-  many = 2 * length (carried e x)
+  many = 2 * length rs
 
   stores-are : length stores ≡ many + 1
-  stores-are = record-stores (v .queueRecords) (carried e x) (v .tail)
+  stores-are = record-stores (v .queueRecords) rs (v .tail)
 
-  ends : c ≡ many → Kept p v z k Step (handlerStep v d c e x)
-  unfolding handlerStep carried acceptedEvents
+  ends : c ≡ many → Kept p v z k Step (handlerStep v d n c)
+  unfolding handlerStep
   ends last =
-      rw (storing-ends stores c _ _ _ (omega (arith, stores-are)), tail-store (v .queueRecords) (carried e x) (v .tail) c last)
-      (tail-kept p v lengths d z k i (carried e x) c a last (omega arith) refl)
+      rw (storing-ends stores c _ _ _ (omega (arith, stores-are)), tail-store (v .queueRecords) rs (v .tail) c last)
+      (tail-kept p v lengths d z k i rs c a last)
 
-  goes : c < many → Kept p v z k Step (handlerStep v d c e x)
+  goes : c < many → Kept p v z k Step (handlerStep v d n c)
   unfolding handlerStep
   goes before =
       rw (storing-goes stores c _ _ _ (omega (arith, stores-are)))
-      (record-kept p v lengths d z k i (carried e x) c a (getD stores c none) (record-store (v .queueRecords) (carried e x) (v .tail) c before) (Storing (c + 1) e x)
+      (record-kept p v lengths d z k i rs c a (getD stores c none) (record-store (v .queueRecords) rs (v .tail) c before) (Storing n (c + 1))
       (record {
+        least = a .least;
+        most = a .most;
         known = a .known;
         room = a .room;
         posted-is = a .posted-is;
         inside = omega (arith, stores-are);
         made =
             rw (add-one c)
-            (next-made (v .queue) (v .queueRecords) (lengths .queue-length) (carried e x) (v .tail) c (i .held .waits .tail-in) (omega (arith, a .room)) before (a .made));
+            (next-made (v .queue) (v .queueRecords) (lengths .queue-length) rs (v .tail) c (i .held .waits .tail-in) (omega (arith, a .room)) before (a .made));
       }))
 
-  pub handler-kept : Kept p v z k Step (handlerStep v d c e x)
+  pub handler-kept : Kept p v z k Step (handlerStep v d n c)
   handler-kept = below-or c many goes (λ l. ends (omega (arith, stores-are, a .inside)))
 
 -- ---- a commit's stores in phases 1 and 2
@@ -407,7 +420,8 @@ module _ (p : List ℕ) (v : Store) (d : Device) (rest : d .handler ≡ Resting)
   goes-on : (u : Store) → HeldAt p u z → u .logPairs ≡ v .logPairs → CommitAt p u z (c + 1) → Inv p u further z (suc k)
   unfolding withPlace
   goes-on u held pairs commit =
-      inr (record { held = held; on = i .on; handles = rw rest tt; count-in = omega (arith, i .count-in); placed = inr commit })
+      let no-burst = subst (Handles p (v .queue) (v .queueRecords) (v .head) (v .tail) (z .posted) (d .burst)) rest (i .handles) in
+      inr (record { held = held; on = i .on; handles = rw rest no-burst; count-in = omega (arith, i .count-in); placed = inr commit })
 
   copy-is : c < v .count → copyStep p v d c ≡ out (to (Memory (address v c)) (value v c)) further Answer.Stored
   unfolding copyStep pairSound judged
@@ -508,7 +522,7 @@ module _ (p : List ℕ) (v : Store) (d : Device) (rest : d .handler ≡ Resting)
                 waits = rw (first-head v 1 (s .phase-is) refl) at (i .held .waits);
               };
           on = refl;
-          handles = tt;
+          handles = refl;
           count-in = omega arith;
           placed =
               inl (
@@ -590,7 +604,7 @@ module _ (p : List ℕ) (v : Store) (d : Device) (rest : d .handler ≡ Resting)
                 waits = rw (first-pending v (s .phase-is) ∙ sym head) at (i .held .waits);
               };
           on = refl;
-          handles = tt;
+          handles = refl;
           count-in = omega arith;
           placed = inl (record { phase-is = refl; memory-is = memory-whole h; task-is = s .task-is; open-is = s .open-is }, (refl, begun));
         }))

@@ -66,7 +66,7 @@ module _ (p : List ℕ) (sound : Sound p) (v : Store) (lengths : Lengths p v) (d
 
 module _ (p : List ℕ) (sound : Sound p) (v : Store) (d : Device) (z : Serial) (k : ℕ) (held : HeldAt p v z) (still : StillAt v z) where
   -- at its first instruction, register 0 with x, where the device is on
-  pub begins : d .on ≡ true → Handles p (v .queue) (v .queueRecords) (v .head) (v .tail) (z .posted) (d .handler) → (b : Body) (x : ℕ)
+  pub begins : d .on ≡ true → Handles p (v .queue) (v .queueRecords) (v .head) (v .tail) (z .posted) (d .burst) (d .handler) → (b : Body) (x : ℕ)
       → ChosenAt v x b → bodyNumber p b < tasks p + events p → On p v (withPlace d (firstRegisters x) (Run b 0 0) 0) z (suc k)
   unfolding withPlace
   begins on handles b x chosen h =
@@ -441,7 +441,7 @@ task-commits p sound v lengths d z k i still t j x chosen h a e below count pend
                       (waits-head p sound v lengths d z k i still (Body.Task t) j x chosen h);
                 };
             on = refl;
-            handles = tt;
+            handles = refl;
             count-in = omega arith;
             placed =
                 inr (
@@ -505,7 +505,7 @@ event-commits p sound v lengths d z k i still e j x chosen h ends count pending 
                       });
                 };
             on = refl;
-            handles = tt;
+            handles = refl;
             count-in = omega arith;
             placed =
                 inr (

@@ -1,24 +1,28 @@
 -- Boot, step, post and cut keep the invariant, over the parts of a store. Assumes nothing.
-use Prim.Native.Nat.{ℕ, suc, _≤_, _<_, min}
+use Prim.Native.Nat.{ℕ, suc, _≤_, min}
 use mathlib.Core.Path.{_≡_, refl, sym, ap, subst, _∙_}
 use mathlib.Core.Logic.{_⊎_, inl, inr}
 use mathlib.Core.List.{List}
 use mathlib.Core.Option.{Option}
 use native.Mathlib.Omega.{arith}
 use lib.Dec.{eqb}
+use lib.ListN.{length}
+use Rattle.model.proofs.BurstLaws.{carried-back}
 use Rattle.model.proofs.Checks.{body-sound, run-fits, half-fits}
 use Rattle.model.proofs.Invariant.{Lengths, Handles, HeldAt, CopyingAt, TaskCommitAt, EventCommitAt, Placed, Resumes, On, Inv}
 use Rattle.model.proofs.Kept.{Kept, begun-nothing, begun-committing, begun-task, begun-event, chosen-begins, placed-queue, handler-kept, copies-left, commit-kept}
 use Rattle.model.proofs.KeptBody.{begins, task-in, event-in, choose-kept, act-kept, rest-kept}
 use Rattle.model.proofs.LogLaws.{overlay, overlay-zero, overlay-again}
+use Rattle.model.proofs.RingLaws.{record-stores}
 use Rattle.model.proofs.StoreLaws.{apply}
 use Rattle.model.proofs.TestLaws.{pick-true, pick-false}
-use Rattle.model.specs.Accepted.{Sound}
+use Rattle.model.specs.Accepted.{Sound, Known}
+use Rattle.model.specs.Burst.{burstWords}
 use Rattle.model.specs.Calls.{Boot, Step, Cut, Post}
-use Rattle.model.specs.Device.{out, judged, fresh, off, turnedOn, withHandler, recordStores, taskLastStores, eventLastStores, kindOf, begunOf, dataFor, started, takenUp, placeStep, nextStep}
-use Rattle.model.specs.Program.{bodyNumber, effectAt, events}
+use Rattle.model.specs.Device.{out, judged, fresh, off, turnedOn, withHandler, taskLastStores, eventLastStores, kindOf, begunOf, dataFor, started, takenUp, placeStep, nextStep}
+use Rattle.model.specs.Program.{bodyNumber, effectAt}
 use Rattle.model.specs.Serial.{Serial, tell, afterDone}
-use Rattle.model.specs.Store.{Store, event, datum, none, carried, room}
+use Rattle.model.specs.Store.{Store, Record, event, datum, none, room}
 use Rattle.model.specs.Turns.{begunAfter}
 use Rattle.model.specs.Types.{Answer, Body, Device, Free, Half, Handler, Place, Resting, Run, Storing}
 
@@ -43,10 +47,10 @@ module _ (p : List ℕ) (sound : Sound p) (v : Store) (lengths : Lengths p v) (d
       rw (body-sound p v d z k i sound (Half b j) b j (s, (x, m, r)) (half-fits p v d z k i b j (d .count) f e))
       (rest-kept p sound v lengths d z k i s b j x m r f refl (sound .legal (bodyNumber p b) j (d .registers) (r .body-in) (r .place-in)) e)
 
-  pub next-kept : (h : Handler) → d .handler ≡ h → Handles p (v .queue) (v .queueRecords) (v .head) (v .tail) (z .posted) h → Kept p v z k Step (nextStep p v d h)
+  pub next-kept : (h : Handler) → d .handler ≡ h → Handles p (v .queue) (v .queueRecords) (v .head) (v .tail) (z .posted) (d .burst) h → Kept p v z k Step (nextStep p v d h)
   unfolding nextStep
   next-kept Resting e w = place-kept e (d .place) (i .placed)
-  next-kept (Storing c e x) q w = handler-kept p v lengths d z k i c e x w
+  next-kept (Storing n c) q w = handler-kept p v lengths d z k i n c w
 
 -- ---- the device off, and turned on
 
@@ -108,7 +112,7 @@ module _ (p : List ℕ) (v : Store) (d : Device) (z : Serial) (k : ℕ) where
   -- a boot takes up the begun body; where none is begun, and in phases 1 and 2, the device is the off value turned on
   idle : HeldAt p v z → Placed p v turnedOn z (suc k) (Free 0) → On p v turnedOn z (suc k)
   unfolding fresh
-  idle held placed = record { held = held; on = refl; handles = tt; count-in = omega arith; placed = placed }
+  idle held placed = record { held = held; on = refl; handles = refl; count-in = omega arith; placed = placed }
 
   abbrev Boots : Option Body → Type 0
   Boots g = On p v (takenUp v g) z (suc k)
@@ -118,10 +122,10 @@ module _ (p : List ℕ) (v : Store) (d : Device) (z : Serial) (k : ℕ) where
   on-inv sound held (inl (s, inl g)) = subst Boots (sym (begun-nothing v g)) (idle held (inl (s, (refl, g))))
   on-inv sound held (inl (s, inr (inl g))) =
       subst Boots (sym (begun-task v (s .phase-is) g))
-      (begins p sound v turnedOn z k held s refl tt (Body.Task (v .task)) 0 ((refl, refl), g) (task-in p sound v turnedOn z k held s))
+      (begins p sound v turnedOn z k held s refl refl (Body.Task (v .task)) 0 ((refl, refl), g) (task-in p sound v turnedOn z k held s))
   on-inv sound held (inl (s, inr (inr (g, (open′, ne))))) =
       subst Boots (sym (begun-event v (s .phase-is) g))
-      (begins p sound v turnedOn z k held s refl tt (Body.Event (event v (v .head))) (datum v (v .head)) ((open′, (ne, (refl, refl))), g)
+      (begins p sound v turnedOn z k held s refl refl (Body.Event (event v (v .head))) (datum v (v .head)) ((open′, (ne, (refl, refl))), g)
       (event-in p sound v turnedOn z k held s ne))
   on-inv sound held (inr (m, inl t)) = subst Boots (sym (begun-committing v 1 (t .phase-is) refl)) (idle held (inr (m, inl t)))
   on-inv sound held (inr (m, inr t)) = subst Boots (sym (begun-committing v 2 (t .phase-is) refl)) (idle held (inr (m, inr t)))
@@ -145,13 +149,13 @@ module _ (p : List ℕ) (v : Store) (d : Device) (z : Serial) (k : ℕ) where
 
   -- ---- a post that is answered done
 
-  pub posted-kept : On p v d z k → (e x : ℕ) → e < events p → 1 ≤ room v
-      → Kept p v z k (Post e x) (out none (withHandler d (Storing 0 e x)) Answer.Done)
-  unfolding tell apply afterDone begunAfter withHandler room carried recordStores
-  posted-kept i e x below fits =
+  pub posted-kept : On p v d z k → (rs : List Record) → 1 ≤ length rs → length rs ≤ 4 → Known p rs → length rs ≤ room v
+      → Kept p v z k (Post rs) (out none (withHandler d (Storing (length rs) 0) (burstWords rs)) Answer.Done)
+  unfolding tell apply afterDone begunAfter withHandler room
+  posted-kept i rs least most known fits =
       record {
         inside = tt;
-        serial = afterDone z (Post e x);
+        serial = afterDone z (Post rs);
         tells = λ fuel l. refl;
         expected = tt;
         turn = tt;
@@ -161,8 +165,18 @@ module _ (p : List ℕ) (v : Store) (d : Device) (z : Serial) (k : ℕ) where
             (record {
               held = i .held;
               on = i .on;
-              handles = record { known = (below, tt); room = omega (arith, fits); posted-is = refl; inside = omega arith; made = tt };
+              handles =
+                  rw (carried-back rs most)
+                  (record {
+                    least = least;
+                    most = most;
+                    known = known;
+                    room = omega (arith, fits, least);
+                    posted-is = refl;
+                    inside = omega (arith, record-stores (v .queueRecords) rs (v .tail));
+                    made = tt;
+                  });
               count-in = i .count-in;
-              placed = placed-queue p v d z k (v .queue) (v .tail) (Storing 0 e x) (z .records) (carried e x) (λ b y m. m) (λ ne. ne) (d .place) (i .placed);
+              placed = placed-queue p v d z k (v .queue) (v .tail) (Storing (length rs) 0) (burstWords rs) (z .records) rs (λ b y m. m) (λ ne. ne) (d .place) (i .placed);
             });
       }

@@ -6,23 +6,26 @@ use mathlib.Core.Logic.{inl, inr}
 use mathlib.Core.Bool.{Bool, true, false, not}
 use mathlib.Core.List.{List}
 use mathlib.Core.Option.{some}
-use borrow.Author.Tests.{ltb-true, leb-true}
-use lib.Dec.{ltb, leb}
+use borrow.Author.Tests.{leb-true}
+use lib.Dec.{leb}
+use lib.ListN.{length}
+use Rattle.model.proofs.BurstLaws.{burst-passed, EventsFound, all-known, bad-event, events-found}
 use Rattle.model.proofs.Checks.{rules-obeyed, early-obeyed, device-sound}
 use Rattle.model.proofs.Invariant.{Lengths, On, Inv}
 use Rattle.model.proofs.Kept.{Kept, refused-kept, InsideOf}
 use Rattle.model.proofs.KeptCalls.{held-of, resumes-of, turned-off-kept, turned-on-kept, next-kept, posted-kept}
 use Rattle.model.proofs.StoreLaws.{viewAt, apply, Sized, view-is, view-settled, settled-sized, lengths-are, rule-kept}
 use Rattle.model.proofs.TestLaws.{clash, must-true, then-skip}
-use Rattle.model.specs.Accepted.{Sound}
+use Rattle.model.specs.Accepted.{Sound, Known}
 use Rattle.model.specs.Answer.{refusal}
+use Rattle.model.specs.Burst.{isBurst, burstWords, eventsRule}
 use Rattle.model.specs.Calls.{Call, Boot, Step, Cut, Post, call}
 use Rattle.model.specs.Demand3.{isIn, mayMeet, Expected}
 use Rattle.model.specs.Control.{obeyAll, rules, earlyRules}
 use Rattle.model.specs.Device.{Outcome, out, refuse, judged, fresh, withHandler, atRest, zeros, isFresh, deviceSound, look, begunOf, takenUp, bootCheck, boot, cut, postCheck, post, nextStep, step}
-use Rattle.model.specs.Program.{events, memoryWords}
+use Rattle.model.specs.Program.{memoryWords}
 use Rattle.model.specs.Serial.{Serial, given, tell, afterDone}
-use Rattle.model.specs.Store.{Store, view, Write, none, to, settled, room, storeRule}
+use Rattle.model.specs.Store.{Store, Record, view, Write, none, to, settled, room, storeRule}
 use Rattle.model.specs.Turns.{begunAfter, InTurn}
 use Rattle.model.specs.Test.{pick, _and_, _or_, must, _then_}
 use Rattle.model.specs.Types.{Answer, Checked, Device, Refusal, Storing}
@@ -153,30 +156,42 @@ module _ (p : List ℕ) (sound : Sound p) (l q : ℕ) (s : List ℕ) (d : Device
       let j = when-on e in
       rw view-at (to-words Step (nextStep p v d (d .handler)) (next-kept p sound v lengths d z k j (d .handler) refl (j .handles))))
 
-  post-kept : (e x : ℕ) → KeptWords p l q s z k (Post e x) (post p s d e x)
+  events-kept : (rs : List Record) (o : Outcome) → (Known p rs → KeptWords p l q s z k (Post rs) o) → KeptWords p l q s z k (Post rs) (judged (eventsRule p 0 rs) d o)
+  unfolding judged refusal isIn mayMeet _or_
+  events-kept rs o h = by-found (events-found p 0 rs)
+    where
+      by-found : EventsFound p 0 rs → KeptWords p l q s z k (Post rs) (judged (eventsRule p 0 rs) d o)
+      by-found (all-known known e) = rw e (h known)
+      by-found (bad-event j e) = rw e (refused-words (Post rs) (Refusal.NoEvent j) refl)
+
+  post-kept : (rs : List Record) → KeptWords p l q s z k (Post rs) (post p s d rs)
   unfolding post postCheck refusal isIn mayMeet _or_
-  post-kept e x =
-      let o = out none (withHandler d (Storing 0 e x)) Answer.Done in
-      let known = ltb e (events p) in
+  post-kept rs =
+      let o = out none (withHandler d (Storing (length rs) 0) (burstWords rs)) Answer.Done in
+      let sized = isBurst rs in
       let rests = atRest (d .handler) in
-      let free = leb 1 (room (view s)) in
-      rw (judged-then (look p s d) (must known Refusal.NoEvent then must rests Refusal.HandlerBusy then must free Refusal.QueueFull) d o)
-      (judged-words (Post e x) (d .on) Refusal.PowerOff _ (look p s d) look-is refl
+      let free = leb (length rs) (room (view s)) in
+      rw (judged-then (look p s d) (must sized Refusal.BurstLength then eventsRule p 0 rs then must rests Refusal.HandlerBusy then must free Refusal.QueueFull) d o)
+      (judged-words (Post rs) (d .on) Refusal.PowerOff _ (look p s d) look-is refl
       (λ on.
-      rw (judged-then (must known Refusal.NoEvent) (must rests Refusal.HandlerBusy then must free Refusal.QueueFull) d o)
-      (judged-words (Post e x) known Refusal.NoEvent _ _ refl refl
-      (λ below.
+      rw (judged-then (must sized Refusal.BurstLength) (eventsRule p 0 rs then must rests Refusal.HandlerBusy then must free Refusal.QueueFull) d o)
+      (judged-words (Post rs) sized Refusal.BurstLength _ _ refl refl
+      (λ few.
+      rw (judged-then (eventsRule p 0 rs) (must rests Refusal.HandlerBusy then must free Refusal.QueueFull) d o)
+      (events-kept rs _
+      (λ known.
       rw (judged-then (must rests Refusal.HandlerBusy) (must free Refusal.QueueFull) d o)
-      (judged-words (Post e x) rests Refusal.HandlerBusy _ _ refl refl
+      (judged-words (Post rs) rests Refusal.HandlerBusy _ _ refl refl
       (λ rest.
-      judged-words (Post e x) free Refusal.QueueFull _ _ refl refl
+      judged-words (Post rs) free Refusal.QueueFull _ _ refl refl
       (λ fits.
-      let room-for-one : 1 ≤ room v = leb-true _ _ (ap (λ (u : Store). leb 1 (room u)) (sym view-at) ∙ fits) in
-      to-words (Post e x) o (posted-kept p v d z k (when-on on) e x (ltb-true _ _ below) room-for-one))))))))
+      let fit : length rs ≤ room v = leb-true _ _ (ap (λ (u : Store). leb (length rs) (room u)) (sym view-at) ∙ fits) in
+      let (least, most) = burst-passed rs few in
+      to-words (Post rs) o (posted-kept p v d z k (when-on on) rs least most known fit))))))))))
 
   pub call-kept : (c : Call) → KeptWords p l q s z k c (call p s d c)
   unfolding call
   call-kept Boot = boot-kept
   call-kept Step = step-kept
   call-kept Cut = cut-kept
-  call-kept (Post e x) = post-kept e x
+  call-kept (Post rs) = post-kept rs

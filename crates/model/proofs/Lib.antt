@@ -3,6 +3,7 @@ pub mod ProgramLaws
 pub mod FirstStores
 pub mod RuleLaws
 pub mod RingLaws
+pub mod BurstLaws
 pub mod LogLaws
 pub mod StoreLaws
 pub mod Invariant
@@ -16,9 +17,12 @@ pub mod Fresh
 pub mod Recovery
 pub mod Demand3
 pub mod Turns
+pub mod AllOrNone
 pub mod Passed
 pub mod Early
 pub mod DeviceLaws
+pub mod HandlerLaws
+pub mod CameLaws
 pub mod LookStays
 pub mod CallLaws
 pub mod Observed

@@ -16,13 +16,14 @@ use Rattle.model.proofs.Early.{control-still, Fit, early-fit, look-pass
 use Rattle.model.proofs.Passed.{sized}
 use Rattle.model.proofs.Kept.{InsideOf}
 use Rattle.model.proofs.LogLaws.{find-pair}
-use Rattle.model.proofs.RingLaws.{forward, forward-le, tail-apart, event-store, datum-store, slot-in, carried-one}
+use Rattle.model.proofs.RingLaws.{forward-le, tail-apart, event-store, datum-store, slot-in}
 use Rattle.model.proofs.StoreLaws.{withPhase, withBegun, withNext, withCommit, withQueue, withData, apply, view-after, rule-kept}
 use Rattle.model.proofs.TestLaws.{clash, and-left, and-right, then-first, then-rest}
-use Rattle.model.specs.Device.{Outcome, fresh, withPlace, withHandler, taskLastStores, eventLastStores, lastStores, kindOf, started, endStores, look, choosing, step}
+use Rattle.model.specs.Burst.{carried}
+use Rattle.model.specs.Device.{Outcome, fresh, withPlace, withHandler, resting, taskLastStores, eventLastStores, lastStores, kindOf, started, endStores, zeros, look, choosing, step}
 use Rattle.model.specs.Accepted.{ControlledBy, EligibleBy, MayRunBy, MayRun, StandsBy, Stands, Attends, Looked}
 use Rattle.model.specs.Program.{tasks, memoryWords, word}
-use Rattle.model.specs.Store.{Store, view, carried, slotAfter, distance, Phase, Write, none, to, index, settled, storedWord}
+use Rattle.model.specs.Store.{Store, view, slotAfter, forward, distance, Phase, Write, none, to, index, settled, storedWord}
 use Rattle.model.specs.Calls.{isRefusal, unlessRefused, isCommit}
 use Rattle.model.specs.Test.{pick, _and_}
 use Rattle.model.specs.Types.{Answer, Body, Checked, Device, Free, Half, Handler, Place, Resting, Run}
@@ -36,6 +37,9 @@ some-end (Body.Event e) = omega arith
 -- ---- the store and the device after a step, where the checks passed before it
 
 module _ (p : List ℕ) (v : Store) (d : Device) (fit : Fit p v d) where
+  no-burst : d .handler ≡ Resting → zeros (d .burst) 8 ≡ true
+  no-burst rests = subst (Attends p v (d .burst)) rests (fit .handler)
+
   -- no store, and stores to memory, log and queue: no control word changes
   withPlace-fits : (m l q r : List ℕ) (x : Place) (n : ℕ) → n ≤ v .logPairs → Stands p v n x → Fit p (withData v m l q) (withPlace d r x n)
   unfolding withPlace lastStores taskLastStores eventLastStores
@@ -45,7 +49,7 @@ module _ (p : List ℕ) (v : Store) (d : Device) (fit : Fit p v d) where
   runs-fits : (m l q r : List ℕ) (b : Body) (j n : ℕ) → n ≤ v .logPairs → v .phase ≡ 0 → MayRun p v b → Fit p (withData v m l q) (withPlace d r (Run b j 0) n)
   runs-fits m l q r b j n k z may = withPlace-fits m l q r (Run b j 0) n k (z, may, some-end b)
 
-  handled-fits : (q : List ℕ) (h : Handler) → Attends p v h → Fit p (withData v (v .memory) (v .log) q) (withHandler d h)
+  handled-fits : (q : List ℕ) (h : Handler) → Attends p v (d .burst) h → Fit p (withData v (v .memory) (v .log) q) (withHandler d h (d .burst))
   unfolding withHandler lastStores taskLastStores eventLastStores
   handled-fits q h a = record { control = fit .control; on = fit .on; count-in = fit .count-in; place = fit .place; handler = a }
 
@@ -88,8 +92,8 @@ module _ (p : List ℕ) (v : Store) (d : Device) (fit : Fit p v d) where
     stands-tail n c (Run b j i) h = (h .0, may-tail b (h .1), h .2)
     stands-tail n c (Half b j) h = (h .0, may-tail b (h .1), h .2)
 
-    tail-fits : Fit p (withQueue v (v .queue) x) (withHandler d Resting)
-    unfolding withHandler lastStores taskLastStores eventLastStores
+    tail-fits : Fit p (withQueue v (v .queue) x) (resting d)
+    unfolding withHandler lastStores taskLastStores eventLastStores zeros _and_
     tail-fits =
         let c = fit .control in
         record {
@@ -99,7 +103,7 @@ module _ (p : List ℕ) (v : Store) (d : Device) (fit : Fit p v d) where
           on = fit .on;
           count-in = fit .count-in;
           place = stands-tail (d .count) (length (lastStores v)) (d .place) (fit .place);
-          handler = tt;
+          handler = refl;
         }
 
   -- a commit's stores to words 9, 10 and 14, and the last one
@@ -113,7 +117,7 @@ module _ (p : List ℕ) (v : Store) (d : Device) (fit : Fit p v d) where
         on = fit .on;
         count-in = fit .count-in;
         place = (λ z. absurd (w .phase z), λ _. left);
-        handler = rw (w .rests) tt;
+        handler = rw (w .rests) (no-burst (w .rests));
       }
 
   -- that of 0 to word 16, and the last one, which word 16 must be 0 for
@@ -139,11 +143,11 @@ module _ (p : List ℕ) (v : Store) (d : Device) (fit : Fit p v d) where
         on = fit .on;
         count-in = fit .count-in;
         place = (λ z. absurd (w .phase z), λ _. left);
-        handler = rw (w .rests) tt;
+        handler = rw (w .rests) (no-burst (w .rests));
       }
 
   over-fits : v .begun ≡ 0 → Fit p (withPhase v 0) (fresh true)
-  unfolding fresh
+  unfolding fresh zeros _and_
   over-fits begun =
       let c = fit .control in
       record {
@@ -151,7 +155,7 @@ module _ (p : List ℕ) (v : Store) (d : Device) (fit : Fit p v d) where
         on = refl;
         count-in = omega arith;
         place = (λ _. (refl, begun), λ z. absurd (z refl));
-        handler = tt;
+        handler = refl;
       }
 
   -- a body is chosen
@@ -192,8 +196,8 @@ module _ (p : List ℕ) (v : Store) (d : Device) (fit : Fit p v d) where
   unfolding apply choosing kindOf endStores isCommit
   keeps o (handler q (record-made a (event-store n r l m))) _ = (slot-in (v .head) n (fit .control .tail-in) (a .room) l, handled-fits _ _ a)
   keeps o (handler q (record-made a (datum-store n r l m))) _ = (slot-in (v .head) n (fit .control .tail-in) (a .room) l, handled-fits _ _ a)
-  keeps o (handler {e = e} {x = x} q (tail-made a)) _ =
-      (tt, tail-fits (length (carried e x)) (omega (arith, carried-one e x)) (omega (arith, a .room, carried-one e x)))
+  keeps o (handler {n = n} q (tail-made a)) _ =
+      (tt, tail-fits (length (carried (d .burst) n)) (a .least) (omega (arith, a .room, a .least)))
   keeps o (commit-copy {c = c} h l m) _ =
       (m, withPlace-fits _ _ _ (d .registers) (Free (c + 1)) (d .count) (fit .count-in) (λ z. absurd (h .phase z), λ _. omega (arith, least-last v)))
   keeps o (commit-task h one e) _ =

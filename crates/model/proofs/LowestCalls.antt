@@ -1,7 +1,7 @@
 -- N2: "The place in refusal 7 becomes the lowest word of any broken rule, and for a step or post the lowest at that place of the order",
 -- whichever call meets it, for all words and device states. Each check that a call makes refuses with 7 at such a word alone, or with
 -- another number; which check refused a step, and with which facts, `why` says (DeviceLaws). Assumes nothing.
-use Prim.Native.Nat.{ℕ, _≤_, _<_}
+use Prim.Native.Nat.{ℕ, suc, _≤_, _<_}
 use mathlib.Core.Path.{_≡_, refl, sym, subst, ap, _∙_}
 use mathlib.Core.Logic.{inl, inr, ⊎-elim, _≢_}
 use mathlib.Core.Bool.{Bool, true, false, not}
@@ -18,12 +18,13 @@ use Rattle.model.proofs.RingLaws.{between-self}
 use Rattle.model.proofs.TestLaws.{pick-true, pick-false, clash, same-or, and-true, or-true-left, or-true-right, Refuses, refuses-accepted, refuses-must, refuses-then, must-passed, then-first, then-rest, impossible}
 use Rattle.model.specs.Accepted.{MayRun, Looked}
 use Rattle.model.specs.Answer.{refusal}
+use Rattle.model.specs.Burst.{eventsRule}
 use Rattle.model.specs.Calls.{Boot, Step, Cut, Post, call}
 use Rattle.model.specs.Claims.{LowestBroken, NoneBroken, runningRule, usedRule, inOrder, FirstLowest, PlaceIsLowest, NamesLowest}
 use Rattle.model.specs.Control.{Rule, broken, obey, obeyAll, inPhase, phaseRule, openRule, countRule, headRule, tailRule, addressRule, startKept, between, recordRule, rules, earlyRules}
 use Rattle.model.specs.Device.{look, bootCheck, cut, postCheck, recordSound, headSound, openSound, bodySound}
 use Rattle.model.specs.Program.{events, memoryWords, bodyNumber}
-use Rattle.model.specs.Store.{Store, view, address, event, firstWaiting}
+use Rattle.model.specs.Store.{Store, Record, view, address, event, firstWaiting}
 use Rattle.model.specs.Test.{_or_, must}
 use Rattle.model.specs.Types.{Body, Checked, Device, Effect, Place, Refusal}
 
@@ -114,11 +115,17 @@ module _ (p s : List ℕ) (d : Device) where
       (refuses-then _ _ (lowest-low (rules p v) _ (low-store p s))
       (refuses-then _ _ (lowest-row (rules p v) (first-is-lowest p v .0)) (lowest-other (rules p v) _ _ refl)))
 
-  lowest-post : (e : ℕ) → Lowest early (postCheck p s d e)
+  lowest-events : (i : ℕ) (rs : List Record) → Lowest early (eventsRule p i rs)
+  unfolding eventsRule refusal
+  lowest-events i [] = refuses-accepted
+  lowest-events i (r ∷ rs) = refuses-then _ _ (lowest-other early _ _ refl) (lowest-events (suc i) rs)
+
+  lowest-post : (rs : List Record) → Lowest early (postCheck p s d rs)
   unfolding postCheck refusal
-  lowest-post e =
+  lowest-post rs =
       refuses-then _ _ lowest-look
-      (refuses-then _ _ (lowest-other early _ _ refl) (refuses-then _ _ (lowest-other early _ _ refl) (lowest-other early _ _ refl)))
+      (refuses-then _ _ (lowest-other early _ _ refl)
+      (refuses-then _ _ (lowest-events 0 rs) (refuses-then _ _ (lowest-other early _ _ refl) (lowest-other early _ _ refl))))
 
   module _ (looked-at : Looked p s d) where
     none-early : NoneBroken early
@@ -170,4 +177,4 @@ unfolding call cut inOrder FirstLowest
 place-is-lowest p s d Boot w e = inl (lowest-boot p s d .with-such _ (boot-why p s d _ e) w refl)
 place-is-lowest p s d Step w e = lowest-step p s d w (why p s d _ e .0)
 place-is-lowest p s d Cut w e = impossible (cc)
-place-is-lowest p s d (Post y x) w e = inl (lowest-post p s d y .with-such _ (post-why p s d y x _ e) w refl)
+place-is-lowest p s d (Post rs) w e = inl (lowest-post p s d rs .with-such _ (post-why p s d rs _ e) w refl)

@@ -10,16 +10,17 @@ use borrow.Author.Tests.{ltb-true, leb-true, eqb-true, eqb-false, eq-eqb, ne-eqb
 use lib.Dec.{ltb}
 use lib.ListN.{length}
 use Rattle.model.proofs.ProgramLaws.{_&_, by-opcode, Fits, check-passed, contents-passed, row-passed, instruction-leads}
-use Rattle.model.proofs.RingLaws.{known-passed}
+use Rattle.model.proofs.BurstLaws.{burst-passed, known-passed}
 use Rattle.model.proofs.RuleLaws.{obeyed, obey-early}
 use Rattle.model.proofs.StoreLaws.{Sized}
 use Rattle.model.proofs.TestLaws.{pick-true, pick-false, same-or, and-true, and-left, and-right, or-true-left, or-true-right, must-passed, must-then, then-first, then-rest, clash}
 use Rattle.model.specs.Accepted.{Contents, Registers, Legal, Sizes, ShapedFor, Controlled, Bootable, EligibleBy, MayRun, Stands, Attends, Looked, BodyIs}
+use Rattle.model.specs.Burst.{carried}
 use Rattle.model.specs.Check.{fieldsFit, instructionRule}
 use Rattle.model.specs.Control.{obeyAll, phaseRule, taskRule, openServing, countRule, pendingTaskRule, headRule, tailRule, pendingHeadRule, pendingMoveRule, begunRule, begunEventRule, earlyRules, Rule, upTo, openRule, pendingOpenRule, addressRule, recordRule, controlRules, rules, earlyOf}
 use Rattle.model.specs.Device.{eligible, mayRun, placeSound, recordsSound, handlerSound, deviceSound, look, bootCheck, bodySound}
 use Rattle.model.specs.Program.{word, tasks, memoryWords, instructions, bodyNumber, opcode, fieldA, fieldB, code, operand, bounds, decode}
-use Rattle.model.specs.Store.{Store, view, carried, room, logAt, queueAt, storeLength, storeRule, sizesRule}
+use Rattle.model.specs.Store.{Store, view, room, logAt, queueAt, storeLength, storeRule, sizesRule}
 use Rattle.model.specs.Test.{_and_, _or_, pick}
 use Rattle.model.specs.Types.{Body, Checked, Device, Effect, Free, Half, Handler, Instruction, Place, Resting, Run, Storing}
 
@@ -207,12 +208,20 @@ stands p v l (Half b j) e =
     let f = and-right _ _ e in
     (eqb-true _ _ (and-left _ _ e), may-run p v b (and-left _ _ f), ltb-true _ _ (and-right _ _ f))
 
-attends : (p : List ℕ) (v : Store) (h : Handler) → handlerSound p v h ≡ true → Attends p v h
+attends : (p : List ℕ) (v : Store) (burst : List ℕ) (h : Handler) → handlerSound p v burst h ≡ true → Attends p v burst h
 unfolding handlerSound recordsSound room
-attends p v Resting e = tt
-attends p v (Storing c x y) e =
+attends p v burst Resting e = e
+attends p v burst (Storing n c) e =
+    let (least, most) = burst-passed (carried burst n) (and-left _ _ e) in
     let f = and-right _ _ e in
-    record { known = known-passed p (carried x y) (and-left _ _ e); room = leb-true _ _ (and-left _ _ f); inside = ltb-true _ _ (and-right _ _ f) }
+    let g = and-right _ _ f in
+    record {
+      least = least;
+      most = most;
+      known = known-passed p (carried burst n) (and-left _ _ f);
+      room = leb-true _ _ (and-left _ _ g);
+      inside = ltb-true _ _ (and-right _ _ g);
+    }
 
 -- ---- what step and post look at
 
@@ -234,7 +243,7 @@ look-passed p s d e0 =
       on = on;
       count-in = leb-true _ _ (and-left _ _ sound);
       place = stands p (view s) (d .count) (d .place) (and-left _ _ rest);
-      handler = attends p (view s) (d .handler) (and-right _ _ rest);
+      handler = attends p (view s) (d .burst) (d .handler) (and-right _ _ rest);
     }
 
 -- ---- a body at an instruction

@@ -7,7 +7,7 @@ use mathlib.Core.List.{List}
 use Rattle.model.proofs.TestLaws.{impossible}
 use Rattle.model.proofs.CallLaws.{adds-nothing}
 use Rattle.model.proofs.DeviceLaws.{judged-refused, boot-why, post-why, why}
-use Rattle.model.specs.Calls.{Call, Boot, Step, Cut, Post, call, isCommit, acceptedEvents, isStore, counted}
+use Rattle.model.specs.Calls.{Call, Boot, Step, Cut, Post, call, isCommit, isAccept, isStore, counted}
 use Rattle.model.specs.Claims.{RefusedChangesNothing}
 use Rattle.model.specs.Device.{Outcome, refuse, boot, cut, post}
 use Rattle.model.specs.Store.{settled}
@@ -23,10 +23,10 @@ unfolding call boot cut post
 refused-is p s d Boot r e = judged-refused d _ (boot-why p s d r e)
 refused-is p s d Step r e = why p s d r e .1
 refused-is p s d Cut r e = impossible (cc)
-refused-is p s d (Post y x) r e = judged-refused d _ (post-why p s d y x r e)
+refused-is p s d (Post rs) r e = judged-refused d _ (post-why p s d rs r e)
 
 pub refused-changes-nothing : RefusedChangesNothing
-unfolding settled isCommit acceptedEvents isStore
+unfolding settled isCommit isAccept isStore
 refused-changes-nothing p s d c t r e =
     let q = refused-is p s d c r e in
-    record { store = ap (λ (o : Outcome). settled s (o .write)) q; device = ap (λ (o : Outcome). o .device) q; totals = ap (counted t) q ∙ adds-nothing t (refuse d r) refl refl refl }
+    record { store = ap (λ (o : Outcome). settled s (o .write)) q; device = ap (λ (o : Outcome). o .device) q; totals = ap (counted t (d .handler)) q ∙ adds-nothing t (d .handler) (refuse d r) refl refl refl }

@@ -10,23 +10,24 @@ use native.Mathlib.Omega.{arith}
 use lib.Dec.{leb, eqb}
 use borrow.Author.Tests.{ne-eqb}
 use lib.ListN.{length}
-use Rattle.model.proofs.DeviceLaws.{judged-case, step-refused, step-goes, step-acts, load-refused, save-refused, save-full, HandlerMade, record-made, tail-made, handler-made, RunsAt, Meets, by-record, by-pair, by-body, load-above, save-above, log-full, Why, looked, met, why}
+use Rattle.model.proofs.DeviceLaws.{judged-case, step-refused, step-goes, step-acts, load-refused, save-refused, save-full, HandlerMade, record-made, tail-made, handler-made, Acts, RunsAt, Meets, by-record, by-pair, by-body, load-above, save-above, log-full, Why, looked, met, why}
 use Rattle.model.proofs.Early.{look-rests}
 use Rattle.model.proofs.Passed.{look-passed, sized}
 use Rattle.model.proofs.LookStays.{look-stays}
 use Rattle.model.proofs.Numbers.{Low, low-contents, low-store, low-inside, low-used, low-body}
-use Rattle.model.proofs.RingLaws.{forward, distance-some, slot-apart, RecordStore, event-store, datum-store, slot-in, queueAfter, slot-stays}
+use Rattle.model.proofs.RingLaws.{distance-some, slot-apart, RecordStore, event-store, datum-store, slot-in, queueAfter, slot-stays}
 use Rattle.model.proofs.StoreLaws.{apply, withQueue, Inside, view-after}
-use Rattle.model.proofs.TestLaws.{pick-false, clash, must-passed, then-rest, Refuses, refuses-accepted, refuses-must, refuses-then}
-use Rattle.model.specs.Accepted.{Looked, MayRun}
+use Rattle.model.proofs.TestLaws.{pick-false, clash, impossible, must-passed, then-rest, Refuses, refuses-accepted, refuses-must, refuses-then}
+use Rattle.model.specs.Accepted.{Looked, MayRun, Attends}
 use Rattle.model.specs.Answer.{refusal}
+use Rattle.model.specs.Burst.{carried, noBurst}
 use Rattle.model.specs.Calls.{Call, Boot, Step, Cut, Post, call, afterCalls, unlessRefused, isRefusal}
 use Rattle.model.specs.Claims.{Stays, address, logFull, uncut, RefusalStays, soundAfter}
 use Rattle.model.specs.Control.{Rule, obey, obeyAll, openRule, taskRule}
-use Rattle.model.specs.Device.{Outcome, out, refuse, withHandler, look, boot, bootCheck, post, postCheck, recordSound, headSound, headIs, openSound, bodySound, act, nextStep, step}
+use Rattle.model.specs.Device.{Outcome, out, refuse, withHandler, resting, zeros, look, boot, bootCheck, post, postCheck, recordSound, headSound, headIs, openSound, bodySound, act, nextStep, step}
 use Rattle.model.specs.Program.{word, memoryWords, bodyNumber}
-use Rattle.model.specs.Store.{Store, view, event, Record, carried, distance, slot, Word, Event, Datum, Tail, Write, to, queueAt, index, settled, storedWord}
-use Rattle.model.specs.Test.{pick, _or_, must}
+use Rattle.model.specs.Store.{Store, view, event, Record, distance, slot, Word, Event, Datum, Tail, Write, to, queueAt, index, settled, storedWord, forward}
+use Rattle.model.specs.Test.{pick, _and_, _or_, must}
 use Rattle.model.specs.Types.{Answer, Body, Checked, Device, Effect, Handler, Place, Refusal, Resting, Run, Stored, Storing}
 
 -- ---- 23 and 24 come from an instruction alone
@@ -110,22 +111,62 @@ module _ (p : List ℕ) (v : Store) (queue : List ℕ) (t : ℕ) (same : v .head
     again r w (save-above h l) = acts-again h (save-refused p _ d _ _ _ _ _ l)
     again r w (log-full h l e k) = acts-again h (save-full p _ d _ _ _ _ _ l e k)
 
+-- ---- what an instruction meets doesn't depend on the handler or its burst
+
+module _ (p : List ℕ) (v : Store) (d : Device) where
+  acts-rests : (burst : List ℕ) {x : Place} {b : Body} {j : ℕ} {f : Effect} → Acts p v d x b j f → Acts p v (withHandler d Resting burst) x b j f
+  unfolding withHandler
+  acts-rests burst h = record { rests = refl; place = h .place; stands = h .stands; does = h .does; sound = h .sound; legal = h .legal }
+
+  meets-rests : (burst : List ℕ) (r : Refusal) → Stays r → Meets p v d r → Meets p v (withHandler d Resting burst) r
+  unfolding withHandler late refusal _or_
+  meets-rests burst r w (by-record h o ne l) = clash (stays-late _ w) refl
+  meets-rests burst r w (by-pair h l m) = clash (stays-late _ w) refl
+  meets-rests burst r w (by-body x b j f q at-body z m e) = by-body x b j f q at-body z m e
+  meets-rests burst r w (load-above h l) = load-above (acts-rests burst h) l
+  meets-rests burst r w (save-above h l) = save-above (acts-rests burst h) l
+  meets-rests burst r w (log-full h l e k) = log-full (acts-rests burst h) l e k
+
 -- ---- a step that 23 or 24 refuses, were its handler at rest
 
-abbrev Stuck : List ℕ → List ℕ → Device → Refusal → Type 0
-Stuck p s d r = step p s (withHandler d Resting) .answer ≡ Answer.Refused r
+pub record Stuck (p s : List ℕ) (d : Device) (r : Refusal) : Type 0 where
+  pub met : step p s (resting d) .answer ≡ Answer.Refused r
+  -- a handler at rest has no burst
+  pub no-burst : d .handler ≡ Resting → zeros (d .burst) 8 ≡ true
 
-rests-is : (d : Device) → d .handler ≡ Resting → withHandler d Resting ≡ d
+-- why such a step is refused
+stuck-why : (p s : List ℕ) (d : Device) (r : Refusal) → Stays r → step p s d .answer ≡ Answer.Refused r
+    → Looked p s d × (d .handler ≡ Resting) × Meets p (view s) d r
+stuck-why p s d r w e = by-why (why p s d r e .0)
+  where
+    by-why : Why p s d r → Looked p s d × (d .handler ≡ Resting) × Meets p (view s) d r
+    by-why (looked f) = absurd (other-look p s d .with-such r f w)
+    by-why (met early rests m) = (early, rests, m)
+
+-- so it is refused with any words of zeros beside a handler at rest
+any-zeros : (p s : List ℕ) (d : Device) (burst : List ℕ) (r : Refusal) → Stays r → zeros burst 8 ≡ true → step p s d .answer ≡ Answer.Refused r
+    → step p s (withHandler d Resting burst) .answer ≡ Answer.Refused r
 unfolding withHandler
-rests-is d e = λ i. record { on = d .on; registers = d .registers; place = d .place; count = d .count; handler = sym e i }
+any-zeros p s d burst r w none e =
+    let (early, rests, m) = stuck-why p s d r w e in
+    again p (view s) (view s .queue) (view s .tail) (λ _. refl) s (withHandler d Resting burst) refl (look-rests p s d burst none (early .passed)) refl r w
+    (meets-rests p (view s) d burst r w m)
 
 -- it begins so
 stuck-first : (p s : List ℕ) (d : Device) (r : Refusal) → Stays r → step p s d .answer ≡ Answer.Refused r → Stuck p s d r
-stuck-first p s d r w e = by-why (why p s d r e .0)
-  where
-    by-why : Why p s d r → Stuck p s d r
-    by-why (looked f) = absurd (other-look p s d .with-such r f w)
-    by-why (met early rests m) = ap (λ (u : Device). step p s u .answer) (rests-is d rests) ∙ e
+unfolding zeros _and_
+stuck-first p s d r w e =
+    let (early, rests, m) = stuck-why p s d r w e in
+    record { met = any-zeros p s d noBurst r w refl e; no-burst = λ _. subst (Attends p (view s) (d .burst)) rests (early .handler) }
+
+rests-is : (d : Device) → d .handler ≡ Resting → withHandler d Resting (d .burst) ≡ d
+unfolding withHandler
+rests-is d e = λ i. record { on = d .on; registers = d .registers; place = d .place; count = d .count; handler = sym e i; burst = d .burst }
+
+-- and with the handler that it has, if that is at rest
+stuck-rests : (p s : List ℕ) (d : Device) (r : Refusal) → Stays r → Stuck p s d r → d .handler ≡ Resting → step p s d .answer ≡ Answer.Refused r
+unfolding withHandler
+stuck-rests p s d r w k q = ap (λ (u : Device). step p s u .answer) (sym (rests-is d q)) ∙ any-zeros p s (resting d) (d .burst) r w (k .no-burst q) (k .met)
 
 module _ (p s : List ℕ) (d : Device) (r : Refusal) (w : Stays r) (k : Stuck p s d r) where
   abbrev v : Store
@@ -134,26 +175,26 @@ module _ (p s : List ℕ) (d : Device) (r : Refusal) (w : Stays r) (k : Stuck p 
   abbrev StuckAfter : Outcome → Type 0
   StuckAfter o = Stuck p (settled s (o .write)) (o .device) r
 
-  meets : Looked p s (withHandler d Resting) × Meets p v (withHandler d Resting) r
-  meets = by-why (why p s (withHandler d Resting) r k .0)
-    where
-      by-why : Why p s (withHandler d Resting) r → Looked p s (withHandler d Resting) × Meets p v (withHandler d Resting) r
-      by-why (looked f) = absurd (other-look p s (withHandler d Resting) .with-such r f w)
-      by-why (met early rests m) = (early, m)
+  meets : Looked p s (resting d) × Meets p v (resting d) r
+  meets = let (early, rests, m) = stuck-why p s (resting d) r w (k .met) in (early, m)
 
-  -- a store by the handler
-  stored : (x : Word) (y : ℕ) (h : Handler) (a : Answer) (queue : List ℕ) (t : ℕ) → step p s d ≡ out (to x y) (withHandler d h) a
+  -- a store by the handler, which is at rest behind it without a burst
+  stored : (x : Word) (y : ℕ) (h : Handler) (burst : List ℕ) (a : Answer) (queue : List ℕ) (t : ℕ) → step p s d ≡ out (to x y) (withHandler d h burst) a
       → isRefusal a ≡ false → soundAfter (storedWord s (to x y)) a (settled s (to x y)) ≡ true
       → Inside (memoryWords p) (v .logPairs) (v .queueRecords) x → apply v (to x y) ≡ withQueue v queue t
-      → (v .head ≢ v .tail → word queue (2 * v .head) ≡ event v (v .head)) → StuckAfter (out (to x y) (withHandler d h) a)
-  unfolding withHandler
-  stored x y h a queue t is unrefused sound inside parts same =
+      → (v .head ≢ v .tail → word queue (2 * v .head) ≡ event v (v .head)) → (h ≡ Resting → zeros burst 8 ≡ true) → StuckAfter (out (to x y) (withHandler d h burst) a)
+  unfolding withHandler zeros _and_
+  stored x y h burst a queue t is unrefused sound inside parts same none =
       let s′ = settled s (to x y) in
       let looks = look-stays p s d (ap (λ (o : Outcome). isRefusal (o .answer)) is ∙ unrefused)
       (ap (λ (o : Outcome). soundAfter (storedWord s (o .write)) (o .answer) (settled s (o .write))) is ∙ sound) in
-      again p v queue t same s′ (withHandler d Resting) refl
-      (look-rests p s′ (withHandler d h) (subst (λ (o : Outcome). look p (settled s (o .write)) (o .device) ≡ Checked.Accepted) is looks))
-      (view-after (memoryWords p) (v .logPairs) (v .queueRecords) s (sized (meets .0 .shaped)) x y inside ∙ parts) r w (meets .1)
+      record {
+        no-burst = none;
+        met =
+            again p v queue t same s′ (resting d) refl
+            (look-rests p s′ (withHandler d h burst) noBurst refl (subst (λ (o : Outcome). look p (settled s (o .write)) (o .device) ≡ Checked.Accepted) is looks))
+            (view-after (memoryWords p) (v .logPairs) (v .queueRecords) s (sized (meets .0 .shaped)) x y inside ∙ parts) r w (meets .1);
+      }
 
   -- the record at head, if one waits, isn't where the handler stores
   head-stays : (rs : List Record) (w : Write) → RecordStore (v .queueRecords) (v .tail) rs w → length rs ≤ v .queueRecords - distance (v .queueRecords) (v .head) (v .tail)
@@ -180,27 +221,26 @@ module _ (p s : List ℕ) (d : Device) (r : Refusal) (w : Stays r) (k : Stuck p 
   unfolding soundAfter storedWord index pick
   tail-sound y words = refl
 
-  stuck-handler : {c e x : ℕ} (o : Outcome) → HandlerMade p v d c e x o → step p s d ≡ o → StuckAfter o
-  unfolding apply queueAfter isRefusal unlessRefused
-  stuck-handler {c = c} {e = e} {x = x} o (record-made a (event-store n y l m)) is =
-      stored (Event _) (y .event) (Storing (c + 1) e x) Answer.Stored _ (v .tail) is refl (event-sound _ _ _) (slot-in (v .head) n (meets .0 .control .tail-in) (a .room) l) refl
-      (head-stays (carried e x) _ (event-store n y l m) (a .room))
-  stuck-handler {c = c} {e = e} {x = x} o (record-made a (datum-store n y l m)) is =
-      stored (Datum _) (y .datum) (Storing (c + 1) e x) Answer.Stored _ (v .tail) is refl (datum-sound _ _ _) (slot-in (v .head) n (meets .0 .control .tail-in) (a .room) l) refl
-      (head-stays (carried e x) _ (datum-store n y l m) (a .room))
-  stuck-handler o (tail-made a) is = stored Tail _ Resting Answer.Accepted (v .queue) _ is refl (tail-sound _ _) tt refl (λ _. refl)
+  stuck-handler : {n c : ℕ} (o : Outcome) → HandlerMade p v d n c o → step p s d ≡ o → StuckAfter o
+  unfolding apply queueAfter isRefusal unlessRefused zeros _and_
+  stuck-handler {n = n} {c = c} o (record-made a (event-store i y l m)) is =
+      stored (Event _) (y .event) (Storing n (c + 1)) (d .burst) Answer.Stored _ (v .tail) is refl (event-sound _ _ _) (slot-in (v .head) i (meets .0 .control .tail-in) (a .room) l) refl
+      (head-stays (carried (d .burst) n) _ (event-store i y l m) (a .room)) (λ e. impossible (cc))
+  stuck-handler {n = n} {c = c} o (record-made a (datum-store i y l m)) is =
+      stored (Datum _) (y .datum) (Storing n (c + 1)) (d .burst) Answer.Stored _ (v .tail) is refl (datum-sound _ _ _) (slot-in (v .head) i (meets .0 .control .tail-in) (a .room) l) refl
+      (head-stays (carried (d .burst) n) _ (datum-store i y l m) (a .room)) (λ e. impossible (cc))
+  stuck-handler o (tail-made a) is = stored Tail _ Resting noBurst Answer.Accepted (v .queue) _ is refl (tail-sound _ _) tt refl (λ _. refl) (λ _. refl)
 
   stuck-step : (h : Handler) → d .handler ≡ h → StuckAfter (step p s d)
   unfolding settled nextStep
-  stuck-step Resting q =
-      subst StuckAfter (sym (why p s d r (ap (λ (u : Device). step p s u .answer) (sym (rests-is d q)) ∙ k) .1)) k
-  stuck-step (Storing c e x) q = by-look (look p s d) refl
+  stuck-step Resting q = subst StuckAfter (sym (why p s d r (stuck-rests p s d r w k q) .1)) k
+  stuck-step (Storing n c) q = by-look (look p s d) refl
     where
       by-look : (k : Checked) → look p s d ≡ k → StuckAfter (step p s d)
       by-look Checked.Accepted ok =
           let is = step-goes p s d ok ∙ ap (nextStep p v d) q in
           let attends = look-passed p s d ok .handler in
-          subst StuckAfter (sym is) (stuck-handler _ (handler-made p v d c e x (rw q at attends)) is)
+          subst StuckAfter (sym is) (stuck-handler _ (handler-made p v d n c (subst (Attends p v (d .burst)) q attends)) is)
       by-look (Checked.Refused f) not-ok = subst StuckAfter (sym (step-refused p s d not-ok)) k
 
   stuck-call : (c : Call) → uncut (c ∷ []) ≡ true → StuckAfter (call p s d c)
@@ -210,14 +250,14 @@ module _ (p s : List ℕ) (d : Device) (r : Refusal) (w : Stays r) (k : Stuck p 
       (λ ok. clash (must-passed (not (d .on)) Refusal.PowerOn (then-rest _ _ (then-rest _ _ (then-rest _ _ ok)))) (ap not (meets .0 .on)))
   stuck-call Step e = stuck-step (d .handler) refl
   stuck-call Cut e = clash e refl
-  stuck-call (Post y x) e = judged-case StuckAfter (postCheck p s d y) (λ f _. k) (λ _. k)
+  stuck-call (Post rs) e = judged-case StuckAfter (postCheck p s d rs) (λ f _. k) (λ _. record { met = k .met; no-burst = λ e. impossible (cc) })
 
 uncut-first : (c : Call) (cs : List Call) → uncut (c ∷ cs) ≡ true → (uncut (c ∷ []) ≡ true) × (uncut cs ≡ true)
 unfolding uncut
 uncut-first Boot cs e = (refl, e)
 uncut-first Step cs e = (refl, e)
 uncut-first Cut cs e = clash e refl
-uncut-first (Post x y) cs e = (refl, e)
+uncut-first (Post rs) cs e = (refl, e)
 
 stuck-calls : (p s : List ℕ) (d : Device) (r : Refusal) → Stays r → Stuck p s d r → (cs : List Call) → uncut cs ≡ true
     → Stuck p (afterCalls p s d cs .store) (afterCalls p s d cs .device) r
@@ -232,5 +272,4 @@ pub refusal-stays : RefusalStays
 unfolding call
 refusal-stays p s d r w e cs u q =
     let now = afterCalls p s d cs in
-    ap (λ (x : Device). step p (now .store) x .answer) (sym (rests-is (now .device) q))
-    ∙ stuck-calls p s d r w (stuck-first p s d r w e) cs u
+    stuck-rests p (now .store) (now .device) r w (stuck-calls p s d r w (stuck-first p s d r w e) cs u) q

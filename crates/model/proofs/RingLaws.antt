@@ -14,10 +14,11 @@ use Rattle.model.proofs.FirstStores.{First}
 use Rattle.model.proofs.TestLaws.{pick-case, pick-true, pick-false, clash, and-true, and-left, and-right, or-true-left}
 use Rattle.model.specs.Accepted.{Known}
 use Rattle.model.specs.Claims.{FullIsNoRoom}
+use Rattle.model.specs.Burst.{recordsAt}
 use Rattle.model.specs.Control.{between}
-use Rattle.model.specs.Device.{recordStores, knownEvents}
+use Rattle.model.specs.Device.{recordStores}
 use Rattle.model.specs.Program.{word, events}
-use Rattle.model.specs.Store.{slotAfter, distance, room, slot, recordsFrom, Record, carried, Phase, Task, Open, Count, Pending, PendingOpen, Head, Tail, Begun, Memory, Address, Value, Event, Datum, Write, none, to}
+use Rattle.model.specs.Store.{slotAfter, forward, ringWord, distance, room, index, queueAt, slot, recordsFrom, Record, Phase, Task, Open, Count, Pending, PendingOpen, Head, Tail, Begun, Memory, Address, Value, Event, Datum, Write, none, to}
 use Rattle.model.specs.Test.{pick, _and_, _or_}
 
 -- ---- what the definitions say, in plain arithmetic
@@ -37,12 +38,7 @@ slot-after-le q x l = go (slotAfter q x) (slot-after-is q x)
     go y (inl a) = omega arith
     go y (inr a) = omega arith
 
--- the slot n places after x
-unfoldable pub forward : ℕ → ℕ → ℕ → ℕ
-forward q x zero = x
-forward q x (suc n) = forward q (slotAfter q x) n
-
--- y is that slot
+-- y is the slot n places after x
 abbrev pub Forward : ℕ → ℕ → ℕ → ℕ → Type 0
 Forward q x n y = ((x + n ≤ q) × (y ≡ x + n)) ⊎ ((q < x + n) × (y + (q + 1) ≡ x + n))
 
@@ -208,17 +204,6 @@ pub known-append : (p : List ℕ) (rs ss : List Record) → Known p rs → Known
 known-append p [] ss k l = l
 known-append p (r ∷ rs) ss (a, k) l = (a, known-append p rs ss k l)
 
--- as 25 asks it
-pub known-passes : (p : List ℕ) (rs : List Record) → Known p rs → knownEvents p rs ≡ true
-unfolding knownEvents
-known-passes p [] k = refl
-known-passes p (r ∷ rs) (a, k) = and-true (lt-ltb _ _ a) (known-passes p rs k)
-
-pub known-passed : (p : List ℕ) (rs : List Record) → knownEvents p rs ≡ true → Known p rs
-unfolding knownEvents
-known-passed p [] e = tt
-known-passed p (r ∷ rs) e = (ltb-true _ _ (and-left _ _ e), known-passed p rs (and-right _ _ e))
-
 known-at : (p queue : List ℕ) (q n h j : ℕ) → Known p (recordsFrom queue q h n) → j < n → word queue (2 * forward q h j) < events p
 unfolding recordsFrom forward slot
 known-at p queue q zero h j k l = absurd (omega arith)
@@ -337,11 +322,7 @@ tail-store q (r ∷ rs) t zero e = absurd (omega arith)
 tail-store q (r ∷ rs) t (suc zero) e = absurd (omega arith)
 tail-store q (r ∷ rs) t (suc (suc c)) e = tail-store q rs (slotAfter q t) c (omega arith)
 
--- how many records a post carries, and how many stores these are
-pub carried-one : (e x : ℕ) → length (carried e x) ≡ 1
-unfolding carried
-carried-one e x = refl
-
+-- how many they are
 pub record-stores : (q : ℕ) (rs : List Record) (t : ℕ) → length (recordStores q t rs) ≡ 2 * length rs + 1
 unfolding recordStores
 record-stores q [] t = refl
@@ -417,3 +398,35 @@ next-made queue q n (r ∷ rs) t (suc (suc c)) l m b (a, (d, f)) =
     let w = getD (recordStores q (slotAfter q t) rs) c none in
     let same = slot-stays queue q (slotAfter q t) rs w (record-store q rs (slotAfter q t) c (omega arith)) t (λ i k. forward-apart q t i l (omega arith)) in
     (ap (λ (s : Record). s .event) same ∙ a, (ap (λ (s : Record). s .datum) same ∙ d, next-made queue q n rs (slotAfter q t) c (slot-after-le q t l) (omega arith) (omega arith) f))
+
+-- ---- the stores by their number: a burst's word c goes to the ring's word c places after the first of tail's slot
+
+pub word-store : (ws : List ℕ) (q n i u c : ℕ) → c < 2 * n → getD (recordStores q u (recordsAt ws i n)) c none ≡ to (ringWord q u c) (word ws (2 * i + c))
+unfolding recordStores recordsAt slot ringWord
+word-store ws q zero i u c l = absurd (omega arith)
+word-store ws q (suc n) i u zero l =
+    let there : 2 * i ≡ 2 * i + 0 = omega arith in
+    ap (λ (k : ℕ). to (Event u) (word ws k)) there
+word-store ws q (suc n) i u (suc zero) l = refl
+word-store ws q (suc n) i u (suc (suc c)) l =
+    let there : 2 * suc i + c ≡ 2 * i + suc (suc c) = omega arith in
+    word-store ws q n (suc i) (slotAfter q u) c (omega arith) ∙ ap (λ (k : ℕ). to (ringWord q (slotAfter q u) c) (word ws k)) there
+
+-- which word of the queue that is
+abbrev pub Around : ℕ → ℕ → ℕ → ℕ → Type 0
+Around q u c k = ((2 * u + c < 2 * (q + 1)) × (k ≡ 2 * u + c)) ⊎ ((2 * (q + 1) ≤ 2 * u + c) × (k ≡ 2 * u + c - 2 * (q + 1)))
+
+pub ring-index : (s : List ℕ) (q u c : ℕ) → u ≤ q → c ≤ 2 * q + 1
+    → (k : ℕ) × Around q u c k × (index s (ringWord q u c) ≡ queueAt (word s 1) (word s 2) + k)
+unfolding ringWord index
+ring-index s q u zero l m = (2 * u, inl (omega arith, omega arith), refl)
+ring-index s q u (suc zero) l m = (2 * u + 1, inl (omega arith, omega arith), refl)
+ring-index s q u (suc (suc c)) l m =
+    let (k, around, is) = ring-index s q (slotAfter q u) c (slot-after-le q u l) (omega arith) in
+    (k, go (slotAfter q u) k (slot-after-is q u) around, is)
+  where
+    go : (y k : ℕ) → SlotAfter q u y → Around q y c k → Around q u (suc (suc c)) k
+    go y k (inl (e, f)) (inl a) = inr (omega arith, omega arith)
+    go y k (inl (e, f)) (inr a) = absurd (omega arith)
+    go y k (inr (e, f)) (inl a) = inl (omega arith, omega arith)
+    go y k (inr (e, f)) (inr a) = inr (omega arith, omega arith)

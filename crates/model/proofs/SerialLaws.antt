@@ -1,20 +1,21 @@
--- Laws of the serial run (specs/Serial.antt): what it needs at a body, the balance of records, the tasks that follow each other, and
+-- Laws of the serial run (specs/Serial.antt): what it needs at a body, the records that it adds and serves, the tasks that follow each other, and
 -- that fuel doesn't change it.
 -- Assumes nothing.
 use Prim.Native.Nat.{ℕ, zero, suc, _+_, _≤_}
-use mathlib.Core.Path.{_≡_, refl, sym, ap, _∙_}
+use mathlib.Core.Path.{_≡_, refl, sym, ap, subst, _∙_}
 use mathlib.Core.Logic.{_⊎_, inl, inr}
 use mathlib.Core.Bool.{Bool, true, false}
-use mathlib.Core.List.{List, [], _∷_, _++_, append-assoc}
+use mathlib.Core.List.{List, [], _∷_, _++_, append-assoc, append-nil}
 use mathlib.Core.Option.{Option, none, some}
 use native.Mathlib.Nat.{not-suc-le-zero, le-of-suc-le-suc}
 use native.Mathlib.Omega.{arith}
 use borrow.Author.Tests.{eqb-true}
 use lib.Dec.{ltb, eqb}
-use lib.ListN.{length, length-append, set}
+use lib.ListN.{set}
 use Rattle.model.proofs.TestLaws.{below-or, and-left, and-right, impossible}
-use Rattle.model.specs.Calls.{Call, Boot, Step, Cut, Post, Line, countBy, isAccept, acceptedEvents}
-use Rattle.model.specs.Demand3.{isCompletion, RunsTask, RunsEvent, RunsBody, SerialDetermined, committedTask, committedTasks, namedAtEnd, namedBy, fromState, namedTasks, TasksFollow}
+use Rattle.model.specs.Calls.{Call, Boot, Step, Cut, Post, Line, isAccept}
+use Rattle.model.specs.AllOrNone.{committedEvent, eventsOf}
+use Rattle.model.specs.Demand3.{RunsTask, RunsEvent, RunsBody, SerialDetermined, committedTask, committedTasks, namedAtEnd, namedBy, fromState, namedTasks, TasksFollow}
 use Rattle.model.specs.Program.{firstRegisters, word, memoryWords, instructions, bodyNumber, effectAt}
 use Rattle.model.specs.Serial.{Serial, Formatting, Walked, went, served, lost, advance, walk, walkBody, afterTask, afterEvent, serveOldest, runBody, afterDone, withRecords, accept, tell, andThen, serialFrom, serial, serialStart}
 use Rattle.model.specs.Store.{Record}
@@ -26,7 +27,7 @@ use Rattle.model.specs.Types.{Answer, Body, Effect}
 not-some {ℓ} : {X : Type ℓ} {y : Serial} → none ≡ some y → X
 not-some e = impossible (cc)
 
-some-same : {x y : Serial} → some x ≡ some y → x ≡ y
+pub some-same : {x y : Serial} → some x ≡ some y → x ≡ y
 some-same e = cc
 
 -- ---- a body that the serial run runs
@@ -66,17 +67,14 @@ runs-body fuel p z y (Body.Event e) f = by-oldest (z .records) refl f
         by-end′ fuel p z y e x rest q (eqb-true _ _ (and-left _ _ (c .0))) (eqb-true _ _ (and-right _ _ (c .0)))
         (walkBody fuel p (Body.Event e) (x .datum) (z .memory)) refl (c .1)
 
--- ---- the balance: accepted and waiting before, completed and waiting after
-
-added : Bool → ℕ → ℕ
-added b n = pick b (suc n) n
+-- ---- the records: those that wait and those that are added, before; those served and those that wait, after
 
 done-records : (z : Serial) (c : Call) → afterDone z c .records ≡ z .records
 unfolding afterDone
 done-records z Boot = refl
 done-records z Step = refl
 done-records z Cut = refl
-done-records z (Post e x) = refl
+done-records z (Post rs) = refl
 
 task-records : (p : List ℕ) (z y : Serial) (w : Walked) → afterTask p z w ≡ some y → y .records ≡ z .records
 unfolding afterTask
@@ -90,39 +88,58 @@ event-records z y rest (went k m) e = not-some e
 event-records z y rest (served m) e = ap (λ (x : Serial). x .records) (sym (some-same e))
 event-records z y rest lost e = not-some e
 
-body-balance : (fuel : ℕ) (p : List ℕ) (z y : Serial) (b : Body) → runBody fuel p z b ≡ some y
-    → length (z .records) ≡ added (isCompletion (Answer.Committed b)) (length (y .records))
-unfolding runBody serveOldest added isCompletion pick
-body-balance fuel p z y (Body.Task t) e =
-    ap length (sym (task-records p z y (walkBody fuel p (Body.Task t) 0 (z .memory)) (chosen (eqb t (z .task)) _ y e .1)))
-body-balance fuel p z y (Body.Event e) f = by-oldest (z .records) f
+-- so many were served, with these events
+pub record Serves (before after : List Record) (es : List ℕ) : Type 0 where
+  pub served : List Record
+  pub is : before ≡ served ++ after
+  pub events-are : eventsOf served ≡ es
+
+none-served : (z y : Serial) → some z ≡ some y → Serves (z .records) (y .records) []
+unfolding eventsOf
+none-served z y e = record { served = []; is = ap (λ (x : Serial). x .records) (some-same e); events-are = refl }
+
+body-serves : (fuel : ℕ) (p : List ℕ) (z y : Serial) (b : Body) → runBody fuel p z b ≡ some y
+    → Serves (z .records) (y .records) (committedEvent (Answer.Committed b))
+unfolding runBody serveOldest committedEvent eventsOf
+body-serves fuel p z y (Body.Task t) e =
+    record {
+      served = [];
+      is = sym (task-records p z y (walkBody fuel p (Body.Task t) 0 (z .memory)) (chosen (eqb t (z .task)) _ y e .1));
+      events-are = refl;
+    }
+body-serves fuel p z y (Body.Event e) f = by-oldest (z .records) f
   where
-    by-oldest : (rs : List Record) → serveOldest fuel p z e rs ≡ some y → length rs ≡ suc (length (y .records))
+    by-oldest : (rs : List Record) → serveOldest fuel p z e rs ≡ some y → Serves rs (y .records) (e ∷ [])
     by-oldest [] g = not-some g
     by-oldest (x ∷ rest) g =
-        ap (λ (r : List Record). suc (length r))
-        (sym
-        (event-records z y rest (walkBody fuel p (Body.Event e) (x .datum) (z .memory))
-        (chosen (eqb (x .event) e and eqb (z .openNumber) 0) _ y g .1)))
+        let c = chosen (eqb (x .event) e and eqb (z .openNumber) 0) _ y g in
+        let same : x .event ≡ e = eqb-true _ _ (and-left _ _ (c .0)) in
+        record {
+          served = x ∷ [];
+          is = ap (λ (r : List Record). x ∷ r) (sym (event-records z y rest (walkBody fuel p (Body.Event e) (x .datum) (z .memory)) (c .1)));
+          events-are = ap (λ (n : ℕ). n ∷ []) same;
+        }
 
-accept-balance : (z y : Serial) (n : ℕ) → accept z n ≡ some y → length (z .records) + n ≡ length (y .records)
-unfolding accept withRecords
-accept-balance z y n e =
-    let h = chosen _ _ y e in
-    let as-many : length (z .posted) ≡ n = eqb-true _ _ (h .0) in
-    let q : length (z .records ++ z .posted) ≡ length (y .records) = ap (λ (x : Serial). length (x .records)) (some-same (h .1)) in
-    omega (arith, length-append (z .records) (z .posted))
+accept-serves : (z y : Serial) (rs : List Record) → accept z rs ≡ some y → Serves (z .records ++ rs) (y .records) []
+unfolding accept withRecords eventsOf
+accept-serves z y [] e = not-some e
+accept-serves z y (r ∷ rs) e = record { served = []; is = ap (λ (x : Serial). x .records) (some-same e); events-are = refl }
 
-tell-balance : (fuel : ℕ) (g : Formatting) (z y : Serial) (c : Call) (a : Answer) → tell fuel g z c a ≡ some y
-    → added (isAccept a) (length (z .records)) ≡ added (isCompletion a) (length (y .records))
-unfolding tell added isAccept isCompletion pick acceptedEvents
-tell-balance fuel g z y c Answer.Done e = ap length (sym (done-records z c) ∙ ap (λ (x : Serial). x .records) (some-same e))
-tell-balance fuel g z y c (Answer.Chosen b) e = ap (λ (x : Serial). length (x .records)) (some-same e)
-tell-balance fuel g z y c Answer.Worked e = ap (λ (x : Serial). length (x .records)) (some-same e)
-tell-balance fuel g z y c Answer.Stored e = ap (λ (x : Serial). length (x .records)) (some-same e)
-tell-balance fuel g z y c (Answer.Committed b) e = body-balance fuel (g .program) z y b e
-tell-balance fuel g z y c Answer.Accepted e = let h = accept-balance z y 1 e in omega arith
-tell-balance fuel g z y c (Answer.Refused r) e = ap (λ (x : Serial). length (x .records)) (some-same e)
+-- at the answer accepted what was posted last is added
+unfoldable pub adds : Answer → List Record → List Record
+adds a rs = pick (isAccept a) rs []
+
+pub tell-serves : (fuel : ℕ) (g : Formatting) (z y : Serial) (c : Call) (a : Answer) → tell fuel g z c a ≡ some y
+    → Serves (z .records ++ adds a (z .posted)) (y .records) (committedEvent a)
+unfolding tell adds isAccept pick committedEvent
+tell-serves fuel g z y c Answer.Done e =
+    rw append-nil (subst (λ (rs : List Record). Serves rs (y .records) []) (done-records z c) (none-served (afterDone z c) y e))
+tell-serves fuel g z y c (Answer.Chosen b) e = rw append-nil (none-served z y e)
+tell-serves fuel g z y c Answer.Worked e = rw append-nil (none-served z y e)
+tell-serves fuel g z y c Answer.Stored e = rw append-nil (none-served z y e)
+tell-serves fuel g z y c (Answer.Committed b) e = rw append-nil (body-serves fuel (g .program) z y b e)
+tell-serves fuel g z y c Answer.Accepted e = accept-serves z y (z .posted) e
+tell-serves fuel g z y c (Answer.Refused r) e = rw append-nil (none-served z y e)
 
 then-none : (f : Serial → Option Serial) → andThen none f ≡ none
 unfolding andThen
@@ -143,22 +160,6 @@ line-some fuel g z y x xs e = go (tell fuel g z (x .called) (x .answered)) refl 
     go none q f = not-some (sym (then-none (λ w. serialFrom fuel g w xs)) ∙ f)
     go (some w) q f = (w, q, sym (then-some w (λ u. serialFrom fuel g u xs)) ∙ f)
 
-join : (a c : Bool) (m n s t u : ℕ) → added a s ≡ added c t → m + t ≡ n + u → pick a (suc m) m + s ≡ pick c (suc n) n + u
-unfolding added pick
-join true true m n s t u e f = omega arith
-join true false m n s t u e f = omega arith
-join false true m n s t u e f = omega arith
-join false false m n s t u e f = omega arith
-
-pub serial-balance : (fuel : ℕ) (g : Formatting) (z y : Serial) (xs : List Line) → serialFrom fuel g z xs ≡ some y
-    → countBy isAccept xs + length (z .records) ≡ countBy isCompletion xs + length (y .records)
-unfolding serialFrom countBy
-serial-balance fuel g z y [] e = ap (λ (x : Serial). 0 + length (x .records)) (some-same e)
-serial-balance fuel g z y (x ∷ xs) e =
-    let (w, q, f) = line-some fuel g z y x xs e in
-    join (isAccept (x .answered)) (isCompletion (x .answered)) (countBy isAccept xs) (countBy isCompletion xs) (length (z .records))
-    (length (w .records)) (length (y .records)) (tell-balance fuel g z w (x .called) (x .answered) q) (serial-balance fuel g w y xs f)
-
 -- ---- each task is the one that the task before it named
 
 done-task : (z : Serial) (c : Call) → afterDone z c .task ≡ z .task
@@ -166,11 +167,12 @@ unfolding afterDone
 done-task z Boot = refl
 done-task z Step = refl
 done-task z Cut = refl
-done-task z (Post e x) = refl
+done-task z (Post rs) = refl
 
-accept-task : (z y : Serial) (n : ℕ) → accept z n ≡ some y → y .task ≡ z .task
+accept-task : (z y : Serial) (rs : List Record) → accept z rs ≡ some y → y .task ≡ z .task
 unfolding accept withRecords
-accept-task z y n e = ap (λ (u : Serial). u .task) (sym (some-same (chosen _ _ y e .1)))
+accept-task z y [] e = not-some e
+accept-task z y (r ∷ rs) e = ap (λ (u : Serial). u .task) (sym (some-same e))
 
 event-task : (z y : Serial) (rest : List Record) (w : Walked) → afterEvent z rest w ≡ some y → y .task ≡ z .task
 unfolding afterEvent
@@ -193,7 +195,7 @@ ended-task p z y lost e = not-some e
 
 line-tasks : (fuel : ℕ) (g : Formatting) (z y : Serial) (c : Call) (a : Answer) → tell fuel g z c a ≡ some y → (ts : List ℕ)
     → committedTask a ++ (y .task ∷ ts) ≡ z .task ∷ (namedBy fuel (g .program) (z .memory) (committedTask a) ++ ts)
-unfolding tell committedTask namedBy runBody acceptedEvents
+unfolding tell committedTask namedBy runBody
 line-tasks fuel g z y c Answer.Done e ts = ap (λ (t : ℕ). t ∷ ts) (ap (λ (u : Serial). u .task) (sym (some-same e)) ∙ done-task z c)
 line-tasks fuel g z y c (Answer.Chosen b) e ts = ap (λ (u : Serial). u .task ∷ ts) (sym (some-same e))
 line-tasks fuel g z y c Answer.Worked e ts = ap (λ (u : Serial). u .task ∷ ts) (sym (some-same e))
@@ -204,7 +206,7 @@ line-tasks fuel g z y c (Answer.Committed (Body.Task t)) e ts =
     let current : t ≡ z .task = eqb-true _ _ (h .0) in
     rw (ended-task (g .program) z y w (h .1), current)
 line-tasks fuel g z y c (Answer.Committed (Body.Event n)) e ts = ap (λ (t : ℕ). t ∷ ts) (oldest-task fuel (g .program) z y n (z .records) e)
-line-tasks fuel g z y c Answer.Accepted e ts = ap (λ (t : ℕ). t ∷ ts) (accept-task z y 1 e)
+line-tasks fuel g z y c Answer.Accepted e ts = ap (λ (t : ℕ). t ∷ ts) (accept-task z y (z .posted) e)
 line-tasks fuel g z y c (Answer.Refused r) e ts = ap (λ (u : Serial). u .task ∷ ts) (sym (some-same e))
 
 follow-from : (fuel : ℕ) (g : Formatting) (xs : List Line) (z y : Serial) → serialFrom fuel g z xs ≡ some y

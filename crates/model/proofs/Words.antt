@@ -5,7 +5,7 @@ use Prim.Native.Nat.{ℕ, zero, suc, _+_, _-_, _*_, _^_, _≤_, _<_}
 use mathlib.Core.Path.{_≡_, refl, subst, _∙_}
 use mathlib.Core.Bool.{Bool, true, false}
 use mathlib.Core.Option.{Option}
-use mathlib.Core.List.{List, [], _∷_}
+use mathlib.Core.List.{List, [], _∷_, _++_}
 use native.Mathlib.Nat.{div-le-self}
 use native.Mathlib.Omega.{arith}
 use borrow.Author.Tests.{leb-true}
@@ -14,17 +14,19 @@ use lib.IntN.{ℤ}
 use lib.ListN.{length, getD, take, drop, set, replicate, length-set}
 use lib.Seq.{getD-drop}
 use lib.Signed.{shrZ}
+use Rattle.model.proofs.BurstLaws.{burst-passed}
 use Rattle.model.proofs.DeviceLaws.{judged-case, atPlace, most-last, Commits, Acts, RunsAt, HandlerMade, record-made, tail-made, Made, handler, commit-copy, commit-task, commit-open, commit-head, commit-begun, commit-phase, chosen-event, chosen-task, computed, jumped, loaded, overwritten, half-saved, saved, go-count, go-pending, go-open, go-phase, done-count, done-pending, done-phase, StepOutcome, refused, made, step-outcome}
 use Rattle.model.proofs.Fresh.{format-passed}
-use Rattle.model.proofs.RingLaws.{slot-after-le, forward-le, Member, here, there, RecordStore, event-store, datum-store, carried-one, record-stores}
+use Rattle.model.proofs.RingLaws.{slot-after-le, forward-le, Member, here, there, RecordStore, event-store, datum-store, record-stores}
 use Rattle.model.proofs.Passed.{body-passed}
-use Rattle.model.proofs.TestLaws.{pick-case, and-left, and-right}
+use Rattle.model.proofs.TestLaws.{pick-case, and-left, and-right, must-passed, then-first, then-rest}
 use Rattle.model.specs.Accepted.{Looked, Sound}
+use Rattle.model.specs.Burst.{recordsAt, carried, recordWords, noBurst, burstWords}
 use Rattle.model.specs.Calls.{Call, Boot, Step, Cut, Post, call}
-use Rattle.model.specs.Claims.{TypedWords, TypedBody, TypedPlace, TypedHandler, TypedDevice, TypedCall, WordsStayWords, FormatStaysWords}
-use Rattle.model.specs.Device.{Outcome, judged, fresh, turnedOn, withPlace, withHandler, kindOf, currentTask, oldestEvent, begunOf, dataFor, started, takenUp, boot, cut, post, choosing, shown, step}
+use Rattle.model.specs.Claims.{TypedWords, TypedBody, TypedPlace, TypedHandler, ZeroBehind, TypedDevice, TypedRecords, TypedCall, WordsStayWords, FormatStaysWords}
+use Rattle.model.specs.Device.{Outcome, judged, fresh, turnedOn, withPlace, withHandler, kindOf, currentTask, oldestEvent, begunOf, dataFor, started, takenUp, boot, cut, postCheck, post, burstLength, choosing, shown, step}
 use Rattle.model.specs.Program.{word, memoryWords, transaction, bodyNumber, operand, instructionTable, decode, signed, unsigned, shifted, reg, effect, effectAt, newOpen}
-use Rattle.model.specs.Store.{Store, view, Record, carried, slotAfter, memoryAt, logAt, queueAt, index, Write, none, to, settled, storeMark, storeContents, storeLength, sizesRule, formatted, formatCheck, formatStore, format}
+use Rattle.model.specs.Store.{Store, view, Record, slot, slotAfter, memoryAt, logAt, queueAt, index, Write, none, to, settled, storeMark, storeContents, storeLength, sizesRule, formatted, formatCheck, formatStore, format}
 use Rattle.model.specs.Types.{Body, Checked, Device, Effect, Found, Free, Handler, Instruction, Place, Resting, Run, Storing}
 
 -- ---- lists of words
@@ -134,22 +136,51 @@ effectAt-words p i j r ps rs l = effect-words r j rs l _ (decode-words _ _ _ (op
 
 -- ---- outcomes
 
-abbrev TypedRecords : List Record → Type 0
-TypedRecords [] = Unit {0}
-TypedRecords (r ∷ rs) = ((r .event < 2 ^ 16) × (r .datum < 2 ^ 16)) × TypedRecords rs
-
 abbrev pub TypedWrite : Write → Type 0
 TypedWrite none = Unit {0}
 TypedWrite (to w x) = x < 2 ^ 16
 
--- the records that a post carries
-members-words : (rs : List Record) → TypedRecords rs → (r : Record) → Member r rs → (r .event < 2 ^ 16) × (r .datum < 2 ^ 16)
-members-words rs (a, k) r here = a
-members-words rs (a, k) r (there m) = members-words _ k r m
+-- the records that a handler keeps
+carried-words : (ws : List ℕ) → TypedWords ws → (i n : ℕ) (r : Record) → Member r (recordsAt ws i n) → (r .event < 2 ^ 16) × (r .datum < 2 ^ 16)
+unfolding recordsAt slot
+carried-words ws h i (suc n) r here = (h (2 * i), h (2 * i + 1))
+carried-words ws h i (suc n) r (there m) = carried-words ws h (suc i) n r m
 
-carried-words : (e x : ℕ) → e < 2 ^ 16 → x < 2 ^ 16 → (r : Record) → Member r (carried e x) → (r .event < 2 ^ 16) × (r .datum < 2 ^ 16)
-unfolding carried
-carried-words e x es xs = members-words (carried e x) ((es, xs), tt)
+-- the words in which it keeps those of a post
+record-words : (rs : List Record) → TypedRecords rs → TypedWords (recordWords rs ++ noBurst)
+unfolding recordWords
+record-words [] h = words-zeros 8
+record-words (r ∷ rs) (a, b, h) =
+    let ws = recordWords rs ++ noBurst in
+    words-cons (r .event) (r .datum ∷ ws) a (words-cons (r .datum) ws b (record-words rs h))
+
+burst-words : (rs : List Record) → TypedRecords rs → TypedWords (burstWords rs)
+unfolding burstWords
+burst-words rs h = words-part 8 0 (recordWords rs ++ noBurst) (record-words rs h)
+
+burst-length : (rs : List Record) → length rs ≤ 4 → length (burstWords rs) ≡ 8
+unfolding burstWords recordWords
+burst-length [] l = refl
+burst-length (a ∷ []) l = refl
+burst-length (a ∷ b ∷ []) l = refl
+burst-length (a ∷ b ∷ c ∷ []) l = refl
+burst-length (a ∷ b ∷ c ∷ d ∷ []) l = refl
+burst-length (a ∷ b ∷ c ∷ d ∷ e ∷ rs) l = absurd (omega arith)
+
+zeros-at : (k n i : ℕ) → word (take k (replicate n 0)) i ≡ 0
+zeros-at zero n i = refl
+zeros-at (suc k) zero i = refl
+zeros-at (suc k) (suc n) zero = refl
+zeros-at (suc k) (suc n) (suc i) = zeros-at k n i
+
+zero-behind : (k : ℕ) (rs : List Record) (i : ℕ) → 2 * length rs ≤ i → word (take k (recordWords rs ++ noBurst)) i ≡ 0
+unfolding recordWords
+zero-behind k [] i l = zeros-at k 8 i
+zero-behind k (r ∷ rs) zero l = absurd (omega arith)
+zero-behind k (r ∷ rs) (suc zero) l = absurd (omega arith)
+zero-behind zero (r ∷ rs) (suc (suc i)) l = refl
+zero-behind (suc zero) (r ∷ rs) (suc (suc i)) l = refl
+zero-behind (suc (suc k)) (r ∷ rs) (suc (suc i)) l = zero-behind k rs i (omega arith)
 
 pub record TypedOutcome (o : Outcome) : Type 0 where
   pub write : TypedWrite (o .write)
@@ -168,7 +199,17 @@ settled-length s (to w x) = length-set s (index s w) x
 
 pub fresh-device-words : (on : Bool) → TypedDevice (fresh on)
 unfolding fresh
-fresh-device-words on = record { registers-length = refl; registers = words-zeros 8; place = omega arith; count = omega arith; handler = tt }
+fresh-device-words on =
+    record {
+      registers-length = refl;
+      registers = words-zeros 8;
+      place = omega arith;
+      count = omega arith;
+      handler = tt;
+      burst-length = refl;
+      burst = words-zeros 8;
+      unused = λ i _. zeros-at 8 8 i;
+    }
 
 -- a body at its first instruction
 module _ (s : List ℕ) (ss : TypedWords s) where
@@ -186,6 +227,9 @@ module _ (s : List ℕ) (ss : TypedWords s) where
         place = (bs, (omega arith, omega arith));
         count = omega arith;
         handler = ds .handler;
+        burst-length = ds .burst-length;
+        burst = ds .burst;
+        unused = ds .unused;
       }
 
   pub current-words : TypedBody (currentTask (view s))
@@ -221,15 +265,35 @@ module _ (p s : List ℕ) (d : Device) (ps : TypedWords p) (ss : TypedWords s) (
 
   withPlace-words : (r : List ℕ) (x : Place) (l : ℕ) → length r ≡ 8 → TypedWords r → TypedPlace x → l < 2 ^ 16 → TypedDevice (withPlace d r x l)
   unfolding withPlace
-  withPlace-words r x l n rs xs ls = record { registers-length = n; registers = rs; place = xs; count = ls; handler = ds .handler }
+  withPlace-words r x l n rs xs ls =
+      record {
+        registers-length = n;
+        registers = rs;
+        place = xs;
+        count = ls;
+        handler = ds .handler;
+        burst-length = ds .burst-length;
+        burst = ds .burst;
+        unused = ds .unused;
+      }
 
   -- the same registers and count elsewhere
   went-words : (x : Place) → TypedPlace x → TypedDevice (withPlace d (d .registers) x (d .count))
   went-words x xs = withPlace-words (d .registers) x (d .count) (ds .registers-length) (ds .registers) xs (ds .count)
 
-  handled-words : (h : Handler) → TypedHandler h → TypedDevice (withHandler d h)
+  handled-words : (h : Handler) (ws : List ℕ) → TypedHandler h → length ws ≡ 8 → TypedWords ws → ZeroBehind h ws → TypedDevice (withHandler d h ws)
   unfolding withHandler
-  handled-words h hs = record { registers-length = ds .registers-length; registers = ds .registers; place = ds .place; count = ds .count; handler = hs }
+  handled-words h ws hs l words unused =
+      record {
+        registers-length = ds .registers-length;
+        registers = ds .registers;
+        place = ds .place;
+        count = ds .count;
+        handler = hs;
+        burst-length = l;
+        burst = words;
+        unused = unused;
+      }
 
   -- ---- the calls that make no store
 
@@ -244,9 +308,16 @@ module _ (p s : List ℕ) (d : Device) (ps : TypedWords p) (ss : TypedWords s) (
   unfolding cut
   cut-words = record { write = tt; device = fresh-device-words false }
 
-  post-words : (e x : ℕ) → e < 2 ^ 16 → x < 2 ^ 16 → TypedOutcome (post p s d e x)
-  unfolding post
-  post-words e x es xs = judged-words _ _ (record { write = tt; device = handled-words (Storing 0 e x) (omega arith, es, xs) })
+  post-words : (rs : List Record) → TypedRecords rs → TypedOutcome (post p s d rs)
+  unfolding post postCheck burstLength burstWords
+  post-words rs h =
+      judged-case TypedOutcome (postCheck p s d rs) (λ _ _. record { write = tt; device = ds })
+      (λ e.
+      let most = burst-passed rs (must-passed _ _ (then-first _ _ (then-rest _ _ e))) .1 in
+      record {
+        write = tt;
+        device = handled-words (Storing (length rs) 0) (burstWords rs) (omega (arith, most), omega arith) (burst-length rs most) (burst-words rs h) (zero-behind 8 rs);
+      })
 
   -- ---- a step
 
@@ -282,24 +353,29 @@ module _ (p s : List ℕ) (d : Device) (ps : TypedWords p) (ss : TypedWords s) (
     onward-words {c} h =
         went-words (Free (c + 1)) (omega (arith, h .left, most-last v, early .control .count-in (h .phase), early .shaped .shaped .sizes .most-pairs))
 
-    handler-words : {c e x : ℕ} → TypedHandler (Storing c e x) → (o : Outcome) → HandlerMade p v d c e x o → TypedOutcome o
-    handler-words {c = c} {e = e} {x = x} h o (record-made a s) = record { write = store-words _ s; device = handled-words _ (next, h .1, h .2) }
-      where
-        next : c + 1 < 3
-        next = omega (arith, a .inside, record-stores (v .queueRecords) (carried e x) (v .tail), carried-one e x)
-
-        store-words : (w : Write) → RecordStore (v .queueRecords) (v .tail) (carried e x) w → TypedWrite w
-        store-words w (event-store n r l m) = carried-words e x (h .1) (h .2) r m .0
-        store-words w (datum-store n r l m) = carried-words e x (h .1) (h .2) r m .1
-    handler-words {c = c} {e = e} {x = x} h o (tail-made a) =
+    handler-words : {n c : ℕ} → d .handler ≡ Storing n c → (o : Outcome) → HandlerMade p v d n c o → TypedOutcome o
+    unfolding burstLength
+    handler-words {n = n} {c = c} q o (record-made a s) =
         record {
-          write = omega (arith, forward-le (v .queueRecords) (v .tail) (length (carried e x)) (early .control .tail-in) (omega (arith, a .room)), ss 3);
-          device = handled-words Resting tt;
+          write = store-words _ s;
+          device = handled-words _ (d .burst) (subst TypedHandler q (ds .handler) .0, next) (ds .burst-length) (ds .burst) (subst (λ (h : Handler). ZeroBehind h (d .burst)) q (ds .unused));
+        }
+      where
+        next : c + 1 < 2 ^ 16
+        next = omega (arith, a .inside, a .most, record-stores (v .queueRecords) (carried (d .burst) n) (v .tail))
+
+        store-words : (w : Write) → RecordStore (v .queueRecords) (v .tail) (carried (d .burst) n) w → TypedWrite w
+        store-words w (event-store i r l m) = carried-words (d .burst) (ds .burst) 0 n r m .0
+        store-words w (datum-store i r l m) = carried-words (d .burst) (ds .burst) 0 n r m .1
+    handler-words {n = n} q o (tail-made a) =
+        record {
+          write = omega (arith, forward-le (v .queueRecords) (v .tail) (length (carried (d .burst) n)) (early .control .tail-in) (omega (arith, a .room)), ss 3);
+          device = handled-words Resting noBurst tt refl (words-zeros 8) (λ i _. zeros-at 8 8 i);
         }
 
     made-words : (o : Outcome) → Made p v d o → TypedOutcome o
     unfolding choosing kindOf
-    made-words o (handler {c = c} {e = e} {x = x} q m) = handler-words (subst TypedHandler q (ds .handler)) o m
+    made-words o (handler q m) = handler-words q o m
     made-words o (commit-copy h l m) = record { write = log-words _; device = onward-words h }
     made-words o (commit-task h one e) = record { write = ss 12; device = onward-words h }
     made-words o (commit-open h one e) = record { write = ss 13; device = onward-words h }
@@ -333,7 +409,7 @@ module _ (p s : List ℕ) (d : Device) (ps : TypedWords p) (ss : TypedWords s) (
   call-words Boot h = boot-words
   call-words Step h = step-words (step p s d) (step-outcome p s d)
   call-words Cut h = cut-words
-  call-words (Post e x) h = post-words e x (h .0) (h .1)
+  call-words (Post rs) h = post-words rs h
 
 pub words-stay-words : WordsStayWords
 words-stay-words p s d c ps ss ds cs =

@@ -7,10 +7,11 @@ use mathlib.Core.List.{List, [], _∷_}
 use mathlib.Core.Logic.{_⊎_, _≢_}
 use mathlib.Core.Path.{_≡_}
 use lib.ListN.{length}
+use Rattle.model.specs.Burst.{carried}
 use Rattle.model.specs.Check.{contentsRule, rowsInside, rowUsable, instructionRule, check}
-use Rattle.model.specs.Device.{recordStores, lastStores, kindOf, endStores, look, headSound, namedRow, openSound, headIs, placeFits}
+use Rattle.model.specs.Device.{recordStores, lastStores, kindOf, endStores, zeros, look, headSound, namedRow, openSound, headIs, placeFits}
 use Rattle.model.specs.Program.{word, tasks, events, memoryWords, entry, total, bodies, start, instructions, firstBody, opcode, fieldA, fieldB, code, operand, decode, effectAt, bodyNumber}
-use Rattle.model.specs.Store.{Store, view, memoryAt, logAt, queueAt, storeLength, Record, carried, slotAfter, distance}
+use Rattle.model.specs.Store.{Store, view, memoryAt, logAt, queueAt, storeLength, Record, slotAfter, distance}
 use Rattle.model.specs.Types.{Body, Checked, Device, Effect, Free, Half, Handler, Instruction, Place, Resting, Run, Storing}
 
 -- ---- the program's contents: `contentsRule`
@@ -186,16 +187,18 @@ Known p (first ∷ rs) = (first .event < events p) × Known p rs
 
 -- a handler at work on the records rs, c of whose stores are made
 pub record AttendsTo (p : List ℕ) (q h t c : ℕ) (rs : List Record) : Type 0 where
+  pub least : 1 ≤ length rs
+  pub most : length rs ≤ 4
   pub known : Known p rs
   pub room : length rs ≤ q - distance q h t
   pub inside : c < length (recordStores q t rs)
 
-abbrev pub AttendsBy : List ℕ → ℕ → ℕ → ℕ → Handler → Type 0
-AttendsBy p q h t Resting = Unit {0}
-AttendsBy p q h t (Storing c e x) = AttendsTo p q h t c (carried e x)
+abbrev pub AttendsBy : List ℕ → ℕ → ℕ → ℕ → List ℕ → Handler → Type 0
+AttendsBy p q h t burst Resting = zeros burst 8 ≡ true
+AttendsBy p q h t burst (Storing n c) = AttendsTo p q h t c (carried burst n)
 
-abbrev pub Attends : List ℕ → Store → Handler → Type 0
-Attends p v handler = AttendsBy p (v .queueRecords) (v .head) (v .tail) handler
+abbrev pub Attends : List ℕ → Store → List ℕ → Handler → Type 0
+Attends p v burst handler = AttendsBy p (v .queueRecords) (v .head) (v .tail) burst handler
 
 -- ---- what step and post look at: `look`
 
@@ -207,7 +210,7 @@ pub record Looked (p s : List ℕ) (d : Device) : Type 0 where
   pub on : d .on ≡ true
   pub count-in : d .count ≤ view s .logPairs
   pub place : Stands p (view s) (d .count) (d .place)
-  pub handler : Attends p (view s) (d .handler)
+  pub handler : Attends p (view s) (d .burst) (d .handler)
 
 -- ---- body b at a place, whose instruction j does f: `bodySound`
 

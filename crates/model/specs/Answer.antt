@@ -25,13 +25,13 @@ refusal (Refusal.Instruction b i) = numbered 5 b i
 refusal Refusal.StoreContents = numbered 6 0 0
 -- control; place: the lowest word of any broken rule
 refusal (Refusal.Control w) = numbered 7 w 0
--- posted event not below E
-refusal Refusal.NoEvent = numbered 8 0 0
+-- posted event not below E; N6: "at its first bad event (place: position from 0)"
+refusal (Refusal.NoEvent i) = numbered 8 i 0
 -- L or Q outside limits, when formatting
 refusal Refusal.StoreSize = numbered 9 0 0
 -- post while a handler is at work
 refusal Refusal.HandlerBusy = numbered 20 0 0
--- post while the queue is full
+-- post while the queue is full; N6: "when the whole burst doesn't fit"
 refusal Refusal.QueueFull = numbered 21 0 0
 -- step or post while off
 refusal Refusal.PowerOff = numbered 22 0 0
@@ -49,3 +49,5 @@ refusal (Refusal.LinesRow i) = numbered 30 i 0
 refusal (Refusal.LinesGap n x) = numbered 31 n x
 -- "32 a level covered twice (place: line, lowest level)"
 refusal (Refusal.LinesOverlap n x) = numbered 32 n x
+-- N6: "33 burst of zero or over four"
+refusal Refusal.BurstLength = numbered 33 0 0

@@ -5,7 +5,9 @@ use mathlib.Core.List.{List, [], _∷_, _++_, map}
 use mathlib.Core.Option.{Option}
 use lib.ListN.{replicate, set}
 use Rattle.model.specs.Answer.{RefusalNumber, refusal}
-use Rattle.model.specs.Calls.{Call, Boot, Step, Cut, Post, Line, Now, history, afterCalls, isAccept, counted, RunOutcome, run, Recovery, recovered, unfinished, recovery, countBy, steps}
+use Rattle.model.specs.AllOrNone.{cameIn, committedEvents, eventsOf, joined}
+use Rattle.model.specs.Burst.{burstWords, carried, single}
+use Rattle.model.specs.Calls.{Call, Boot, Step, Cut, Post, Line, Now, history, afterCalls, eventsAccepted, counted, RunOutcome, run, Recovery, recovered, unfinished, recovery, countBy, steps}
 use Rattle.model.specs.Claims.{uncut}
 use Rattle.model.specs.Demand3.{isIn, mayMeet, recoverySteps, isCompletion}
 use Rattle.model.specs.Device.{Outcome, out, refuse, begunOf, boot, cut, post, step}
@@ -14,16 +16,32 @@ use Rattle.model.specs.Serial.{Serial, given, serial}
 use Rattle.model.specs.Starred.{counting}
 use Rattle.model.specs.Store.{Record, view, room, waiting, Word, Phase, Task, Open, Count, Pending, PendingOpen, Head, Tail, Begun, Memory, Address, Value, Event, Datum, none, to, index, settled, formatted}
 use Rattle.model.specs.Turns.{begunBy, nextBody}
-use Rattle.model.specs.Types.{Answer, Body, Device, Ended, Free, Half, Refusal, Resting, Run, Storing, Totals}
+use Rattle.model.specs.Types.{Answer, Body, Device, Ended, Free, Half, Handler, Refusal, Resting, Run, Storing, Totals}
 use Rattle.model.specs.ProgramRows.{storesWord}
-use Rattle.model.specs.Sample.{Row, _⇒_, at, cleared, closed, controls, deviceWith, eventBegun, eventCommit, offValue, onValue, opened, registers, sample, task1, taskBegun, taskCommit, twoPairs, withInstruction}
+use Rattle.model.specs.Sample.{Row, _⇒_, at, cleared, closed, controls, deviceWith, eventBegun, eventCommit, offValue, onValue, opened, registers, sample, task1, taskBegun, taskCommit, twoPairs, withInstruction, working}
 use Rattle.model.specs.StateRows.{wrongOpen}
 
 -- ---- What a step does: its one store, the device after it, its answer
 
 -- a handler at work for event 1 with data 66, and a body at an instruction
 abbrev handling : ℕ → Device
-handling c = deviceWith true registers (task1 2) 1 (Storing c 1 66)
+handling c = working (at (task1 2)) 1 c (1 ∷ 66 ∷ [])
+
+-- for three, in a ring that is empty from slot 2 on
+abbrev threeHandled : ℕ → Device
+threeHandled c = working (at (task1 2)) 3 c (1 ∷ 66 ∷ 0 ∷ 67 ∷ 1 ∷ 68 ∷ [])
+
+abbrev pub holds : ℕ → ℕ → Record
+holds e x = record { event = e; datum = x }
+
+abbrev two : ℕ → ℕ → List Record
+two e f = holds e 66 ∷ holds f 67 ∷ []
+
+abbrev three : List Record
+three = holds 1 66 ∷ holds 0 67 ∷ holds 1 68 ∷ []
+
+abbrev emptyAt2 : List ℕ
+emptyAt2 = taskBegun (controls 0 1 8 0 0 0 2 2)
 
 -- a body begun, by its kind in word 16, register 0 with the data of an event
 abbrev begins : Body → ℕ → ℕ → Outcome
@@ -43,7 +61,15 @@ outcomes =
     step sample (taskBegun (controls 0 1 8 0 0 0 1 3)) (handling 0) ⇒ out (to (Event 3) 1) (handling 1) Answer.Stored
     ∷ step sample (taskBegun (controls 0 1 8 0 0 0 1 3)) (handling 1) ⇒ out (to (Datum 3) 66) (handling 2) Answer.Stored
     ∷ step sample (taskBegun (controls 0 1 8 0 0 0 1 3)) (handling 2) ⇒ out (to Tail 0) (at (task1 2)) Answer.Accepted
-    ∷ step sample taskCommit (deviceWith true registers (Free 1) 1 (Storing 2 1 66)) ⇒ out (to Tail 2) (at (Free 1)) Answer.Accepted
+    ∷ step sample taskCommit (working (at (Free 1)) 1 2 (1 ∷ 66 ∷ [])) ⇒ out (to Tail 2) (at (Free 1)) Answer.Accepted
+    -- N6: "stored, each event and then its data, and then accepted by one tail store, in order", past the ring's end
+    ∷ step sample emptyAt2 (threeHandled 0) ⇒ out (to (Event 2) 1) (threeHandled 1) Answer.Stored
+    ∷ step sample emptyAt2 (threeHandled 1) ⇒ out (to (Datum 2) 66) (threeHandled 2) Answer.Stored
+    ∷ step sample emptyAt2 (threeHandled 2) ⇒ out (to (Event 3) 0) (threeHandled 3) Answer.Stored
+    ∷ step sample emptyAt2 (threeHandled 3) ⇒ out (to (Datum 3) 67) (threeHandled 4) Answer.Stored
+    ∷ step sample emptyAt2 (threeHandled 4) ⇒ out (to (Event 0) 1) (threeHandled 5) Answer.Stored
+    ∷ step sample emptyAt2 (threeHandled 5) ⇒ out (to (Datum 0) 68) (threeHandled 6) Answer.Stored
+    ∷ step sample emptyAt2 (threeHandled 6) ⇒ out (to Tail 1) (at (task1 2)) Answer.Accepted
     -- "then n copies, 9 from 12, 10 from 13, 8 becomes 0"; N4: "Commits store 0 in it just before the last store", over a 0 too
     ∷ step sample taskCommit (at (Free 0)) ⇒ storesWord (Memory 2) 777 (Free 1)
     ∷ step sample taskCommit (at (Free 1)) ⇒ storesWord (Memory 3) 888 (Free 2)
@@ -77,17 +103,33 @@ outcomes =
     ∷ step sample (eventBegun closed) (at (Run (Body.Event 1) 1 1)) ⇒ storesWord Pending 0 (Run (Body.Event 1) 1 2)
     ∷ step sample (eventBegun closed) (at (Run (Body.Event 1) 1 2)) ⇒ endsWith Phase 2 (Answer.Committed (Body.Event 1))
     -- "A post makes no store, sets the handler to work": "post then 8, 20, 21"
-    ∷ post sample (taskBegun opened) (at (task1 2)) 1 66 ⇒ out none (handling 0) Answer.Done
-    ∷ post sample taskCommit (at (Free 1)) 0 9 ⇒ out none (deviceWith true registers (Free 1) 1 (Storing 0 0 9)) Answer.Done
-    ∷ post sample opened offValue 2 66 ⇒ refuse offValue Refusal.PowerOff
-    ∷ post sample (taskBegun opened) (handling 1) 2 66 ⇒ refuse (handling 1) Refusal.NoEvent
-    ∷ post sample (taskBegun opened) (handling 1) 1 67 ⇒ refuse (handling 1) Refusal.HandlerBusy
-    ∷ post sample (taskBegun (controls 0 1 8 0 0 0 2 1)) (at (task1 2)) 2 66 ⇒ refuse (at (task1 2)) Refusal.NoEvent
-    ∷ post sample (taskBegun (controls 0 1 8 0 0 0 2 1)) (at (task1 2)) 1 66 ⇒ refuse (at (task1 2)) Refusal.QueueFull
-    ∷ post sample (controls 2 1 0 0 1 0 0 3) (at (Free 0)) 1 66 ⇒ refuse (at (Free 0)) Refusal.QueueFull
+    ∷ post sample (taskBegun opened) (at (task1 2)) (single 1 66) ⇒ out none (handling 0) Answer.Done
+    ∷ post sample taskCommit (at (Free 1)) (single 0 9) ⇒ out none (working (at (Free 1)) 1 0 (0 ∷ 9 ∷ [])) Answer.Done
+    ∷ post sample opened offValue (single 2 66) ⇒ refuse offValue Refusal.PowerOff
+    ∷ post sample (taskBegun opened) (handling 1) (single 2 66) ⇒ refuse (handling 1) (Refusal.NoEvent 0)
+    ∷ post sample (taskBegun opened) (handling 1) (single 1 67) ⇒ refuse (handling 1) Refusal.HandlerBusy
+    ∷ post sample (taskBegun (controls 0 1 8 0 0 0 2 1)) (at (task1 2)) (single 2 66) ⇒ refuse (at (task1 2)) (Refusal.NoEvent 0)
+    ∷ post sample (taskBegun (controls 0 1 8 0 0 0 2 1)) (at (task1 2)) (single 1 66) ⇒ refuse (at (task1 2)) Refusal.QueueFull
+    ∷ post sample (controls 2 1 0 0 1 0 0 3) (at (Free 0)) (single 1 66) ⇒ refuse (at (Free 0)) Refusal.QueueFull
+    -- N6: "33 burst of zero or over four, checked just before 8"
+    ∷ post sample emptyAt2 (at (task1 2)) three ⇒ out none (threeHandled 0) Answer.Done
+    ∷ post sample emptyAt2 (at (task1 2)) [] ⇒ refuse (at (task1 2)) Refusal.BurstLength
+    ∷ post sample emptyAt2 (handling 1) (two 2 2 ++ three) ⇒ refuse (handling 1) Refusal.BurstLength
+    ∷ post sample opened offValue [] ⇒ refuse offValue Refusal.PowerOff
+    ∷ post sample (taskBegun (controls 0 1 8 0 0 0 2 1)) (handling 1) [] ⇒ refuse (handling 1) Refusal.State
+    -- "8 at its first bad event (place: position from 0)", "and 21 when the whole burst doesn't fit": four never fit where Q is 3; in phase 2 a
+    -- committed record's slot counts until head has moved
+    ∷ post sample emptyAt2 (handling 1) (two 1 2) ⇒ refuse (handling 1) (Refusal.NoEvent 1)
+    ∷ post sample emptyAt2 (handling 1) (two 1 0 ++ two 2 2) ⇒ refuse (handling 1) (Refusal.NoEvent 2)
+    ∷ post sample emptyAt2 (at (task1 2)) (three ++ single 7 9) ⇒ refuse (at (task1 2)) (Refusal.NoEvent 3)
+    ∷ post sample emptyAt2 (at (task1 2)) (two 1 0 ++ two 1 0) ⇒ refuse (at (task1 2)) Refusal.QueueFull
+    ∷ post sample emptyAt2 (handling 1) (two 1 0 ++ two 1 0) ⇒ refuse (handling 1) Refusal.HandlerBusy
+    ∷ post sample (taskBegun opened) (at (task1 2)) (two 1 0) ⇒ refuse (at (task1 2)) Refusal.QueueFull
+    ∷ post sample (controls 2 1 0 0 1 0 0 2) (at (Free 0)) (two 1 0) ⇒ refuse (at (Free 0)) Refusal.QueueFull
+    ∷ post sample (controls 2 1 0 0 1 0 1 2) (at (Free 1)) (two 1 0) ⇒ out none (working (at (Free 1)) 2 0 (1 ∷ 66 ∷ 0 ∷ 67 ∷ [])) Answer.Done
     -- "Boot makes no store and turns that value on"; "boot 1 to 7, 26"; "A cut refuses nothing"
     ∷ boot sample opened offValue ⇒ out none onValue Answer.Done
-    ∷ boot sample taskCommit (deviceWith false registers (task1 2) 1 (Storing 2 1 66)) ⇒ out none onValue Answer.Done
+    ∷ boot sample taskCommit (working (deviceWith false registers (task1 2) 1 Resting) 1 2 (1 ∷ 66 ∷ [])) ⇒ out none onValue Answer.Done
     ∷ boot sample opened onValue ⇒ refuse onValue Refusal.PowerOn
     ∷ boot sample wrongOpen onValue ⇒ refuse onValue (Refusal.Control 10)
     ∷ boot sample (controls 0 5 9 0 0 0 3 1) offValue ⇒ refuse offValue (Refusal.Control 9)
@@ -100,7 +142,7 @@ outcomes =
     ∷ boot sample (taskBegun opened) offValue ⇒ takesUp (Body.Task 1) 0
     ∷ boot sample (taskBegun closed) offValue ⇒ takesUp (Body.Task 1) 0
     ∷ boot sample (eventBegun closed) offValue ⇒ takesUp (Body.Event 1) 53
-    ∷ boot sample (taskBegun opened) (deviceWith false registers (task1 2) 1 (Storing 2 1 66)) ⇒ takesUp (Body.Task 1) 0
+    ∷ boot sample (taskBegun opened) (working (deviceWith false registers (task1 2) 1 Resting) 1 2 (1 ∷ 66 ∷ [])) ⇒ takesUp (Body.Task 1) 0
     ∷ boot sample (taskBegun taskCommit) offValue ⇒ out none onValue Answer.Done
     ∷ boot sample (eventBegun eventCommit) offValue ⇒ out none onValue Answer.Done
     ∷ boot sample (taskBegun opened) onValue ⇒ refuse onValue Refusal.PowerOn
@@ -154,7 +196,11 @@ storesAfter now (n ∷ ns) =
 
 -- an event posted, and accepted by three steps
 abbrev pub posted : ℕ → ℕ → List Call
-posted e x = Post e x ∷ Step ∷ Step ∷ Step ∷ []
+posted e x = Post (single e x) ∷ Step ∷ Step ∷ Step ∷ []
+
+-- three posted together, and accepted by seven
+abbrev threePosted : List Call
+threePosted = Post three ∷ steps 7
 
 abbrev isAccepted : List Answer
 isAccepted = Answer.Done ∷ Answer.Stored ∷ Answer.Stored ∷ Answer.Accepted ∷ []
@@ -202,7 +248,7 @@ abbrev filled : List Call
 filled = Boot ∷ posted 0 50 ++ posted 1 51 ++ posted 0 52
 
 abbrev refilled : List Call
-refilled = filled ++ Post 1 53 ∷ steps 10 ++ posted 1 53
+refilled = filled ++ Post (single 1 53) ∷ steps 10 ++ posted 1 53
 
 abbrev isFull : List Answer
 isFull = Answer.Refused Refusal.QueueFull ∷ []
@@ -226,7 +272,10 @@ schedules =
     -- 23 is met again after a cut: the body is taken up again
     ∷ answersOf (withInstruction 0x0A31 0) (Boot ∷ steps 5 ++ Cut ∷ Boot ∷ steps 4)
     ⇒ (Answer.Done ∷ chosen 1 ++ isRefusedAtLoad ++ replicate 2 Answer.Done ++ isRefusedAtLoad)
-    ∷ answers (refilled ++ Post 0 54 ∷ steps 31) ⇒ (queueRefilled ++ isFull ++ isServed 1 ++ isServed 0 ++ isServed 1 ++ chosen 1)
+    ∷ answers (refilled ++ Post (single 0 54) ∷ steps 31) ⇒ (queueRefilled ++ isFull ++ isServed 1 ++ isServed 0 ++ isServed 1 ++ chosen 1)
+    -- three are accepted together; the next to be served are these, in order
+    ∷ answers (Boot ∷ threePosted ++ steps 21)
+    ⇒ (Answer.Done ∷ Answer.Done ∷ replicate 6 Answer.Stored ++ Answer.Accepted ∷ isServed 1 ++ isServed 0 ++ Answer.Chosen (Body.Event 1) ∷ [])
     ∷ []
 
 unfoldable pub openNumbers : List (Row (List ℕ))
@@ -248,9 +297,6 @@ memories =
     ∷ [])
     ∷ []
 
-abbrev holds : ℕ → ℕ → Record
-holds e x = record { event = e; datum = x }
-
 -- "The waiting records run to tail from head, in phase 2 from word 12"
 unfoldable pub waitingRecords : List (Row (List Record))
 waitingRecords =
@@ -263,6 +309,14 @@ waitingRecords =
     ∷ waiting (view (controls 1 1 0 0 1 0 3 1)) ⇒ (holds 1 53 ∷ holds 0 50 ∷ [])
     ∷ waiting (view (controls 2 1 0 0 0 0 3 1)) ⇒ (holds 0 50 ∷ [])
     ∷ waiting (view (controls 0 1 0 0 1 0 2 2)) ⇒ []
+    -- N6: before the tail store none of three, after it all
+    ∷ waiting (view (left (Boot ∷ Post three ∷ steps 6) .store)) ⇒ []
+    ∷ waiting (view (left (Boot ∷ Post three ∷ steps 6 ++ Cut ∷ Boot ∷ steps 9) .store)) ⇒ []
+    ∷ waiting (view (left (Boot ∷ threePosted ++ Cut ∷ Boot ∷ []) .store)) ⇒ three
+    ∷ waiting (view (left (Boot ∷ posted 0 50 ++ steps 10 ++ threePosted) .store)) ⇒ three
+    -- a burst's words and back
+    ∷ carried (burstWords three) 3 ⇒ three
+    ∷ carried (1 ∷ 66 ∷ 0 ∷ 67 ∷ 1 ∷ 68 ∷ 7 ∷ 8 ∷ []) 2 ⇒ two 1 0
     ∷ []
 
 -- ---- The host's totals
@@ -279,21 +333,30 @@ commitStore = out (to Phase 1) onValue (Answer.Committed (Body.Task 1))
 abbrev tailStore : Outcome
 tailStore = out (to Tail 1) onValue Answer.Accepted
 
+-- what a step adds, with a handler before it
+abbrev countedOf : Handler → Totals → Outcome → Totals
+countedOf handler t o = counted t handler o
+
 unfoldable pub countings : List (Row Totals)
 countings =
-    counted (totals 5 60 700) commitStore ⇒ totals 6 60 701
-    ∷ counted (totals 5 60 700) (out (to Phase 2) onValue (Answer.Committed (Body.Event 1))) ⇒ totals 6 60 701
-    ∷ counted (totals 5 60 700) tailStore ⇒ totals 5 61 701
-    ∷ counted (totals 5 60 700) (out (to Count 1) onValue Answer.Stored) ⇒ totals 5 60 701
-    ∷ counted (totals 5 60 700) (out none onValue Answer.Worked) ⇒ totals 5 60 700
-    ∷ counted (totals 5 60 700) (out (to Begun 2) onValue (Answer.Chosen (Body.Event 1))) ⇒ totals 5 60 701
-    ∷ counted (totals 5 60 700) (out none onValue Answer.Done) ⇒ totals 5 60 700
-    ∷ counted (totals 5 60 700) (refuse onValue Refusal.LogFull) ⇒ totals 5 60 700
+    countedOf (Storing 1 2) (totals 5 60 700) commitStore ⇒ totals 6 60 701
+    ∷ countedOf (Storing 1 2) (totals 5 60 700) (out (to Phase 2) onValue (Answer.Committed (Body.Event 1))) ⇒ totals 6 60 701
+    ∷ countedOf (Storing 1 2) (totals 5 60 700) tailStore ⇒ totals 5 61 701
+    -- N6: "The accepted total rises by the burst's length"
+    ∷ countedOf (Storing 3 6) (totals 5 60 700) tailStore ⇒ totals 5 63 701
+    ∷ countedOf (Storing 3 5) (totals 5 60 700) (out (to (Datum 0) 1) onValue Answer.Stored) ⇒ totals 5 60 701
+    ∷ countedOf (Storing 1 2) (totals 5 60 700) (out (to Count 1) onValue Answer.Stored) ⇒ totals 5 60 701
+    ∷ countedOf (Storing 1 2) (totals 5 60 700) (out none onValue Answer.Worked) ⇒ totals 5 60 700
+    ∷ countedOf (Storing 1 2) (totals 5 60 700) (out (to Begun 2) onValue (Answer.Chosen (Body.Event 1))) ⇒ totals 5 60 701
+    ∷ countedOf (Storing 1 2) (totals 5 60 700) (out none onValue Answer.Done) ⇒ totals 5 60 700
+    ∷ countedOf (Storing 1 2) (totals 5 60 700) (refuse onValue Refusal.LogFull) ⇒ totals 5 60 700
     -- "32 bits, staying at the largest value"
-    ∷ counted (totals 0xFFFFFFFE 60 0xFFFFFFFE) commitStore ⇒ totals greatest 60 greatest
-    ∷ counted (totals greatest 60 greatest) commitStore ⇒ totals greatest 60 greatest
-    ∷ counted (totals 5 0xFFFFFFFE greatest) tailStore ⇒ totals 5 greatest greatest
-    ∷ counted (totals 5 greatest greatest) tailStore ⇒ totals 5 greatest greatest
+    ∷ countedOf (Storing 1 2) (totals 0xFFFFFFFE 60 0xFFFFFFFE) commitStore ⇒ totals greatest 60 greatest
+    ∷ countedOf (Storing 1 2) (totals greatest 60 greatest) commitStore ⇒ totals greatest 60 greatest
+    ∷ countedOf (Storing 1 2) (totals 5 0xFFFFFFFE greatest) tailStore ⇒ totals 5 greatest greatest
+    ∷ countedOf (Storing 1 2) (totals 5 greatest greatest) tailStore ⇒ totals 5 greatest greatest
+    ∷ countedOf (Storing 4 8) (totals 5 0xFFFFFFFB 7) tailStore ⇒ totals 5 greatest 8
+    ∷ countedOf (Storing 4 8) (totals 5 0xFFFFFFFD 7) tailStore ⇒ totals 5 greatest 8
     ∷ []
 
 -- ---- Run
@@ -307,7 +370,7 @@ words control memory log ring = 0xC0A2 ∷ 6 ∷ 2 ∷ 3 ∷ 8 ∷ 17 ∷ 23 ∷
 
 -- event 0 is posted with data 50: a run accepts it in 3 steps, serves it in 10 with 10 stores, and ends task 1 in 14 with 12 stores
 abbrev runs : ℕ → RunOutcome
-runs budget = run sample budget (formatted sample 2 3) (deviceWith true cleared (Free 0) 0 (Storing 0 0 50)) (totals 0 0 0)
+runs budget = run sample budget (formatted sample 2 3) (working onValue 1 0 (0 ∷ 50 ∷ [])) (totals 0 0 0)
 
 abbrev eventAccepted : List ℕ
 eventAccepted = words (0 ∷ 1 ∷ 0 ∷ 0 ∷ 0 ∷ 0 ∷ 0 ∷ 1 ∷ 0 ∷ []) (replicate 6 0) (replicate 4 0) (0 ∷ 50 ∷ replicate 6 0)
@@ -400,7 +463,7 @@ numbers =
     ∷ refusal (Refusal.Instruction 43 44) ⇒ refusalNumber 5 43 44
     ∷ refusal Refusal.StoreContents ⇒ refusalNumber 6 0 0
     ∷ refusal (Refusal.Control 45) ⇒ refusalNumber 7 45 0
-    ∷ refusal Refusal.NoEvent ⇒ refusalNumber 8 0 0
+    ∷ refusal (Refusal.NoEvent 3) ⇒ refusalNumber 8 3 0
     ∷ refusal Refusal.StoreSize ⇒ refusalNumber 9 0 0
     ∷ refusal Refusal.HandlerBusy ⇒ refusalNumber 20 0 0
     ∷ refusal Refusal.QueueFull ⇒ refusalNumber 21 0 0
@@ -412,6 +475,7 @@ numbers =
     ∷ refusal (Refusal.LinesRow 46) ⇒ refusalNumber 30 46 0
     ∷ refusal (Refusal.LinesGap 47 48) ⇒ refusalNumber 31 47 48
     ∷ refusal (Refusal.LinesOverlap 49 50) ⇒ refusalNumber 32 49 50
+    ∷ refusal Refusal.BurstLength ⇒ refusalNumber 33 0 0
     ∷ []
 
 -- ---- The serial run
@@ -439,10 +503,13 @@ abbrev line : Call → Answer → List Line
 line c a = record { called = c; answered = a } ∷ []
 
 abbrev accepts : ℕ → ℕ → List Line
-accepts e x = line (Post e x) Answer.Done ++ line Step Answer.Accepted
+accepts e x = line (Post (single e x)) Answer.Done ++ line Step Answer.Accepted
+
+abbrev acceptsThree : List Line
+acceptsThree = line (Post three) Answer.Done ++ line Step Answer.Stored ++ line Step Answer.Accepted
 
 abbrev refusedPost : List Line
-refusedPost = line (Post 1 51) (Answer.Refused Refusal.HandlerBusy)
+refusedPost = line (Post (single 1 51)) (Answer.Refused Refusal.HandlerBusy)
 
 abbrev commits : Body → List Line
 commits b = line Step (Answer.Committed b)
@@ -463,8 +530,9 @@ serialRuns =
     fromLines [] ⇒ holding untouched 1 0 []
     -- "The answer accepted adds what the latest post with the answer done carried"
     ∷ fromLines (accepts 0 50 ++ accepts 1 51) ⇒ holding untouched 1 0 (holds 0 50 ∷ holds 1 51 ∷ [])
-    ∷ fromLines (line (Post 0 50) Answer.Done ++ line Cut Answer.Done ++ accepts 1 51) ⇒ holding untouched 1 0 (holds 1 51 ∷ [])
-    ∷ fromLines (line (Post 0 50) Answer.Done ++ refusedPost ++ line Step Answer.Accepted) ⇒ holding untouched 1 0 (holds 0 50 ∷ [])
+    ∷ fromLines (line (Post (single 0 50)) Answer.Done ++ line Cut Answer.Done ++ accepts 1 51) ⇒ holding untouched 1 0 (holds 1 51 ∷ [])
+    ∷ fromLines (line (Post (single 0 50)) Answer.Done ++ refusedPost ++ line Step Answer.Accepted) ⇒ holding untouched 1 0 (holds 0 50 ∷ [])
+    ∷ fromLines (accepts 0 50 ++ acceptsThree) ⇒ holding untouched 1 0 (holds 0 50 ∷ three)
     ∷ fromLines (line Step Answer.Accepted) ⇒ stopped  -- before any post
     -- "for a task the current one"; "to DONE or to GO, which sets current task and open number"
     ∷ fromLines (commits (Body.Task 1)) ⇒ holding afterTask1 2 8 []
@@ -496,7 +564,7 @@ serialRuns =
     ∷ serially 5 counting (commits (Body.Task 0) ++ commits (Body.Task 0)) ⇒ holding (2 ∷ 0 ∷ []) 0 0 []
     -- "All else, cuts and refusals too, changes nothing": the device's own answers
     ∷ fromCalls (refilled ++ steps 20 ++ Cut ∷ Boot ∷ []) ⇒ holding (52 ∷ 0 ∷ 0 ∷ 0 ∷ 0 ∷ 51 ∷ []) 1 0 (holds 1 53 ∷ [])
-    ∷ fromCalls (transactionCalls ++ steps 18 ++ Post 1 51 ∷ Cut ∷ Step ∷ []) ⇒ holding afterTask1 3 8 (holds 0 50 ∷ [])
+    ∷ fromCalls (transactionCalls ++ steps 18 ++ Post (single 1 51) ∷ Cut ∷ Step ∷ []) ⇒ holding afterTask1 3 8 (holds 0 50 ∷ [])
     ∷ []
 
 -- ---- N4: the body that is chosen and not yet committed, by the answers; the body whose turn it is where none is
@@ -528,6 +596,19 @@ nextBodies =
     ∷ nextBody (inState 8 (holds 1 51 ∷ holds 0 50 ∷ [])) ⇒ Body.Task 3
     ∷ []
 
+-- ---- N6: the bursts that came in, by calls and answers, and the events that were committed
+
+unfoldable pub bursts : List (Row (List (List Record)))
+bursts =
+    cameIn (accepts 0 50 ++ acceptsThree) ⇒ (single 0 50 ∷ three ∷ [])
+    ∷ cameIn (line (Post three) Answer.Done ++ refusedPost ++ line Boot (Answer.Refused Refusal.PowerOn) ++ line Step Answer.Accepted) ⇒ (three ∷ [])
+    ∷ cameIn (line (Post three) Answer.Done ++ line Cut Answer.Done ++ accepts 1 51) ⇒ (single 1 51 ∷ [])
+    -- on its way no more: behind a cut, and once it is accepted
+    ∷ cameIn (line (Post three) Answer.Done ++ line Cut Answer.Done ++ line Step Answer.Accepted) ⇒ ([] ∷ [])
+    ∷ cameIn (accepts 0 50 ++ line Step Answer.Accepted) ⇒ (single 0 50 ∷ [] ∷ [])
+    ∷ (joined (single 0 50 ∷ three ∷ []) ∷ []) ⇒ ((holds 0 50 ∷ three) ∷ [])
+    ∷ []
+
 -- ---- What the claims count by
 
 -- two events are accepted, a task and an event commit
@@ -538,18 +619,21 @@ unfoldable pub counts : List (Row (List ℕ))
 counts =
     mayMeet Boot ⇒ (26 ∷ [])
     ∷ mayMeet Step ⇒ (22 ∷ 23 ∷ 24 ∷ [])
-    ∷ mayMeet (Post 0 9) ⇒ (8 ∷ 20 ∷ 21 ∷ 22 ∷ [])
+    ∷ mayMeet (Post (single 0 9)) ⇒ (8 ∷ 20 ∷ 21 ∷ 22 ∷ 33 ∷ [])
     ∷ mayMeet Cut ⇒ []
     -- "Uncut recovery takes n + 3 steps from phase 1 and n + 2 from phase 2"; N4: "one step more"
     ∷ (recoverySteps (view opened) ∷ recoverySteps (view taskCommit) ∷ recoverySteps (view eventCommit) ∷ []) ⇒ (0 ∷ 6 ∷ 4 ∷ [])
     -- "Accepted is the number of records added so far, completed that of events committed"
-    ∷ map (λ (f : Answer → Bool). countBy f twoAccepted) (isAccept ∷ isCompletion ∷ []) ⇒ (2 ∷ 1 ∷ [])
+    ∷ (countBy isCompletion twoAccepted ∷ []) ⇒ (1 ∷ [])
+    ∷ (eventsAccepted sample (formatted sample 2 3) offValue (Boot ∷ threePosted) ∷ eventsAccepted sample (formatted sample 2 3) offValue filled ∷ []) ⇒ (3 ∷ 3 ∷ [])
+    ∷ committedEvents twoAccepted ⇒ (0 ∷ [])
+    ∷ eventsOf three ⇒ (1 ∷ 0 ∷ 1 ∷ [])
     ∷ []
 
 unfoldable pub tests : List (Row Bool)
 tests =
     isIn 23 (22 ∷ 23 ∷ []) ⇒ true
     ∷ isIn 25 (22 ∷ 23 ∷ []) ⇒ false
-    ∷ uncut (Boot ∷ Step ∷ Post 0 9 ∷ []) ⇒ true
+    ∷ uncut (Boot ∷ Step ∷ Post (single 0 9) ∷ []) ⇒ true
     ∷ uncut (Step ∷ Cut ∷ []) ⇒ false
     ∷ []

@@ -3,22 +3,22 @@ use Prim.Native.Nat.{ℕ, zero, suc, _+_, _-_, _^_, min}
 use mathlib.Core.Bool.{Bool, true, false}
 use mathlib.Core.List.{List, [], _∷_}
 use lib.Dec.{eqb}
-use Rattle.model.specs.Device.{Outcome, boot, cut, post, step}
-use Rattle.model.specs.Store.{view, Write, none, to, settled}
+use Rattle.model.specs.Device.{Outcome, boot, cut, post, burstLength, step}
+use Rattle.model.specs.Store.{view, Record, Write, none, to, settled}
 use Rattle.model.specs.Test.{pick}
-use Rattle.model.specs.Types.{Answer, Device, Ended, Refusal, Totals}
+use Rattle.model.specs.Types.{Answer, Device, Ended, Handler, Refusal, Totals}
 
--- ---- "any list of boots, steps, posts and cuts"
+-- ---- "any list of boots, steps, posts and cuts"; a post carries a burst
 
 pub data Call : Type 0 where
   Boot Step Cut : Call
-  Post : ℕ → ℕ → Call
+  Post : List Record → Call
 
 unfoldable pub call : List ℕ → List ℕ → Device → Call → Outcome
 call p s d Boot = boot p s d
 call p s d Step = step p s d
 call p s d Cut = cut
-call p s d (Post e x) = post p s d e x
+call p s d (Post rs) = post p s d rs
 
 pub record Line : Type 0 where
   pub called : Call
@@ -91,15 +91,10 @@ isAccept (Answer.Committed b) = false
 isAccept Answer.Accepted = true
 isAccept (Answer.Refused r) = false
 
--- how many events an answer accepts
-unfoldable pub acceptedEvents : Answer → ℕ
-acceptedEvents Answer.Done = 0
-acceptedEvents (Answer.Chosen b) = 0
-acceptedEvents Answer.Worked = 0
-acceptedEvents Answer.Stored = 0
-acceptedEvents (Answer.Committed b) = 0
-acceptedEvents Answer.Accepted = 1
-acceptedEvents (Answer.Refused r) = 0
+-- how many events an answer accepts. N6: "The accepted total rises by the burst's length", which is that of the handler before the step:
+-- the answer doesn't tell it.
+unfoldable pub acceptedEvents : Handler → Answer → ℕ
+acceptedEvents handler a = pick (isAccept a) (burstLength handler) 0
 
 -- a store counts because one was made
 unfoldable pub isStore : Write → Bool
@@ -109,21 +104,27 @@ isStore (to w x) = true
 abbrev pub noTotals : Totals
 noTotals = record { committed = 0; accepted = 0; stores = 0 }
 
--- the totals after a step
-unfoldable pub counted : Totals → Outcome → Totals
-counted t o =
+-- the totals after a step of a device with this handler
+unfoldable pub counted : Totals → Handler → Outcome → Totals
+counted t handler o =
     record {
       committed = moreBy (t .committed) (oneIf (isCommit (o .answer)));
-      accepted = moreBy (t .accepted) (acceptedEvents (o .answer));
+      accepted = moreBy (t .accepted) (acceptedEvents handler (o .answer));
       stores = moreBy (t .stores) (oneIf (isStore (o .write)));
     }
 
--- the totals after calls, and how many of these made a store
+-- the totals after calls; how many events these accepted, and how many of them made a store
 unfoldable pub totalsAfter : List ℕ → List ℕ → Device → List Call → Totals → Totals
 totalsAfter p s d [] t = t
 totalsAfter p s d (c ∷ cs) t =
     let o = call p s d c in
-    totalsAfter p (settled s (o .write)) (o .device) cs (counted t o)
+    totalsAfter p (settled s (o .write)) (o .device) cs (counted t (d .handler) o)
+
+unfoldable pub eventsAccepted : List ℕ → List ℕ → Device → List Call → ℕ
+eventsAccepted p s d [] = 0
+eventsAccepted p s d (c ∷ cs) =
+    let o = call p s d c in
+    acceptedEvents (d .handler) (o .answer) + eventsAccepted p (settled s (o .write)) (o .device) cs
 
 unfoldable pub storesMade : List ℕ → List ℕ → Device → List Call → ℕ
 storesMade p s d [] = 0
@@ -146,7 +147,7 @@ unfoldable pub runFrom : List ℕ → ℕ → ℕ → List ℕ → Device → To
 runFrom p zero n s d t = record { steps = n; ended = Ended.Spent; store = s; device = d; totals = t }
 runFrom p (suc budget) n s d t =
     let o = step p s d in
-    let rest = runFrom p budget (n + 1) (settled s (o .write)) (o .device) (counted t o) in
+    let rest = runFrom p budget (n + 1) (settled s (o .write)) (o .device) (counted t (d .handler) o) in
     unlessRefused (o .answer) (λ r. record { steps = n; ended = Ended.Refused r; store = s; device = d; totals = t }) rest
 
 unfoldable pub run : List ℕ → ℕ → List ℕ → Device → Totals → RunOutcome

@@ -1,17 +1,17 @@
 -- What is claimed of the definitions for all words and all device states, as statements; proofs/ proves each. Demand3.antt has what is claimed
 -- of a list of calls on a fresh store. docs/CLAIMS.md says which sentence is which.
-use Prim.Native.Nat.{ℕ, _-_, _^_, _≤_, _<_, min}
+use Prim.Native.Nat.{ℕ, _-_, _*_, _^_, _≤_, _<_, min}
 use mathlib.Core.Path.{_≡_}
 use mathlib.Core.Logic.{_⊎_, _≢_}
 use mathlib.Core.Bool.{Bool, true, false, not}
 use mathlib.Core.List.{List, [], _∷_}
 use lib.Dec.{eqb}
 use lib.ListN.{length}
-use Rattle.model.specs.Calls.{Call, Boot, Step, Cut, Post, call, history, afterCalls, steps, countBy, isRefusal, isCommit, isAccept, isStore, noTotals, counted, totalsAfter, storesMade, RunOutcome, run, recovered, recovery}
+use Rattle.model.specs.Calls.{Call, Boot, Step, Cut, Post, call, history, afterCalls, steps, countBy, isRefusal, isCommit, isStore, noTotals, counted, totalsAfter, eventsAccepted, storesMade, RunOutcome, run, recovered, recovery}
 use Rattle.model.specs.Control.{Rule, broken, obeyAll, inPhase, openRule, addressRule, recordRule, rules, earlyRules}
-use Rattle.model.specs.Device.{off, look, step}
+use Rattle.model.specs.Device.{off, burstLength, look, step}
 use Rattle.model.specs.Program.{word}
-use Rattle.model.specs.Store.{Store, view, Word, index, to, settled, storedWord, slotAfter, room, format}
+use Rattle.model.specs.Store.{Store, Record, view, Word, index, to, settled, storedWord, slotAfter, room, format}
 use Rattle.model.specs.Test.{pick, _and_}
 use Rattle.model.specs.Types.{Answer, Body, Checked, Device, Ended, Free, Half, Handler, Place, Refusal, Resting, Run, Stored, Storing, Totals}
 
@@ -19,7 +19,7 @@ use Rattle.model.specs.Types.{Answer, Body, Checked, Device, Ended, Free
 pub record ChangesNothing (p s : List ℕ) (d : Device) (c : Call) (t : Totals) : Type 0 where
   pub store : settled s (call p s d c .write) ≡ s
   pub device : call p s d c .device ≡ d
-  pub totals : counted t (call p s d c) ≡ t
+  pub totals : counted t (d .handler) (call p s d c) ≡ t
 
 abbrev pub RefusedChangesNothing : Type 0
 RefusedChangesNothing =
@@ -38,10 +38,13 @@ TypedPlace (Free made) = made < 2 ^ 16
 TypedPlace (Run b j made) = TypedBody b × ((j < 2 ^ 16) × (made < 2 ^ 16))
 TypedPlace (Half b j) = TypedBody b × (j < 2 ^ 16)
 
--- a handler at work has one of its three stores to make
 abbrev pub TypedHandler : Handler → Type 0
 TypedHandler Resting = Unit {0}
-TypedHandler (Storing made e x) = (made < 3) × (e < 2 ^ 16) × (x < 2 ^ 16)
+TypedHandler (Storing n made) = (n < 2 ^ 16) × (made < 2 ^ 16)
+
+-- behind the records of the handler's burst there are zeros
+abbrev pub ZeroBehind : Handler → List ℕ → Type 0
+ZeroBehind handler burst = (i : ℕ) → 2 * burstLength handler ≤ i → word burst i ≡ 0
 
 -- a device state that the types allow
 pub record TypedDevice (d : Device) : Type 0 where
@@ -50,12 +53,19 @@ pub record TypedDevice (d : Device) : Type 0 where
   pub place : TypedPlace (d .place)
   pub count : d .count < 2 ^ 16
   pub handler : TypedHandler (d .handler)
+  pub burst-length : length (d .burst) ≡ 8
+  pub burst : TypedWords (d .burst)
+  pub unused : ZeroBehind (d .handler) (d .burst)
+
+abbrev pub TypedRecords : List Record → Type 0
+TypedRecords [] = Unit {0}
+TypedRecords (first ∷ rs) = (first .event < 2 ^ 16) × (first .datum < 2 ^ 16) × TypedRecords rs
 
 abbrev pub TypedCall : Call → Type 0
 TypedCall Boot = Unit {0}
 TypedCall Step = Unit {0}
 TypedCall Cut = Unit {0}
-TypedCall (Post e x) = (e < 2 ^ 16) × (x < 2 ^ 16)
+TypedCall (Post rs) = TypedRecords rs
 
 -- a call's result is one that the types allow
 pub record StaysTyped (p s : List ℕ) (d : Device) (c : Call) : Type 0 where
@@ -86,7 +96,7 @@ uncut [] = true
 uncut (Boot ∷ cs) = uncut cs
 uncut (Step ∷ cs) = uncut cs
 uncut (Cut ∷ cs) = false
-uncut (Post e x ∷ cs) = uncut cs
+uncut (Post rs ∷ cs) = uncut cs
 
 abbrev pub RefusalStays : Type 0
 RefusalStays =
@@ -128,7 +138,7 @@ unfoldable pub inOrder : List ℕ → Store → Device → Call → List (List R
 inOrder p v d Boot = rules p v ∷ []
 inOrder p v d Step = earlyRules p v ∷ (usedRule p v (d .place) ∷ []) ∷ []
 inOrder p v d Cut = []
-inOrder p v d (Post e x) = earlyRules p v ∷ []
+inOrder p v d (Post rs) = earlyRules p v ∷ []
 
 -- place is the lowest at the first place of the order that has a broken rule
 unfoldable pub FirstLowest : List (List Rule) → ℕ → Type 0
@@ -191,7 +201,7 @@ RunIsSteps = (p : List ℕ) (budget : ℕ) (s : List ℕ) (d : Device) (t : Tota
 -- from 0, each total is the count of what was answered or stored, or the largest value if there is more
 pub record AreCounts (p s : List ℕ) (d : Device) (cs : List Call) (t : Totals) : Type 0 where
   pub committed : t .committed ≡ min (countBy isCommit (history p s d cs)) (2 ^ 32 - 1)
-  pub accepted : t .accepted ≡ min (countBy isAccept (history p s d cs)) (2 ^ 32 - 1)
+  pub accepted : t .accepted ≡ min (eventsAccepted p s d cs) (2 ^ 32 - 1)
   pub stores : t .stores ≡ min (storesMade p s d cs) (2 ^ 32 - 1)
 
 abbrev pub TotalsAreCounts : Type 0

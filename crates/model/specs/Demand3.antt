@@ -9,7 +9,7 @@ use mathlib.Core.Option.{Option, none, some}
 use lib.Dec.{eqb}
 use lib.ListN.{length}
 use Rattle.model.specs.Answer.{refusal}
-use Rattle.model.specs.Calls.{Call, Boot, Step, Cut, Post, Line, Now, call, history, afterCalls, countBy, isAccept, steps, recovered, recovery}
+use Rattle.model.specs.Calls.{Call, Boot, Step, Cut, Post, Line, Now, call, history, afterCalls, countBy, eventsAccepted, steps, recovered, recovery}
 use Rattle.model.specs.Device.{off}
 use Rattle.model.specs.Program.{entry}
 use Rattle.model.specs.Serial.{Serial, Formatting, given, Walked, went, served, lost, walkBody, tell, serial, serialStart}
@@ -26,7 +26,7 @@ isIn n (first ∷ rest) = eqb n first or isIn n rest
 unfoldable pub mayMeet : Call → List ℕ
 mayMeet Boot = 26 ∷ []
 mayMeet Step = 22 ∷ 23 ∷ 24 ∷ []
-mayMeet (Post e x) = 8 ∷ 20 ∷ 21 ∷ 22 ∷ []
+mayMeet (Post rs) = 8 ∷ 20 ∷ 21 ∷ 22 ∷ 33 ∷ []
 mayMeet Cut = []
 
 abbrev pub Expected : Call → Answer → Type 0
@@ -109,7 +109,8 @@ pub record AsSerialRun (p : List ℕ) (l q : ℕ) (s : List ℕ) (cs : List Call
   pub recovers : (allowed : ℕ) → stepsToRecover p s cs ≤ allowed → Recovers p (reached p s cs .store) state allowed
   -- "Its records are the store's waiting ones (event, data), in order, before recovery too."
   pub waits : waiting (view (reached p s cs .store)) ≡ state .records
-  pub balance : countBy isAccept (history p s off cs) ≡ countBy isCompletion (history p s off cs) + length (state .records)
+  -- accepted is completed plus waiting
+  pub balance : eventsAccepted p s off cs ≡ countBy isCompletion (history p s off cs) + length (state .records)
   -- whichever call is next: the refusals that it may meet, and the body that it commits
   pub refusals : (c : Call) → Expected c (nextAnswer p s cs c)
   pub bodies : (b : Body) → nextAnswer p s cs Step ≡ Answer.Committed b
@@ -192,7 +193,7 @@ pub record Observed (p : List ℕ) (l q : ℕ) (s : List ℕ) (cs : List Call) :
   pub left : Left (view (recovering p s cs (stepsToRecover p s cs))) state
   -- accepted is completed plus waiting
   pub balance :
-      countBy isAccept (history p s off cs) ≡ countBy isCompletion (history p s off cs) + length (waiting (view (reached p s cs .store)))
+      eventsAccepted p s off cs ≡ countBy isCompletion (history p s off cs) + length (waiting (view (reached p s cs .store)))
   -- "for an event that of the oldest record"
   pub oldest : (e : ℕ) → nextAnswer p s cs Step ≡ Answer.Committed (Body.Event e)
       → (first : Record) × (rest : List Record) × (waiting (view (reached p s cs .store)) ≡ first ∷ rest) × (first .event ≡ e)

@@ -6,17 +6,18 @@ use mathlib.Core.List.{List, [], _∷_}
 use mathlib.Core.Option.{Option}
 use lib.Dec.{ltb, leb, eqb}
 use lib.ListN.{length, getD, set, replicate}
+use Rattle.model.specs.Burst.{isBurst, carried, noBurst, burstWords, knownEvents, eventsRule}
 use Rattle.model.specs.Check.{contentsRule, rowsInside, rowUsable, instructionRule, check}
 use Rattle.model.specs.Control.{obey, obeyAll, openRule, rules, earlyRules}
 use Rattle.model.specs.Program.{events, memoryWords, instructions, transaction, bodyNumber, effectAt, newOpen, firstRegisters, word, reg}
-use Rattle.model.specs.Store.{Store, view, address, value, event, datum, Phase, Task, Open, Count, Pending, PendingOpen, Head, Tail, Begun, Memory, Address, Value, Event, Datum, Write, none, to, Record, carried, find, slotAfter, empty, room, logAt, queueAt, storeRule}
+use Rattle.model.specs.Store.{Store, view, address, value, event, datum, Phase, Task, Open, Count, Pending, PendingOpen, Head, Tail, Begun, Memory, Address, Value, Event, Datum, Write, none, to, Record, find, slotAfter, empty, room, logAt, queueAt, storeRule}
 use Rattle.model.specs.Test.{pick, _and_, must, _then_}
 use Rattle.model.specs.Types.{Answer, Body, Checked, Device, Effect, Found, Free, Half, Handler, Place, Refusal, Resting, Run, Storing}
 
 -- ---- "Off is one fixed value of the device, all else 0. Boot makes no store and turns that value on."
 
 unfoldable pub fresh : Bool → Device
-fresh on = record { on = on; registers = replicate 8 0; place = Free 0; count = 0; handler = Resting }
+fresh on = record { on = on; registers = replicate 8 0; place = Free 0; count = 0; handler = Resting; burst = noBurst }
 
 abbrev pub off : Device
 off = fresh false
@@ -24,12 +25,15 @@ off = fresh false
 abbrev pub turnedOn : Device
 turnedOn = fresh true
 
--- another place, other registers and another log count; another handler
+-- another place, other registers and another log count; another handler with its burst
 unfoldable pub withPlace : Device → List ℕ → Place → ℕ → Device
-withPlace d r place n = record { on = d .on; registers = r; place = place; count = n; handler = d .handler }
+withPlace d r place n = record { on = d .on; registers = r; place = place; count = n; handler = d .handler; burst = d .burst }
 
-unfoldable pub withHandler : Device → Handler → Device
-withHandler d handler = record { on = d .on; registers = d .registers; place = d .place; count = d .count; handler = handler }
+unfoldable pub withHandler : Device → Handler → List ℕ → Device
+withHandler d handler burst = record { on = d .on; registers = d .registers; place = d .place; count = d .count; handler = handler; burst = burst }
+
+abbrev pub resting : Device → Device
+resting d = withHandler d Resting noBurst
 
 -- ---- The outcome of a call. "A refusal .. changes no word, state or total."
 
@@ -74,7 +78,8 @@ eventLastStores v = to Head (v .pending) ∷ to Begun 0 ∷ to Phase 0 ∷ []
 unfoldable pub lastStores : Store → List Write
 lastStores v = pick (eqb (v .phase) 1) (taskLastStores v) (eventLastStores v)
 
--- ---- The row of stores that a handler makes: "event, data, then tail", for each of its records in its slot, from slot u on
+-- ---- The row of stores that a handler makes: "event, data, then tail"; N6: "each event and then its data, and then accepted by one tail
+-- store, in order". Each record has its slot, from slot u on.
 
 unfoldable pub recordStores : ℕ → ℕ → List Record → List Write
 recordStores q u [] = to Tail u ∷ []
@@ -135,35 +140,31 @@ placeSound p v n (Free c) = pick (eqb (v .phase) 0) (eqb c 0 and eqb (v .begun) 
 placeSound p v n (Run b j c) = eqb (v .phase) 0 and mayRun p v b and ltb c (endStores b)
 placeSound p v n (Half b j) = eqb (v .phase) 0 and mayRun p v b and ltb n (v .logPairs)
 
--- every event is below E
-unfoldable pub knownEvents : List ℕ → List Record → Bool
-knownEvents p [] = true
-knownEvents p (first ∷ rs) = ltb (first .event) (events p) and knownEvents p rs
-
--- "a handler at work with the queue full or its event not below E"; nor is it past its tail store
+-- N6: "25 meets a handler whose burst doesn't fit, is past its tail store or has a length or an event out of range", c of whose stores are made
 unfoldable pub recordsSound : List ℕ → Store → ℕ → List Record → Bool
-recordsSound p v c rs = knownEvents p rs and leb (length rs) (room v) and ltb c (length (handlerStores v rs))
+recordsSound p v c rs = isBurst rs and knownEvents p rs and leb (length rs) (room v) and ltb c (length (handlerStores v rs))
 
-unfoldable pub handlerSound : List ℕ → Store → Handler → Bool
-handlerSound p v Resting = true
-handlerSound p v (Storing c e x) = recordsSound p v c (carried e x)
+-- the first n words are 0
+unfoldable pub zeros : List ℕ → ℕ → Bool
+zeros ws zero = true
+zeros ws (suc n) = zeros ws n and eqb (reg ws n) 0
+
+-- one at rest has no burst
+unfoldable pub handlerSound : List ℕ → Store → List ℕ → Handler → Bool
+handlerSound p v burst Resting = zeros burst 8
+handlerSound p v burst (Storing n c) = recordsSound p v c (carried burst n)
 
 unfoldable pub isFresh : Place → Handler → Bool
 isFresh (Free c) Resting = eqb c 0
-isFresh (Free c) (Storing made e x) = false
+isFresh (Free c) (Storing n made) = false
 isFresh (Run b j c) handler = false
 isFresh (Half b j) handler = false
-
--- the registers below a
-unfoldable pub zeros : List ℕ → ℕ → Bool
-zeros r zero = true
-zeros r (suc a) = zeros r a and eqb (reg r a) 0
 
 -- "off unlike its fixed value"
 unfoldable pub deviceSound : List ℕ → Store → Device → Bool
 deviceSound p v d =
-    pick (d .on) (leb (d .count) (v .logPairs) and placeSound p v (d .count) (d .place) and handlerSound p v (d .handler))
-    (zeros (d .registers) 8 and eqb (d .count) 0 and isFresh (d .place) (d .handler))
+    pick (d .on) (leb (d .count) (v .logPairs) and placeSound p v (d .count) (d .place) and handlerSound p v (d .burst) (d .handler))
+    (zeros (d .registers) 8 and eqb (d .count) 0 and isFresh (d .place) (d .handler) and zeros (d .burst) 8)
 
 -- "Step and post look at program words 0 to 5, store contents and words 8 to 15: 1, 2, 3, 6, 7, 25, 22, without the parts of 7
 -- and 25 that need a row, an instruction, a log pair or a record"; N4: "look at word 16 too"
@@ -175,7 +176,7 @@ look p s d =
     then must (deviceSound p (view s) d) Refusal.State
     then must (d .on) Refusal.PowerOff
 
--- ---- Boot, cut and post
+-- ---- Boot, cut and post, which carries a burst. N6: "A single post is a burst of one."
 
 -- "boot 1 to 7, 26"
 unfoldable pub bootCheck : List ℕ → List ℕ → Device → Checked
@@ -195,25 +196,34 @@ cut = out none off Answer.Done
 
 unfoldable pub atRest : Handler → Bool
 atRest Resting = true
-atRest (Storing c e x) = false
+atRest (Storing n c) = false
 
--- "post then 8, 20, 21"
-unfoldable pub postCheck : List ℕ → List ℕ → Device → ℕ → Checked
-postCheck p s d e =
+-- "post then 8, 20, 21"; N6: "33 burst of zero or over four, checked just before 8", "and 21 when the whole burst doesn't fit"
+unfoldable pub postCheck : List ℕ → List ℕ → Device → List Record → Checked
+postCheck p s d rs =
     look p s d
-    then must (ltb e (events p)) Refusal.NoEvent
+    then must (isBurst rs) Refusal.BurstLength
+    then eventsRule p 0 rs
     then must (atRest (d .handler)) Refusal.HandlerBusy
-    then must (leb 1 (room (view s))) Refusal.QueueFull
+    then must (leb (length rs) (room (view s))) Refusal.QueueFull
 
--- "A post makes no store, sets the handler to work"
-unfoldable pub post : List ℕ → List ℕ → Device → ℕ → ℕ → Outcome
-post p s d e x = judged (postCheck p s d e) d (out none (withHandler d (Storing 0 e x)) Answer.Done)
+-- "A post makes no store, sets the handler to work": on the records that it carries
+unfoldable pub post : List ℕ → List ℕ → Device → List Record → Outcome
+post p s d rs = judged (postCheck p s d rs) d (out none (withHandler d (Storing (length rs) 0) (burstWords rs)) Answer.Done)
 
--- ---- Step 1. "A handler at work makes its next store .. The tail store accepts the event": c of its stores are made
+-- ---- Step 1. "A handler at work makes its next store .. The tail store accepts the event": of its n records' stores c are made
 
-unfoldable pub handlerStep : Store → Device → ℕ → ℕ → ℕ → Outcome
-handlerStep v d c e x =
-    storing (handlerStores v (carried e x)) c (withHandler d (Storing (c + 1) e x)) (withHandler d Resting) Answer.Accepted
+-- the records of a handler at work
+unfoldable pub burstLength : Handler → ℕ
+burstLength Resting = 0
+burstLength (Storing n c) = n
+
+abbrev pub handled : Device → List Record
+handled d = carried (d .burst) (burstLength (d .handler))
+
+unfoldable pub handlerStep : Store → Device → ℕ → ℕ → Outcome
+handlerStep v d n c =
+    storing (handlerStores v (carried (d .burst) n)) c (withHandler d (Storing n (c + 1)) (d .burst)) (resting d) Answer.Accepted
 
 -- ---- Step 2. "A commit makes its next store", in phases 1 and 2: c stores are made after the commit store
 
@@ -359,7 +369,7 @@ placeStep p v d (Half b j) =
 
 unfoldable pub nextStep : List ℕ → Store → Device → Handler → Outcome
 nextStep p v d Resting = placeStep p v d (d .place)
-nextStep p v d (Storing c e x) = handlerStep v d c e x
+nextStep p v d (Storing n c) = handlerStep v d n c
 
 unfoldable pub step : List ℕ → List ℕ → Device → Outcome
 step p s d = judged (look p s d) d (nextStep p (view s) d (d .handler))

@@ -3,6 +3,7 @@ pub mod Test
 pub mod Program
 pub mod Check
 pub mod Store
+pub mod Burst
 pub mod Control
 pub mod Device
 pub mod Accepted
@@ -12,6 +13,7 @@ pub mod Serial
 pub mod Claims
 pub mod Demand3
 pub mod Turns
+pub mod AllOrNone
 pub mod Starred
 pub mod Sample
 pub mod ProgramRows

@@ -1,7 +1,7 @@
 -- The worked rows, gathered: programs, stores and device states written out, and beside each what document 01 says comes of it. They hold the
 -- definitions where no theorem would notice another meaning: which operand is subtracted, which field must be 0, which place a refusal
 -- names. proofs/Rows.antt has the theorem, in which the checker computes every table.
-use Rattle.model.specs.CallRows.{begunBodies, countings, counts, memories, nextBodies, numbers, openNumbers, outcomes, placesOfWords, recoveries, rooms, runRows, schedules, serialRuns, tests, waitingRecords}
+use Rattle.model.specs.CallRows.{begunBodies, bursts, countings, counts, memories, nextBodies, numbers, openNumbers, outcomes, placesOfWords, recoveries, rooms, runRows, schedules, serialRuns, tests, waitingRecords}
 use Rattle.model.specs.ProgramRows.{fields, formats, formattedStores, meanings, opcodes, programs}
 use Rattle.model.specs.Sample.{Holds}
 use Rattle.model.specs.StateRows.{contents, controlWords, orders, states, uses}
@@ -53,6 +53,8 @@ pub record Rows : Type 0 where
   -- N4: "a boot .. takes up the begun body"
   pub bodies-begun : Holds begunBodies
   pub bodies-next : Holds nextBodies
-  -- "boot 26; step 22, 23, 24; post 8, 20, 21, 22"
+  -- N6: "accepted by one tail store, in order"
+  pub bursts-came : Holds bursts
+  -- "boot 26; step 22, 23, 24; post 8, 20, 21, 22, 33"
   pub claims-count : Holds counts
   pub claims-test : Holds tests

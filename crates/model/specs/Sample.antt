@@ -3,9 +3,9 @@
 use Prim.Native.Nat.{ℕ}
 use mathlib.Core.Path.{_≡_}
 use mathlib.Core.Bool.{Bool, true, false}
-use mathlib.Core.List.{List, [], _∷_, map}
-use lib.ListN.{set}
-use Rattle.model.specs.Types.{Body, Device, Free, Half, Handler, Place, Resting, Run}
+use mathlib.Core.List.{List, [], _∷_, _++_, map}
+use lib.ListN.{set, take}
+use Rattle.model.specs.Types.{Body, Device, Free, Half, Handler, Place, Resting, Run, Storing}
 
 -- ---- Tables
 
@@ -91,11 +91,11 @@ begunAt (Half b j) s = bodyBegun b s
 
 -- ---- Devices
 
-abbrev pub deviceWith : Bool → List ℕ → Place → ℕ → Handler → Device
-deviceWith on r x l h = record { on = on; registers = r; place = x; count = l; handler = h }
-
 abbrev pub cleared : List ℕ
 cleared = 0 ∷ 0 ∷ 0 ∷ 0 ∷ 0 ∷ 0 ∷ 0 ∷ 0 ∷ []
+
+abbrev pub deviceWith : Bool → List ℕ → Place → ℕ → Handler → Device
+deviceWith on r x l h = record { on = on; registers = r; place = x; count = l; handler = h; burst = cleared }
 
 -- "Off is one fixed value of the device, all else 0"; the same turned on
 abbrev pub offValue : Device
@@ -114,6 +114,11 @@ at x = deviceWith true registers x 1 Resting
 -- the same with two
 abbrev pub twoPairs : Place → Device
 twoPairs x = deviceWith true registers x 2 Resting
+
+-- the same as d, but with a handler at work: of n records, in the words ws, c of whose stores are made
+abbrev pub working : Device → ℕ → ℕ → List ℕ → Device
+working d n c ws =
+    record { on = d .on; registers = d .registers; place = d .place; count = d .count; handler = Storing n c; burst = take 8 (ws ++ cleared) }
 
 -- a body at an instruction
 abbrev pub task1 : ℕ → Place

@@ -8,10 +8,10 @@ use Prim.Native.Nat.{ℕ, zero, suc, _+_}
 use mathlib.Core.List.{List, [], _∷_, _++_}
 use mathlib.Core.Option.{Option, none, some}
 use lib.Dec.{ltb, eqb}
-use lib.ListN.{length, set, replicate}
-use Rattle.model.specs.Calls.{Call, Boot, Step, Cut, Post, Line, acceptedEvents}
+use lib.ListN.{set, replicate}
+use Rattle.model.specs.Calls.{Call, Boot, Step, Cut, Post, Line}
 use Rattle.model.specs.Program.{entry, memoryWords, transaction, instructions, bodyNumber, effectAt, newOpen, firstRegisters, word}
-use Rattle.model.specs.Store.{Record, carried}
+use Rattle.model.specs.Store.{Record}
 use Rattle.model.specs.Test.{pick, _and_}
 use Rattle.model.specs.Types.{Answer, Body, Effect}
 
@@ -110,16 +110,16 @@ unfoldable pub afterDone : Serial → Call → Serial
 afterDone z Boot = z
 afterDone z Step = z
 afterDone z Cut = z
-afterDone z (Post e x) =
+afterDone z (Post rs) =
     record {
       memory = z .memory;
       task = z .task;
       openNumber = z .openNumber;
       records = z .records;
-      posted = carried e x;
+      posted = rs;
     }
 
--- "The answer accepted adds what the latest post with the answer done carried": as many records as the answer accepts events.
+-- "The answer accepted adds what the latest post with the answer done carried"
 unfoldable pub withRecords : Serial → List Record → Serial
 withRecords z rs =
     record {
@@ -130,8 +130,9 @@ withRecords z rs =
       posted = z .posted;
     }
 
-unfoldable pub accept : Serial → ℕ → Option Serial
-accept z n = pick (eqb (length (z .posted)) n) (some (withRecords z (z .posted))) none
+unfoldable pub accept : Serial → List Record → Option Serial
+accept z [] = none
+accept z (first ∷ rs) = some (withRecords z (first ∷ rs))
 
 -- "All else, cuts and refusals too, changes nothing."
 unfoldable pub tell : ℕ → Formatting → Serial → Call → Answer → Option Serial
@@ -140,7 +141,7 @@ tell fuel g z c (Answer.Chosen b) = some z
 tell fuel g z c Answer.Worked = some z
 tell fuel g z c Answer.Stored = some z
 tell fuel g z c (Answer.Committed b) = runBody fuel (g .program) z b
-tell fuel g z c Answer.Accepted = accept z (acceptedEvents Answer.Accepted)
+tell fuel g z c Answer.Accepted = accept z (z .posted)
 tell fuel g z c (Answer.Refused why) = some z
 
 unfoldable pub andThen : Option Serial → (Serial → Option Serial) → Option Serial

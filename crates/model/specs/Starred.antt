@@ -5,6 +5,7 @@ use mathlib.Core.Path.{_≡_}
 use mathlib.Core.List.{List, [], _∷_, _++_}
 use lib.ListN.{length, replicate, set, take}
 use Rattle.model.specs.Answer.{refusal}
+use Rattle.model.specs.Burst.{single}
 use Rattle.model.specs.Calls.{Call, Boot, Step, Cut, Post, call, afterCalls, steps, Recovery, recovered, refused, unfinished, recovery}
 use Rattle.model.specs.Check.{check}
 use Rattle.model.specs.Device.{off}
@@ -63,7 +64,7 @@ Refuses p r = check p ≡ Checked.Refused r
 
 -- a post and the three steps that accept it
 abbrev pub accepted : List Call
-accepted = Boot ∷ Post 0 7 ∷ steps 3
+accepted = Boot ∷ Post (single 0 7) ∷ steps 3
 
 pub record Starred : Type 0 where
   pub program-words : withTask (0x0800 ∷ 0 ∷ 0x0010 ∷ 1 ∷ 0x0201 ∷ 0 ∷ 0x0900 ∷ 0 ∷ 0x0F00 ∷ 0 ∷ []) ≡ counting
@@ -90,18 +91,18 @@ pub record Starred : Type 0 where
   pub step-fifteen : view (storeAfter counting (Boot ∷ steps 15)) .phase ≡ 0
   -- "Post and 3 steps: accepted. A further post before the event commits: 21." (Six more steps commit it, and 21 lasts until the
   -- eighth has moved head.)
-  pub three-steps : answer counting (Boot ∷ Post 0 7 ∷ steps 2) Step ≡ Answer.Accepted
-  pub post-at-once : answer counting accepted (Post 0 8) ≡ Answer.Refused Refusal.QueueFull
-  pub post-before-commit : answer counting (accepted ++ steps 5) (Post 0 8) ≡ Answer.Refused Refusal.QueueFull
+  pub three-steps : answer counting (Boot ∷ Post (single 0 7) ∷ steps 2) Step ≡ Answer.Accepted
+  pub post-at-once : answer counting accepted (Post (single 0 8)) ≡ Answer.Refused Refusal.QueueFull
+  pub post-before-commit : answer counting (accepted ++ steps 5) (Post (single 0 8)) ≡ Answer.Refused Refusal.QueueFull
   pub commit : answer counting (accepted ++ steps 5) Step ≡ Answer.Committed (Body.Event 0)
-  pub post-before-head : answer counting (accepted ++ steps 7) (Post 0 8) ≡ Answer.Refused Refusal.QueueFull
-  pub post-after-head : answer counting (accepted ++ steps 8) (Post 0 8) ≡ Answer.Done
+  pub post-before-head : answer counting (accepted ++ steps 7) (Post (single 0 8)) ≡ Answer.Refused Refusal.QueueFull
+  pub post-after-head : answer counting (accepted ++ steps 8) (Post (single 0 8)) ≡ Answer.Done
   pub number-21 : refusal Refusal.QueueFull ≡ record { number = 21; first = 0; second = 0 }
   -- "Post, 1 step, post: 20. Post, 2 steps, cut: not accepted."
-  pub post-again : answer counting (Boot ∷ Post 0 7 ∷ Step ∷ []) (Post 0 8) ≡ Answer.Refused Refusal.HandlerBusy
+  pub post-again : answer counting (Boot ∷ Post (single 0 7) ∷ Step ∷ []) (Post (single 0 8)) ≡ Answer.Refused Refusal.HandlerBusy
   pub number-20 : refusal Refusal.HandlerBusy ≡ record { number = 20; first = 0; second = 0 }
-  pub not-accepted : waiting (view (storeOf (recover counting (Boot ∷ Post 0 7 ∷ steps 2 ++ Cut ∷ [])))) ≡ []
-  pub not-chosen : answer counting (Boot ∷ Post 0 7 ∷ steps 2 ++ Cut ∷ Boot ∷ []) Step ≡ Answer.Chosen (Body.Task 0)
+  pub not-accepted : waiting (view (storeOf (recover counting (Boot ∷ Post (single 0 7) ∷ steps 2 ++ Cut ∷ [])))) ≡ []
+  pub not-chosen : answer counting (Boot ∷ Post (single 0 7) ∷ steps 2 ++ Cut ∷ Boot ∷ []) Step ≡ Answer.Chosen (Body.Task 0)
   -- "Cut between the head store and the last store of an event's commit: head moves on by one slot in all."
   pub head-stored : view (storeAfter counting (accepted ++ steps 8)) .head ≡ 1
   pub not-last : view (storeAfter counting (accepted ++ steps 8)) .phase ≡ 2

@@ -3,20 +3,21 @@ use Prim.Native.Nat.{ℕ}
 use mathlib.Core.Bool.{true, false}
 use mathlib.Core.List.{List, [], _∷_, _++_, map}
 use lib.ListN.{getD, set, take}
+use Rattle.model.specs.Burst.{single}
 use Rattle.model.specs.Calls.{Call, Boot, Step, Cut, Post}
 use Rattle.model.specs.Claims.{inOrder}
 use Rattle.model.specs.Control.{Rule, broken, rules}
 use Rattle.model.specs.Device.{boot, post, step}
 use Rattle.model.specs.Store.{view, formatted}
 use Rattle.model.specs.Test.{pick}
-use Rattle.model.specs.Types.{Answer, Body, Device, Free, Half, Place, Refusal, Resting, Run, Storing}
-use Rattle.model.specs.Sample.{Row, _⇒_, at, begunAt, cleared, closed, controls, deviceWith, event1, eventBegun, eventCommit, offValue, onValue, opened, registers, sample, task1, taskBegun, taskCommit, twoPairs, withInstruction}
+use Rattle.model.specs.Types.{Answer, Body, Device, Free, Half, Place, Refusal, Resting, Run}
+use Rattle.model.specs.Sample.{Row, _⇒_, at, begunAt, cleared, closed, controls, deviceWith, event1, eventBegun, eventCommit, offValue, onValue, opened, registers, sample, task1, taskBegun, taskCommit, twoPairs, withInstruction, working}
 
 -- ---- What boot, a step and a post meet in the program and in the store's contents (6)
 
 -- the device off for boot, on and without a body for a step and a post
 abbrev meets : List ℕ → List ℕ → List Answer
-meets p s = boot p s offValue .answer ∷ step p s onValue .answer ∷ post p s onValue 0 9 .answer ∷ []
+meets p s = boot p s offValue .answer ∷ step p s onValue .answer ∷ post p s onValue (single 0 9) .answer ∷ []
 
 -- all three are refused; boot alone is refused; none is
 abbrev allRefused : Refusal → List Answer
@@ -79,7 +80,7 @@ finds s =
       broken = brokenWords (rules sample (view s));
       booted = boot sample s offValue .answer;
       stepped = step sample s onValue .answer;
-      posted = post sample s onValue 0 9 .answer;
+      posted = post sample s onValue (single 0 9) .answer;
     }
 
 abbrev meets7 : ℕ → Answer
@@ -213,7 +214,7 @@ orders =
     -- "boot 1 to 7"
     asksOf closed (Free 0) Boot ⇒ ((8 ∷ 9 ∷ 10 ∷ 10 ∷ 11 ∷ 12 ∷ 12 ∷ 12 ∷ 13 ∷ 14 ∷ 15 ∷ 16 ∷ 16 ∷ 23 ∷ 25 ∷ 27 ∷ 29 ∷ 31 ∷ 33 ∷ []) ∷ [])
     -- "without the parts of 7 .. that need a row, .. a log pair or a record"
-    ∷ asksOf closed (Free 0) (Post 0 9) ⇒ (earlyWords ∷ [])
+    ∷ asksOf closed (Free 0) (Post (single 0 9)) ⇒ (earlyWords ∷ [])
     -- "a chosen record (7)", "the rest of 7 .. for these and a log pair"
     ∷ asksOf closed (Free 0) Step ⇒ (earlyWords ∷ (33 ∷ []) ∷ [])
     ∷ asksOf closed (event1 0) Step ⇒ (earlyWords ∷ (33 ∷ []) ∷ [])
@@ -227,7 +228,7 @@ orders =
 -- ---- "25: state unlike program or store": the answers of a step and of a post
 
 abbrev looked : List ℕ → Device → List Answer
-looked s d = step sample s d .answer ∷ post sample s d 0 9 .answer ∷ []
+looked s d = step sample s d .answer ∷ post sample s d (single 0 9) .answer ∷ []
 
 -- the same on the store with the device's body begun
 abbrev running : List ℕ → Device → List Answer
@@ -242,6 +243,14 @@ stepAlone = Answer.Refused Refusal.State ∷ Answer.Done ∷ []
 
 abbrev neither : Answer → List Answer
 neither a = a ∷ Answer.Done ∷ []
+
+-- a running body beside a handler at rest
+abbrev withBurst : List ℕ → Device
+withBurst ws = record { on = true; registers = registers; place = task1 0; count = 1; handler = Resting; burst = ws }
+
+-- neither does, and the post meets 20
+abbrev isBusy : Answer → List Answer
+isBusy a = a ∷ Answer.Refused Refusal.HandlerBusy ∷ []
 
 unfoldable pub states : List (Row (List Answer))
 states =
@@ -315,12 +324,29 @@ states =
     ∷ looked (taskBegun taskCommit) (at (Free 5)) ⇒ neither Answer.Stored
     ∷ looked (eventBegun taskCommit) (at (Free 0)) ⇒ neither Answer.Stored
     -- "a handler at work with the queue full or its event not below E"
-    ∷ running opened (deviceWith true registers (task1 0) 1 (Storing 0 1 66)) ⇒ (Answer.Stored ∷ Answer.Refused Refusal.HandlerBusy ∷ [])
-    ∷ running opened (deviceWith true registers (task1 0) 1 (Storing 0 2 66)) ⇒ both Refusal.State
-    ∷ running (controls 0 1 8 0 0 0 2 1) (deviceWith true registers (task1 0) 1 (Storing 2 1 66)) ⇒ both Refusal.State
-    -- all of a handler's stores are made, and it is at work still
-    ∷ running opened (deviceWith true registers (task1 0) 1 (Storing 2 1 66)) ⇒ (Answer.Accepted ∷ Answer.Refused Refusal.HandlerBusy ∷ [])
-    ∷ running opened (deviceWith true registers (task1 0) 1 (Storing 3 1 66)) ⇒ both Refusal.State
+    ∷ running opened (working (at (task1 0)) 1 0 (1 ∷ 66 ∷ [])) ⇒ isBusy Answer.Stored
+    ∷ running opened (working (at (task1 0)) 1 0 (2 ∷ 66 ∷ [])) ⇒ both Refusal.State
+    ∷ running (controls 0 1 8 0 0 0 2 1) (working (at (task1 0)) 1 2 (1 ∷ 66 ∷ [])) ⇒ both Refusal.State
+    -- one at rest has no burst
+    ∷ running opened (withBurst (set cleared 0 1)) ⇒ both Refusal.State
+    ∷ running opened (withBurst (set cleared 7 1)) ⇒ both Refusal.State
+    -- N6: "a handler whose burst doesn't fit": room for one, two and three
+    ∷ running opened (working (at (task1 0)) 2 0 (1 ∷ 66 ∷ 0 ∷ 67 ∷ [])) ⇒ both Refusal.State
+    ∷ running (controls 0 1 8 0 0 0 3 0) (working (at (task1 0)) 2 0 (1 ∷ 66 ∷ 0 ∷ 67 ∷ [])) ⇒ isBusy Answer.Stored
+    ∷ running (controls 0 1 8 0 0 0 3 0) (working (at (task1 0)) 3 0 (1 ∷ 66 ∷ 0 ∷ 67 ∷ 1 ∷ 68 ∷ [])) ⇒ both Refusal.State
+    ∷ running (controls 0 1 8 0 0 0 3 3) (working (at (task1 0)) 3 0 (1 ∷ 66 ∷ 0 ∷ 67 ∷ 1 ∷ 68 ∷ [])) ⇒ isBusy Answer.Stored
+    ∷ running (controls 0 1 8 0 0 0 3 3) (working (at (task1 0)) 4 0 (1 ∷ 66 ∷ 0 ∷ 67 ∷ 1 ∷ 68 ∷ 0 ∷ 69 ∷ [])) ⇒ both Refusal.State
+    -- "is past its tail store"
+    ∷ running opened (working (at (task1 0)) 1 2 (1 ∷ 66 ∷ [])) ⇒ isBusy Answer.Accepted
+    ∷ running opened (working (at (task1 0)) 1 3 (1 ∷ 66 ∷ [])) ⇒ both Refusal.State
+    ∷ running (controls 0 1 8 0 0 0 3 3) (working (at (task1 0)) 3 6 (1 ∷ 66 ∷ 0 ∷ 67 ∷ 1 ∷ 68 ∷ [])) ⇒ isBusy Answer.Accepted
+    ∷ running (controls 0 1 8 0 0 0 3 3) (working (at (task1 0)) 3 7 (1 ∷ 66 ∷ 0 ∷ 67 ∷ 1 ∷ 68 ∷ [])) ⇒ both Refusal.State
+    -- "or has a length or an event out of range": an event that is stored, too
+    ∷ running opened (working (at (task1 0)) 0 0 []) ⇒ both Refusal.State
+    ∷ looked (formatted sample 2 9) (working onValue 4 0 (1 ∷ 66 ∷ 0 ∷ 67 ∷ 1 ∷ 68 ∷ 0 ∷ 69 ∷ [])) ⇒ isBusy Answer.Stored
+    ∷ looked (formatted sample 2 9) (working onValue 5 0 (1 ∷ 66 ∷ 0 ∷ 67 ∷ 1 ∷ 68 ∷ 0 ∷ 69 ∷ [])) ⇒ both Refusal.State
+    ∷ looked (formatted sample 2 9) (working onValue 4 0 (1 ∷ 66 ∷ 0 ∷ 67 ∷ 1 ∷ 68 ∷ 2 ∷ 69 ∷ [])) ⇒ both Refusal.State
+    ∷ looked (formatted sample 2 9) (working onValue 4 7 (2 ∷ 66 ∷ 0 ∷ 67 ∷ 1 ∷ 68 ∷ 0 ∷ 69 ∷ [])) ⇒ both Refusal.State
     -- "off unlike its fixed value"
     ∷ running opened offValue ⇒ both Refusal.PowerOff
     ∷ running opened (deviceWith false (set cleared 0 1) (Free 0) 0 Resting) ⇒ both Refusal.State
@@ -329,7 +355,8 @@ states =
     ∷ running opened (deviceWith false cleared (task1 0) 0 Resting) ⇒ both Refusal.State
     ∷ running opened (deviceWith false cleared (Half (Body.Task 1) 1) 0 Resting) ⇒ both Refusal.State
     ∷ running opened (deviceWith false cleared (Free 0) 1 Resting) ⇒ both Refusal.State
-    ∷ running opened (deviceWith false cleared (Free 0) 0 (Storing 0 1 66)) ⇒ both Refusal.State
+    ∷ running opened (working offValue 1 0 (1 ∷ 66 ∷ [])) ⇒ both Refusal.State
+    ∷ running opened (record { on = false; registers = cleared; place = Free 0; count = 0; handler = Resting; burst = set cleared 7 1 }) ⇒ both Refusal.State
     -- "7, 25, 22": with two faults, the first
     ∷ running (set opened 8 3) (at (Free 1)) ⇒ both (Refusal.Control 8)
     ∷ []

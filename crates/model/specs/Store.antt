@@ -134,6 +134,17 @@ find log n y = findFrom log y 0 n
 unfoldable pub slotAfter : ℕ → ℕ → ℕ
 slotAfter q u = pick (eqb u q) 0 (u + 1)
 
+-- the slot i places after slot u
+unfoldable pub forward : ℕ → ℕ → ℕ → ℕ
+forward q u zero = u
+forward q u (suc i) = forward q (slotAfter q u) i
+
+-- the ring's word i places after the first word of slot u: event, data, event of the slot after it, ..
+unfoldable pub ringWord : ℕ → ℕ → ℕ → Word
+ringWord q u zero = Event u
+ringWord q u (suc zero) = Datum u
+ringWord q u (suc (suc i)) = ringWord q (slotAfter q u) i
+
 abbrev pub empty : Store → Bool
 empty v = eqb (v .head) (v .tail)
 
@@ -152,10 +163,6 @@ room v = v .queueRecords - distance (v .queueRecords) (v .head) (v .tail)
 pub record Record : Type 0 where
   pub event : ℕ
   pub datum : ℕ
-
--- the records that a post of event e with data x carries
-unfoldable pub carried : ℕ → ℕ → List Record
-carried e x = record { event = e; datum = x } ∷ []
 
 unfoldable pub slot : List ℕ → ℕ → Record
 slot queue u = record { event = word queue (2 * u); datum = word queue (2 * u + 1) }

@@ -7,10 +7,11 @@ pub enum Body {
     Event(u16),
 }
 
-// The handler of an interrupt: at rest, or at work: how many of its stores are made, and the event and data of its record.
+// The handler of an interrupt: at rest, or at work: how many records its burst has, and how many of its stores are made. The burst itself
+// stands beside it, in the device.
 pub enum Handler {
     Resting,
-    Storing(u16, u16, u16),
+    Storing(u16, u16),
 }
 
 // Where the device stands.
@@ -23,13 +24,14 @@ pub enum Place {
     Half(Body, u16),
 }
 
-// The device state, which a cut loses.
+// The device state, which a cut loses. The burst is that of a handler at work, event and data in turn, and 0 behind its last record.
 pub struct Device {
     pub on: bool,
     pub registers: [u16; 8],
     pub place: Place,
     pub count: u16,
     pub handler: Handler,
+    pub burst: [u16; 8],
 }
 
 impl Device {
@@ -40,6 +42,7 @@ impl Device {
         place: Place::Free(0),
         count: 0,
         handler: Handler::Resting,
+        burst: [0; 8],
     };
 }
 
@@ -52,7 +55,7 @@ pub enum Refusal {
     Instruction(u16, u16),
     StoreContents,
     Control(u16),
-    NoEvent,
+    NoEvent(u16),
     StoreSize,
     HandlerBusy,
     QueueFull,
@@ -64,6 +67,7 @@ pub enum Refusal {
     LinesRow(u16),
     LinesGap(u16, u16),
     LinesOverlap(u16, u16),
+    BurstLength,
 }
 
 // What a check finds.

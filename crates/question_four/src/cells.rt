@@ -111,7 +111,7 @@ fn instruction(program: &[u16], body: Body, at: u16) {
 // What a step runs, in a column of seven.
 fn step_runs(program: &[u16], store: &[u16], device: Device) {
     let handler = device.handler;
-    if let Handler::Storing(_, _, _) = handler {
+    if let Handler::Storing(_, _) = handler {
         text::put(b"handler");
         return;
     }

@@ -9,6 +9,7 @@ use mathlib.Core.Path.{_≡_}
 use lib.Dec.{eqb}
 use lib.ListN.{length, take, replicate}
 use Rattle.model.specs.Answer.{RefusalNumber}
+use Rattle.model.specs.Burst.{single}
 use Rattle.model.specs.Calls.{Call, Boot, Step, Cut, Post}
 use Rattle.model.specs.Device.{off}
 use Rattle.model.specs.Program.{word}
@@ -30,7 +31,7 @@ abbrev pub callOf : Scheduled → Option Call
 callOf Scheduled.Boot = some Boot
 callOf Scheduled.Step = some Step
 callOf Scheduled.Cut = some Cut
-callOf (Scheduled.Post e x) = some (Post e x)
+callOf (Scheduled.Post e x) = some (Post (single e x))
 callOf Scheduled.Unread = none
 
 -- a refusal's number and place of an answer's words, and the line of these: none where they are no refusal's

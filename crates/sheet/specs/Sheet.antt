@@ -8,6 +8,7 @@ use lib.Dec.{eqb, leb, ltb}
 use lib.ListN.{length}
 use Rattle.image.specs.Image.{programOf, imageCheck}
 use Rattle.model.specs.Answer.{RefusalNumber, refusal}
+use Rattle.model.specs.Burst.{single}
 use Rattle.model.specs.Calls.{Call, Boot, Step, Cut, Post, call, unlessRefused, Recovery, recovered, refused, unfinished, recovery}
 use Rattle.model.specs.Demand3.{recoverySteps}
 use Rattle.model.specs.Device.{off}
@@ -33,7 +34,7 @@ letter byte = pick (eqb byte (code "b")) (some Boot) (pick (eqb byte (code "s"))
 unfoldable pub posting : ℕ → ℕ → ℕ → ℕ → ℕ → Option Call
 posting event first second third fourth =
     pick (leb event 15 and leb first 15 and leb second 15 and leb third 15 and leb fourth 15)
-    (some (Post event (4096 * first + 256 * second + 16 * third + fourth)))
+    (some (Post (single event (4096 * first + 256 * second + 16 * third + fourth))))
     none
 
 unfoldable pub postOf : List ℕ → Option Call
@@ -130,7 +131,7 @@ unfoldable pub callLine : List ℕ → List ℕ → Device → ℕ → Call → 
 callLine p s d n Boot = otherLine p s d n Boot
 callLine p s d n Step = otherLine p s d n Step
 callLine p s d n Cut = memoryLine n (recoveredMemory p s)
-callLine p s d n (Post e x) = otherLine p s d n (Post e x)
+callLine p s d n (Post rs) = otherLine p s d n (Post rs)
 
 -- ---- The sheet
 

@@ -1,16 +1,18 @@
 // A step past its early checks: document 01's four cases, "first that applies". Each makes its own store, at most one, on the lent words.
 // A commit's stores in phases 1 and 2 are in copying.rt, a running body's in the crate body.
-ghost use Prim.Native.Nat.{_≤_, _<_};
+ghost use Prim.Native.Nat.{ℕ, _*_, _≤_};
+ghost use mathlib.Core.List.{List};
 ghost use mathlib.Core.Path.{_≡_};
 ghost use Rattle.model.specs.Device.{handlerStep, eventNext, chooseStep, placeStep};
 ghost use Rattle.model.specs.Program.{word};
 ghost use Rattle.model.specs.Store.{view};
 ghost use Rattle.model.specs.Accepted.{Shaped, Looked};
-ghost use Rattle.device.specs.Result.{device, coreResult, ofCore, leaves, placeStepOf, nextStepOf, OnAnyRegisters};
+ghost use Rattle.device.specs.Result.{Eight, deviceWith, device, stepResult, ofStep, ofCore, leaves, placeStepOf, nextStepOf};
 use body;
 use control::single;
 use device::Core;
 use device::CoreResult;
+use device::StepResult;
 use device::results;
 use model::Answer;
 use model::Body;
@@ -22,51 +24,48 @@ use store::queue;
 
 mod copying;
 
-// "A handler at work makes its next store: event, data, then tail. The tail store accepts the event": so many of them are made.
-fn handler_step(store: &mut [u16], core: Core, made: u16, event: u16, datum: u16) -> CoreResult
+// "A handler at work makes its next store": of each event, of its data, "and then accepted by one tail store": so many of them are made, of so
+// many records.
+fn handler_step(
+    store: &mut [u16],
+    burst: &mut [u16; 8],
+    core: Core,
+    length: u16,
+    made: u16,
+) -> StepResult
     requires { ⌜ Shaped (now store) ⌝ }
-    requires { ⌜ (word (now store) 15 ≤ word (now store) 3) × (made < 3) ⌝ }
-    ensures { λ r. ⌜ OnAnyRegisters core r (now (store .exit))
-        (leaves (λ v d. handlerStep v d made event datum) (now (store .entry))) ⌝ }
+    requires { ⌜ (word (now store) 15 ≤ word (now store) 3) × (length ≤ word (now store) 3) ⌝ }
+    requires { ⌜ (length ≤ 4) × (made ≤ 2 * length) ⌝ }
+    requires { ⌜ Eight (now burst) ⌝ }
+    ensures { λ r. ⌜ ((registers : List ℕ) → ofStep r registers (now (burst .exit)) (now (store .exit))
+        ≡ leaves (λ v d. handlerStep v d length made) (now (store .entry)) (deviceWith core registers (Handler.Storing length made) (now (burst .entry)))) ⌝ }
+    ensures { λ _. ⌜ Eight (now (burst .exit)) ⌝ }
 {
     let tail = store[15];
-    if made == 0 {
-        let word = queue::write_event(store, tail, event);
+    if made < 2 * length {
+        let value = burst[made as usize];
+        let word = queue::write_ahead(store, tail, made, value);
         return handler_result(
             core,
-            Handler::Storing(1, event, datum),
+            Handler::Storing(length, made + 1),
             Answer::Stored,
             word,
         );
     }
-    if made == 1 {
-        let word = queue::write_datum(store, tail, datum);
-        return handler_result(
-            core,
-            Handler::Storing(2, event, datum),
-            Answer::Stored,
-            word,
-        );
-    }
-    store[15] = queue::slot_after(store[3], tail);
+    store[15] = queue::forward(store[3], tail, length);
+    *burst = [0; 8];
     handler_result(core, Handler::Resting, Answer::Accepted, Stored::Word(15))
 }
 
-// The device with another handler, an answer and the word stored.
-fn handler_result(core: Core, handler: Handler, answer: Answer, stored: Stored) -> CoreResult
-    ensures { λ r. ⌜ r ≡ coreResult answer stored
-        (record { on = core .on; place = core .place; count = core .count; handler = handler }) ⌝ }
+// A handler after its step, an answer and the word stored.
+fn handler_result(core: Core, handler: Handler, answer: Answer, stored: Stored) -> StepResult
+    ensures { λ r. ⌜ r ≡ stepResult answer stored handler core ⌝ }
 {
-    let place = core.place;
-    CoreResult {
+    StepResult {
         answer,
         stored,
-        core: Core {
-            on: core.on,
-            place,
-            count: core.count,
-            handler,
-        },
+        handler,
+        core,
     }
 }
 
@@ -145,20 +144,39 @@ fn place_step(
     free_step(program, store, registers, core, made)
 }
 
-// "First that applies", after the early checks.
+// What a step leaves whose handler is at rest.
+fn rested(left: CoreResult) -> StepResult
+    ensures { λ r. ⌜ r ≡ stepResult (left .answer) (left .stored) Handler.Resting (left .core) ⌝ }
+{
+    let answer = left.answer;
+    let stored = left.stored;
+    let core = left.core;
+    StepResult {
+        answer,
+        stored,
+        handler: Handler::Resting,
+        core,
+    }
+}
+
+// "First that applies", after the early checks. A handler at rest has no burst.
 pub fn next_step(
     program: &[u16],
     store: &mut [u16],
     registers: &mut [u16; 8],
+    burst: &mut [u16; 8],
+    handler: Handler,
     core: Core,
-) -> CoreResult
-    requires { ⌜ Looked (now program) (now store) (device core (now registers)) ⌝ }
-    ensures { λ r. ⌜ ofCore r (now (registers .exit)) (now (store .exit))
-        ≡ leaves (nextStepOf (now (program .entry))) (now (store .entry)) (device core (now (registers .entry))) ⌝ }
+) -> StepResult
+    requires { ⌜ Looked (now program) (now store) (deviceWith core (now registers) handler (now burst)) ⌝ }
+    requires { ⌜ Eight (now burst) ⌝ }
+    ensures { λ r. ⌜ ofStep r (now (registers .exit)) (now (burst .exit)) (now (store .exit))
+        ≡ leaves (nextStepOf (now (program .entry))) (now (store .entry))
+        (deviceWith core (now (registers .entry)) handler (now (burst .entry))) ⌝ }
+    ensures { λ _. ⌜ Eight (now (burst .exit)) ⌝ }
 {
-    let handler = core.handler;
     match handler {
-        Handler::Resting => place_step(program, store, registers, core),
-        Handler::Storing(made, event, datum) => handler_step(store, core, made, event, datum),
+        Handler::Resting => rested(place_step(program, store, registers, core)),
+        Handler::Storing(length, made) => handler_step(store, burst, core, length, made),
     }
 }

@@ -2,10 +2,12 @@
 // Its part of the store starts at word 7's number; word 14 is head and word 15 is tail.
 use model::Stored;
 ghost use mathlib.Core.Path.{_≡_};
-ghost use Prim.Native.Nat.{_≤_};
+ghost use Prim.Native.Nat.{_+_, _-_, _*_, _≤_};
+ghost use lib.Dec.{ltb};
 ghost use Rattle.model.specs.Control.{between};
 ghost use Rattle.model.specs.Program.{word};
-ghost use Rattle.model.specs.Store.{view, event, datum, to, Event, Datum, slotAfter, empty, room, firstWaiting};
+ghost use Rattle.model.specs.Store.{view, event, datum, to, slotAfter, forward, ringWord, empty, room, firstWaiting};
+ghost use Rattle.model.specs.Test.{pick};
 ghost use Rattle.model.specs.Accepted.{Shaped};
 ghost use Rattle.store.specs.Written.{Written};
 
@@ -27,25 +29,26 @@ pub fn datum(store: &[u16], slot: u16) -> u16
     store[queue + (2 * (slot as usize) + 1)]
 }
 
-// The writing routines tell the word that they stored.
-pub fn write_event(store: &mut [u16], slot: u16, event: u16) -> Stored
+// A value goes to the ring's word so many places after the first word of a slot: its event, its data, the event of the slot after it, ..
+// The word stored is told.
+pub fn write_ahead(store: &mut [u16], slot: u16, places: u16, value: u16) -> Stored
     requires { ⌜ Shaped (now store) ⌝ }
-    requires { ⌜ slot ≤ word (now store) 3 ⌝ }
-    ensures { λ told. ⌜ Written (now (store .entry)) (to (Event slot) event) told (now (store .exit)) ⌝ }
+    requires { ⌜ (slot ≤ word (now store) 3) × (places ≤ 2 * word (now store) 3 + 1) ⌝ }
+    ensures { λ told.
+        ⌜ Written (now (store .entry)) (to (ringWord (word (now (store .entry)) 3) slot places) value) told (now (store .exit)) ⌝ }
 {
-    let word = store[7] + 2 * slot;
-    store[word as usize] = event;
+    let words = 2 * (store[3] + 1);
+    let ahead = 2 * slot + places;
+    let word = store[7] + around(words, ahead);
+    store[word as usize] = value;
     Stored::Word(word)
 }
 
-pub fn write_datum(store: &mut [u16], slot: u16, datum: u16) -> Stored
-    requires { ⌜ Shaped (now store) ⌝ }
-    requires { ⌜ slot ≤ word (now store) 3 ⌝ }
-    ensures { λ told. ⌜ Written (now (store .entry)) (to (Datum slot) datum) told (now (store .exit)) ⌝ }
+// A place of a ring of so many, at most once past its end.
+fn around(ring: u16, place: u16) -> u16
+    ensures { λ r. ⌜ r ≡ pick (ltb place ring) place (place - ring) ⌝ }
 {
-    let word = store[7] + (2 * slot + 1);
-    store[word as usize] = datum;
-    Stored::Word(word)
+    if place < ring { place } else { place - ring }
 }
 
 // The slot after a slot, of the slots 0 to Q.
@@ -54,6 +57,14 @@ pub fn slot_after(queue_records: u16, slot: u16) -> u16
     ensures { λ r. ⌜ r ≡ slotAfter «queue_records» slot ⌝ }
 {
     if slot == queue_records { 0 } else { slot + 1 }
+}
+
+// The slot so many places after a slot.
+pub fn forward(queue_records: u16, slot: u16, places: u16) -> u16
+    requires { ⌜ (slot ≤ «queue_records») × (places ≤ «queue_records») × («queue_records» ≤ 32) ⌝ }
+    ensures { λ r. ⌜ r ≡ forward «queue_records» slot places ⌝ }
+{
+    around(queue_records + 1, slot + places)
 }
 
 pub fn is_empty(store: &[u16]) -> bool

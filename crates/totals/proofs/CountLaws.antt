@@ -2,10 +2,12 @@
 use Prim.Native.Nat.{ℕ}
 use mathlib.Core.List.{List}
 use mathlib.Core.Path.{_≡_, refl}
-use Rattle.model.specs.Calls.{oneIf, isStore, counted}
+use native.Mathlib.Omega.{arith}
+use Rattle.model.specs.Calls.{moreBy, oneIf, isStore, counted}
 use Rattle.model.specs.Device.{Outcome}
 use Rattle.model.specs.Store.{Write, none, to, storedWord}
 use Rattle.model.specs.Test.{pick}
+use Rattle.model.specs.declared.Handler.{Handler}
 use Rattle.model.specs.declared.Totals.{Totals}
 use Rattle.totals.specs.Counted.{stores, countedFrom}
 
@@ -14,6 +16,10 @@ unfolding stores storedWord oneIf isStore pick
 stores-is s none = refl
 stores-is s (to w x) = refl
 
-pub counted-is : (s : List ℕ) (t : Totals) (o : Outcome) → counted t o ≡ countedFrom t (o .answer) (storedWord s (o .write))
+pub counted-is : (s : List ℕ) (t : Totals) (h : Handler) (o : Outcome) → counted t h o ≡ countedFrom t h (o .answer) (storedWord s (o .write))
 unfolding counted countedFrom
-counted-is s t o = rw (stores-is s (o .write))
+counted-is s t h o = rw (stores-is s (o .write))
+
+pub more-none : (total : ℕ) → moreBy total 0 ≡ total
+unfolding moreBy
+more-none total = omega arith

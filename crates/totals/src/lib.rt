@@ -1,9 +1,11 @@
-// The host's totals: bodies committed, events accepted, stores made. A step tells what is added: its answer how many bodies and
-// events, the word that it stored a store.
+// The host's totals: bodies committed, events accepted, stores made. A step tells what is added: its answer a body, its answer and the
+// handler before it the events of a burst, the word that it stored a store.
 ghost use mathlib.Core.Path.{_≡_};
 ghost use Rattle.model.specs.Calls.{moreBy, oneIf, isCommit, acceptedEvents};
+ghost use Rattle.model.specs.Device.{burstLength};
 ghost use Rattle.totals.specs.Counted.{stores, countedFrom};
 use model::Answer;
+use model::Handler;
 use model::Stored;
 use model::Totals;
 
@@ -35,18 +37,28 @@ fn committed_bodies(answer: Answer) -> u32
     }
 }
 
-// How many events an answer accepts.
-fn accepted_events(answer: Answer) -> u32
-    ensures { λ n. ⌜ n ≡ acceptedEvents answer ⌝ }
+// How many records a handler's burst has: none of one at rest.
+fn burst_length(handler: Handler) -> u32
+    ensures { λ n. ⌜ n ≡ burstLength handler ⌝ }
+{
+    match handler {
+        Handler::Resting => 0,
+        Handler::Storing(length, _) => length as u32,
+    }
+}
+
+// The events accepted after a step with this answer, which found this handler: all of its burst more, or none.
+fn accepted_after(total: u32, handler: Handler, answer: Answer) -> u32
+    ensures { λ n. ⌜ n ≡ moreBy total (acceptedEvents handler answer) ⌝ }
 {
     match answer {
-        Answer::Done => 0,
-        Answer::Chosen(_) => 0,
-        Answer::Worked => 0,
-        Answer::Stored => 0,
-        Answer::Committed(_) => 0,
-        Answer::Accepted => 1,
-        Answer::Refused(_) => 0,
+        Answer::Done => total,
+        Answer::Chosen(_) => total,
+        Answer::Worked => total,
+        Answer::Stored => total,
+        Answer::Committed(_) => total,
+        Answer::Accepted => more_by(total, burst_length(handler)),
+        Answer::Refused(_) => total,
     }
 }
 
@@ -60,20 +72,20 @@ fn stores(stored: Stored) -> u32
     }
 }
 
-// The totals after a step with this answer, which stored this word.
-pub fn counted(totals: Totals, answer: Answer, stored: Stored) -> Totals
-    ensures { λ r. ⌜ r ≡ countedFrom totals answer stored ⌝ }
+// The totals after a step with this answer, which found this handler and stored this word.
+pub fn counted(totals: Totals, handler: Handler, answer: Answer, stored: Stored) -> Totals
+    ensures { λ r. ⌜ r ≡ countedFrom totals handler answer stored ⌝ }
 {
     Totals {
         committed: more_by(totals.committed, committed_bodies(answer)),
-        accepted: more_by(totals.accepted, accepted_events(answer)),
+        accepted: accepted_after(totals.accepted, handler, answer),
         stores: more_by(totals.stores, stores(stored)),
     }
 }
 
 // "one record that the host lends and a step updates": the totals change in place, once the step has answered.
-pub fn count(totals: &mut Totals, answer: Answer, stored: Stored)
-    ensures { λ _. ⌜ now (totals .exit) ≡ countedFrom (now (totals .entry)) answer stored ⌝ }
+pub fn count(totals: &mut Totals, handler: Handler, answer: Answer, stored: Stored)
+    ensures { λ _. ⌜ now (totals .exit) ≡ countedFrom (now (totals .entry)) handler answer stored ⌝ }
 {
-    *totals = counted(*totals, answer, stored);
+    *totals = counted(*totals, handler, answer, stored);
 }

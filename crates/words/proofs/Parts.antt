@@ -1,16 +1,16 @@
 -- The parts of a device's words: each part read back is the part (`-back`), the words of what was read are the words (`-forth`), and
 -- lists spelt out word by word. Assumes nothing.
-use Prim.Native.Nat.{ℕ, zero, suc, _+_, _-_, _≤_, _<_}
+use Prim.Native.Nat.{ℕ, zero, suc, _+_, _*_, _≤_, _<_}
 use mathlib.Core.Bool.{Bool, true, false}
 use mathlib.Core.List.{List, [], _∷_, _++_}
-use mathlib.Core.Path.{_≡_, refl, sym, _∙_}
-use mathlib.Core.Logic.{_≢_}
+use mathlib.Core.Path.{_≡_, refl, sym, ap, _∙_}
 use native.Mathlib.Omega.{arith}
 use lib.Dec.{eqb, leb}
 use lib.ListN.{length, drop}
 use lib.Seq.{drop-cons, drop-length}
-use borrow.Author.Tests.{lt-ltb, le-leb, lt-leb, eq-eqb, ne-eqb, eqb-true, leb-true}
-use Rattle.model.proofs.TestLaws.{pick-true, pick-false, same-or, and-left, and-right}
+use borrow.Author.Tests.{lt-ltb, le-ltb, le-leb, lt-leb, eq-eqb, ne-eqb, eqb-true, leb-true}
+use Rattle.model.proofs.TestLaws.{pick-true, pick-false, same-or, below-or, and-true, and-left, and-right}
+use Rattle.model.specs.Device.{burstLength}
 use Rattle.model.specs.Program.{word}
 use Rattle.model.specs.Test.{pick, _and_}
 use Rattle.model.specs.declared.Answer.{Answer}
@@ -19,12 +19,17 @@ use Rattle.model.specs.declared.Handler.{Handler}
 use Rattle.model.specs.declared.Handler.the-variants.{Resting, Storing}
 use Rattle.model.specs.declared.Place.{Place}
 use Rattle.model.specs.declared.Place.the-variants.{Free, Run, Half}
-use Rattle.words.specs.Words.{flag, kind, number, placeWords, nextWord, StoreLeft, handlerWords}
-use Rattle.words.specs.Words.{bodyOf, placeOf, isPlace, handlerOf, isHandler}
+use Rattle.words.specs.Words.{flag, kind, number, placeWords, handlerWords}
+use Rattle.words.specs.Words.{bodyOf, placeOf, isPlace, handlerOf, isHandler, isRecord, areRecords, burstOf}
 use Rattle.words.specs.Words.{refusedWords, answerWords}
 
 -- from the facts that a function's tests leave to the tests of its definition
 pub ruleset tests = (le-leb, lt-leb, eq-eqb, ne-eqb)
+
+-- a test that holds
+pub and-skip : {a : Bool} (b : Bool) → a ≡ true → (a and b) ≡ b
+unfolding _and_
+and-skip b e = rw e
 
 -- ---- Lists spelt out
 
@@ -59,10 +64,10 @@ place-spelt (Free c) y = refl
 place-spelt (Run b j c) y = refl
 place-spelt (Half b j) y = refl
 
-pub handler-spelt : (h : Handler) → three (λ n e x. n ∷ e ∷ x ∷ []) (handlerWords h) ≡ handlerWords h
+pub handler-spelt : (h : Handler) (y : List ℕ) → three (λ k n c. k ∷ n ∷ c ∷ y) (handlerWords h) ≡ handlerWords h ++ y
 unfolding handlerWords
-handler-spelt Resting = refl
-handler-spelt (Storing n e x) = refl
+handler-spelt Resting y = refl
+handler-spelt (Storing n c) y = refl
 
 pub answer-spelt : (a : Answer) (y : List ℕ) → five (λ p k n i j. p ∷ k ∷ n ∷ i ∷ j ∷ y) (answerWords a) ≡ answerWords a ++ y
 unfolding answerWords refusedWords
@@ -161,52 +166,68 @@ place-forth p k n j c h = same-or p 0 free (λ z. same-or p 1 (run z) (half z))
 
 -- ---- handler
 
-next-is : (c : ℕ) → c < 3 → nextWord c ≡ c + 1
-unfolding nextWord
-next-is c l = pick-true _ _ (lt-ltb _ _ l)
-
-pub handler-is : (h : Handler) → StoreLeft h → three isHandler (handlerWords h) ≡ true
+pub handler-is : (h : Handler) → three isHandler (handlerWords h) ≡ true
 unfolding isHandler handlerWords pick _and_
-handler-is Resting l = refl
-handler-is (Storing c e x) l =
-    let some-store : c + 1 ≢ 0 = omega arith in
-    let three-stores : c + 1 ≤ 3 = omega arith in
-    simp (next-is c l, ne-eqb (c + 1) 0 some-store, le-leb (c + 1) 3 three-stores)
+handler-is Resting = refl
+handler-is (Storing n c) = refl
 
-pub handler-back : (h : Handler) → StoreLeft h → three handlerOf (handlerWords h) ≡ h
+pub handler-back : (h : Handler) → three handlerOf (handlerWords h) ≡ h
 unfolding handlerOf handlerWords pick
-handler-back Resting l = refl
-handler-back (Storing c e x) l =
-    let some-store : c + 1 ≢ 0 = omega arith in
-    let made : c + 1 - 1 ≡ c = omega arith in
-    simp (next-is c l, ne-eqb (c + 1) 0 some-store, made)
+handler-back Resting = refl
+handler-back (Storing n c) = refl
 
-next-forth : (h : ℕ) → (h ≡ 0 → ⊥) → leb h 3 ≡ true → nextWord (h - 1) ≡ h
-next-forth h z t =
-    let b = leb-true h 3 t in
-    let below : h - 1 < 3 = omega arith in
-    let same : h - 1 + 1 ≡ h = omega arith in
-    next-is (h - 1) below ∙ same
-
-pub handler-left : (h e x : ℕ) → isHandler h e x ≡ true → StoreLeft (handlerOf h e x)
-unfolding isHandler handlerOf
-handler-left h e x t =
-    same-or h 0 (λ z. rw (eq-eqb h 0 z, pick-true {b = true} Resting (Storing (h - 1) e x) refl) tt)
-    (λ z.
-    let u : leb h 3 ≡ true = sym (pick-false _ _ (ne-eqb h 0 z)) ∙ t in
-    let b = leb-true h 3 u in
-    rw (ne-eqb h 0 z, pick-false {b = false} Resting (Storing (h - 1) e x) refl) (omega arith))
-
-pub handler-forth : (h e x : ℕ) → isHandler h e x ≡ true → handlerWords (handlerOf h e x) ≡ h ∷ e ∷ x ∷ []
+pub handler-forth : (h n c : ℕ) → isHandler h n c ≡ true → handlerWords (handlerOf h n c) ≡ h ∷ n ∷ c ∷ []
 unfolding isHandler handlerOf handlerWords pick _and_
-handler-forth h e x t = same-or h 0 rests stores
+handler-forth h n c t = same-or h 0 rests stores
   where
-    rests : h ≡ 0 → handlerWords (handlerOf h e x) ≡ h ∷ e ∷ x ∷ []
+    rests : h ≡ 0 → handlerWords (handlerOf h n c) ≡ h ∷ n ∷ c ∷ []
     rests z =
-        let u : (eqb e 0 and eqb x 0) ≡ true = simp (eq-eqb h 0 z) at t in
-        simp (z, eqb-true e 0 (and-left (eqb e 0) (eqb x 0) u), eqb-true x 0 (and-right (eqb e 0) (eqb x 0) u))
+        let u : (eqb n 0 and eqb c 0) ≡ true = simp (eq-eqb h 0 z) at t in
+        simp (z, eqb-true n 0 (and-left (eqb n 0) (eqb c 0) u), eqb-true c 0 (and-right (eqb n 0) (eqb c 0) u))
 
-    stores : (h ≡ 0 → ⊥) → handlerWords (handlerOf h e x) ≡ h ∷ e ∷ x ∷ []
+    stores : (h ≡ 0 → ⊥) → handlerWords (handlerOf h n c) ≡ h ∷ n ∷ c ∷ []
     stores z =
-        let u : leb h 3 ≡ true = simp (ne-eqb h 0 z) at t in
-        simp (ne-eqb h 0 z, next-forth h z u)
+        let u : eqb h 1 ≡ true = simp (ne-eqb h 0 z) at t in
+        simp (eqb-true h 1 u)
+
+-- the length stands in the second word, of a handler at rest 0
+pub handler-length : (h : Handler) → word (handlerWords h) 1 ≡ burstLength h
+unfolding handlerWords burstLength
+handler-length Resting = refl
+handler-length (Storing n c) = refl
+
+pub length-read : (h n c : ℕ) → isHandler h n c ≡ true → burstLength (handlerOf h n c) ≡ n
+unfolding handlerWords
+length-read h n c t = sym (handler-length (handlerOf h n c)) ∙ ap (λ (ws : List ℕ). word ws 1) (handler-forth h n c t)
+
+-- ---- the burst: zeros behind its records
+
+record-is : (n i e x : ℕ) → (n ≤ i → (e ≡ 0) × (x ≡ 0)) → isRecord n i e x ≡ true
+unfolding isRecord
+record-is n i e x h =
+    below-or i n (λ l. pick-true _ _ (lt-ltb _ _ l)) (λ l. pick-false _ _ (le-ltb _ _ l) ∙ and-true (eq-eqb _ _ (h l .0)) (eq-eqb _ _ (h l .1)))
+
+record-zero : (n i e x : ℕ) → isRecord n i e x ≡ true → n ≤ i → (e ≡ 0) × (x ≡ 0)
+unfolding isRecord
+record-zero n i e x t l =
+    let u : (eqb e 0 and eqb x 0) ≡ true = sym (pick-false _ _ (le-ltb _ _ l)) ∙ t in
+    (eqb-true e 0 (and-left _ _ u), eqb-true x 0 (and-right _ _ u))
+
+pub records-are : (n : ℕ) (b : List ℕ) → ((i : ℕ) → 2 * n ≤ i → word b i ≡ 0) → areRecords n b ≡ true
+unfolding areRecords
+records-are n b h =
+    and-true (record-is n 0 _ _ (λ l. (h 0 (omega arith), h 1 (omega arith))))
+    (and-true (record-is n 1 _ _ (λ l. (h 2 (omega arith), h 3 (omega arith))))
+    (and-true (record-is n 2 _ _ (λ l. (h 4 (omega arith), h 5 (omega arith)))) (record-is n 3 _ _ (λ l. (h 6 (omega arith), h 7 (omega arith))))))
+
+pub zero-behind : (n : ℕ) (w : List ℕ) → areRecords n (burstOf w) ≡ true → (i : ℕ) → 2 * n ≤ i → word (burstOf w) i ≡ 0
+unfolding areRecords
+zero-behind n w t zero l = record-zero n 0 _ _ (and-left _ _ t) (omega arith) .0
+zero-behind n w t (suc zero) l = record-zero n 0 _ _ (and-left _ _ t) (omega arith) .1
+zero-behind n w t (suc (suc zero)) l = record-zero n 1 _ _ (and-left _ _ (and-right _ _ t)) (omega arith) .0
+zero-behind n w t (suc (suc (suc zero))) l = record-zero n 1 _ _ (and-left _ _ (and-right _ _ t)) (omega arith) .1
+zero-behind n w t (suc (suc (suc (suc zero)))) l = record-zero n 2 _ _ (and-left _ _ (and-right _ _ (and-right _ _ t))) (omega arith) .0
+zero-behind n w t (suc (suc (suc (suc (suc zero))))) l = record-zero n 2 _ _ (and-left _ _ (and-right _ _ (and-right _ _ t))) (omega arith) .1
+zero-behind n w t (suc (suc (suc (suc (suc (suc zero)))))) l = record-zero n 3 _ _ (and-right _ _ (and-right _ _ (and-right _ _ t))) (omega arith) .0
+zero-behind n w t (suc (suc (suc (suc (suc (suc (suc zero))))))) l = record-zero n 3 _ _ (and-right _ _ (and-right _ _ (and-right _ _ t))) (omega arith) .1
+zero-behind n w t (suc (suc (suc (suc (suc (suc (suc (suc i)))))))) l = refl

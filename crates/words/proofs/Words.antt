@@ -1,29 +1,31 @@
--- The words of a device state are its own: `back`, `forth` and `other`, stated in specs/Words.antt. Assumes nothing.
-use Prim.Native.Nat.{ℕ}
+-- The words of a device state are its own: `back`, `forth`, `other` and `set-to-work`, stated in specs/Words.antt. Assumes nothing.
+use Prim.Native.Nat.{ℕ, _*_, _≤_}
 use mathlib.Core.Bool.{Bool, true, false}
 use mathlib.Core.List.{List, _∷_, _++_}
-use mathlib.Core.Path.{_≡_, refl, sym, ap}
+use mathlib.Core.Path.{_≡_, refl, sym, ap, subst}
 use lib.Dec.{leb}
 use lib.ListN.{length}
 use Rattle.model.proofs.TestLaws.{and-left, and-right, clash}
+use Rattle.model.specs.Device.{burstLength, withHandler}
 use Rattle.model.specs.Program.{word}
 use Rattle.model.specs.Test.{pick, _and_}
 use Rattle.model.specs.declared.Device.{Device}
-use Rattle.words.specs.Words.{Read, flag, placeWords, handlerWords, deviceWords}
-use Rattle.words.specs.Words.{isPlace, isHandler, known, unknown, isState, stateOf, deviceOf, HasWords, Back, Forth, Other}
+use Rattle.words.specs.Words.{Read, flag, placeWords, handlerWords, deviceWords, withBurst}
+use Rattle.words.specs.Words.{isPlace, isHandler, areRecords, known, unknown, isState, stateOf, deviceOf, HasWords, Back, Forth, Other, SetToWork}
 use Rattle.words.proofs.Parts.{spelt, spelt-all, place-spelt, handler-spelt}
 use Rattle.words.proofs.Parts.{flag-is, flag-back, flag-forth, place-is, place-back, place-forth}
-use Rattle.words.proofs.Parts.{handler-is, handler-back, handler-left, handler-forth}
+use Rattle.words.proofs.Parts.{handler-is, handler-back, handler-forth, handler-length, length-read, records-are, zero-behind}
 
 -- ---- back
 
--- 18 words, each written out
-abbrev written : Device → List ℕ
-written d =
-    flag (d .on)
-    ∷ (spelt (d .registers) 0 8 ++ (spelt (placeWords (d .place)) 0 5 ++ (d .count ∷ spelt (handlerWords (d .handler)) 0 3)))
+-- 26 words, each written out, with those of its place and its handler
+abbrev pub writtenWith : Device → ℕ → List ℕ → List ℕ → List ℕ
+writtenWith d on place handler = on ∷ (spelt (d .registers) 0 8 ++ (spelt place 0 5 ++ (d .count ∷ (spelt handler 0 3 ++ spelt (d .burst) 0 8))))
 
-written-all : (d : Device) → deviceWords d ≡ written d
+abbrev written : Device → List ℕ
+written d = writtenWith d (flag (d .on)) (placeWords (d .place)) (handlerWords (d .handler))
+
+pub written-all : (d : Device) → deviceWords d ≡ written d
 unfolding deviceWords spelt
 written-all d = sym (simp (place-spelt, handler-spelt))
 
@@ -36,26 +38,28 @@ back d h =
       flag-back,
       place-is,
       place-back,
-      handler-is (d .handler) (h .handler),
-      handler-back (d .handler) (h .handler),
+      handler-is,
+      handler-back,
+      records-are (word (handlerWords (d .handler)) 1) (d .burst) (λ i l. h .unused i (subst (λ (n : ℕ). 2 * n ≤ i) (handler-length (d .handler)) l)),
       spelt-all (d .registers) 8 (h .registers),
+      spelt-all (d .burst) 8 (h .burst),
     ))
 
 -- ---- forth
 
-state-forth : (w : List ℕ) → length w ≡ 18 → isState w ≡ true → deviceWords (stateOf w) ≡ w
+state-forth : (w : List ℕ) → length w ≡ 26 → isState w ≡ true → deviceWords (stateOf w) ≡ w
 unfolding deviceWords isState stateOf spelt
 state-forth w h e =
     let on = leb (word w 0) 1 in
     let place = isPlace (word w 9) (word w 10) (word w 11) (word w 12) (word w 13) in
     let handler = isHandler (word w 15) (word w 16) (word w 17) in
-    let rest : (place and handler) ≡ true = and-right on (place and handler) e in
+    let rest = and-right on _ e in
     simp (
-      flag-forth (word w 0) (and-left on (place and handler) e),
-      place-forth (word w 9) (word w 10) (word w 11) (word w 12) (word w 13) (and-left place handler rest),
-      handler-forth (word w 15) (word w 16) (word w 17) (and-right place handler rest),
+      flag-forth (word w 0) (and-left on _ e),
+      place-forth (word w 9) (word w 10) (word w 11) (word w 12) (word w 13) (and-left place _ rest),
+      handler-forth (word w 15) (word w 16) (word w 17) (and-left handler _ (and-right place _ rest)),
     )
-    (spelt-all w 18 h)
+    (spelt-all w 26 h)
 
 pub forth : Forth
 unfolding deviceOf pick
@@ -74,7 +78,12 @@ unfolding isState stateOf
 state-has w e =
     record {
       registers = refl;
-      handler = handler-left (word w 15) (word w 16) (word w 17) (and-right _ _ (and-right _ _ e));
+      burst = refl;
+      unused =
+          λ i l.
+          let rest = and-right _ _ (and-right _ _ e) in
+          let length-is = length-read (word w 15) (word w 16) (word w 17) (and-left _ _ rest) in
+          zero-behind (word w 16) w (and-right _ _ rest) i (subst (λ (n : ℕ). 2 * n ≤ i) length-is l);
     }
 
 pub other : Other
@@ -84,3 +93,16 @@ other w h apart = go (isState w) refl
     go : (b : Bool) → isState w ≡ b → deviceOf w ≡ unknown
     go true t = absurd (apart (stateOf w) (state-has w t) (state-forth w h t))
     go false t = simp t
+
+-- ---- set to work
+
+pub set-to-work : SetToWork
+unfolding deviceWords withBurst withHandler handlerWords isState stateOf
+set-to-work w n b e =
+    let on = leb (word w 0) 1 in
+    let place = isPlace (word w 9) (word w 10) (word w 11) (word w 12) (word w 13) in
+    let rest = and-right on _ e in
+    simp (
+      flag-forth (word w 0) (and-left on _ e),
+      place-forth (word w 9) (word w 10) (word w 11) (word w 12) (word w 13) (and-left place _ rest),
+    )

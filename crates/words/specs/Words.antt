@@ -1,14 +1,15 @@
 -- Device states, answers and refusals as words, for a boundary that no enum crosses; include/runtime.h has the forms for C.
 -- What a case doesn't have is 0. A refusal's number and place are those of the model's Answer.antt. Words that aren't the words
 -- of some device state stand for none: `Back`, `Forth` and `Other` say that a device state has one form. Assumes nothing.
-use Prim.Native.Nat.{ℕ, _+_, _-_, _<_}
+use Prim.Native.Nat.{ℕ}
 use mathlib.Core.Bool.{Bool, true, false}
 use mathlib.Core.List.{List, [], _∷_, _++_}
 use mathlib.Core.Path.{_≡_}
 use lib.Dec.{eqb, leb, ltb}
 use lib.ListN.{length}
 use Rattle.model.specs.Answer.{refusal}
-use Rattle.model.specs.Device.{off}
+use Rattle.model.specs.Claims.{ZeroBehind}
+use Rattle.model.specs.Device.{off, withHandler}
 use Rattle.model.specs.Program.{word}
 use Rattle.model.specs.Test.{pick, _and_}
 use Rattle.model.specs.declared.Answer.{Answer}
@@ -23,7 +24,7 @@ use Rattle.model.specs.declared.Place.the-variants.{Free, Run, Half}
 use Rattle.model.specs.declared.Refusal.{Refusal}
 use Rattle.model.specs.declared.Stored.{Stored}
 
--- ---- A device state as 18 words
+-- ---- A device state as 26 words
 
 -- a test is a word, 1 or 0
 unfoldable pub flag : Bool → ℕ
@@ -45,27 +46,27 @@ placeWords (Free c) = 0 ∷ 0 ∷ 0 ∷ 0 ∷ c ∷ []
 placeWords (Run b j c) = 1 ∷ kind b ∷ number b ∷ j ∷ c ∷ []
 placeWords (Half b j) = 2 ∷ kind b ∷ number b ∷ j ∷ 0 ∷ []
 
--- the number of a handler's next store, 1 to 3, where c are made (0 is a handler at rest); 4, which no device state has, where all are
-unfoldable pub nextWord : ℕ → ℕ
-nextWord c = pick (ltb c 3) (c + 1) 4
-
-abbrev pub StoreLeft : Handler → Type 0
-StoreLeft Resting = Unit {0}
-StoreLeft (Storing c e x) = c < 3
-
--- words 15 to 17: at rest or the next store; its event; its data
+-- words 15 to 17: at rest or at work; the length of its burst; how many of its stores are made
 unfoldable pub handlerWords : Handler → List ℕ
 handlerWords Resting = 0 ∷ 0 ∷ 0 ∷ []
-handlerWords (Storing c e x) = nextWord c ∷ e ∷ x ∷ []
+handlerWords (Storing n c) = 1 ∷ n ∷ c ∷ []
 
--- word 0: on; words 1 to 8: the registers; word 14: the log count
+-- word 0: on; words 1 to 8: the registers; word 14: the log count; words 18 to 25: the burst
 unfoldable pub deviceWords : Device → List ℕ
 deviceWords d =
     let r = d .registers in
+    let b = d .burst in
     (flag (d .on) ∷ word r 0 ∷ word r 1 ∷ word r 2 ∷ word r 3 ∷ word r 4 ∷ word r 5 ∷ word r 6 ∷ word r 7 ∷ placeWords (d .place))
-    ++ (d .count ∷ handlerWords (d .handler))
+    ++ (d .count ∷ (handlerWords (d .handler) ++ (word b 0 ∷ word b 1 ∷ word b 2 ∷ word b 3 ∷ word b 4 ∷ word b 5 ∷ word b 6 ∷ word b 7 ∷ [])))
 
--- ---- 18 words as a device state
+-- of a device's words w, those with its handler set to work on a burst of n records with the words b: words 15 to 25 become others
+unfoldable pub withBurst : List ℕ → ℕ → List ℕ → List ℕ
+withBurst w n b =
+    (word w 0 ∷ word w 1 ∷ word w 2 ∷ word w 3 ∷ word w 4 ∷ word w 5 ∷ word w 6 ∷ word w 7 ∷ word w 8 ∷ [])
+    ++ (word w 9 ∷ word w 10 ∷ word w 11 ∷ word w 12 ∷ word w 13 ∷ word w 14 ∷ 1 ∷ n ∷ 0 ∷ [])
+    ++ (word b 0 ∷ word b 1 ∷ word b 2 ∷ word b 3 ∷ word b 4 ∷ word b 5 ∷ word b 6 ∷ word b 7 ∷ [])
+
+-- ---- 26 words as a device state
 
 -- the body of its two words
 unfoldable pub bodyOf : ℕ → ℕ → Body
@@ -81,10 +82,25 @@ isPlace p k n j c =
 
 -- the handler of words 15 to 17, and whether they are the words of a handler
 unfoldable pub handlerOf : ℕ → ℕ → ℕ → Handler
-handlerOf h e x = pick (eqb h 0) Resting (Storing (h - 1) e x)
+handlerOf h n c = pick (eqb h 0) Resting (Storing n c)
 
 unfoldable pub isHandler : ℕ → ℕ → ℕ → Bool
-isHandler h e x = pick (eqb h 0) (eqb e 0 and eqb x 0) (leb h 3)
+isHandler h n c = pick (eqb h 0) (eqb n 0 and eqb c 0) (eqb h 1)
+
+-- the two words of record i beside a burst of n records: behind the last one they are 0
+unfoldable pub isRecord : ℕ → ℕ → ℕ → ℕ → Bool
+isRecord n i e x = pick (ltb i n) true (eqb e 0 and eqb x 0)
+
+unfoldable pub areRecords : ℕ → List ℕ → Bool
+areRecords n b =
+    isRecord n 0 (word b 0) (word b 1)
+    and isRecord n 1 (word b 2) (word b 3)
+    and isRecord n 2 (word b 4) (word b 5)
+    and isRecord n 3 (word b 6) (word b 7)
+
+-- words 18 to 25
+abbrev pub burstOf : List ℕ → List ℕ
+burstOf w = word w 18 ∷ word w 19 ∷ word w 20 ∷ word w 21 ∷ word w 22 ∷ word w 23 ∷ word w 24 ∷ word w 25 ∷ []
 
 -- what reading finds: a device state, or none, with the off value in its place
 pub record Read : Type 0 where
@@ -97,12 +113,13 @@ known d = record { found = true; device = d }
 abbrev pub unknown : Read
 unknown = record { found = false; device = off }
 
--- the device state of 18 words, and whether they are the words of one
+-- the device state of 26 words, and whether they are the words of one
 unfoldable pub isState : List ℕ → Bool
 isState w =
     leb (word w 0) 1
     and isPlace (word w 9) (word w 10) (word w 11) (word w 12) (word w 13)
     and isHandler (word w 15) (word w 16) (word w 17)
+    and areRecords (word w 16) (burstOf w)
 
 unfoldable pub stateOf : List ℕ → Device
 stateOf w =
@@ -112,28 +129,34 @@ stateOf w =
       place = placeOf (word w 9) (word w 10) (word w 11) (word w 12) (word w 13);
       count = word w 14;
       handler = handlerOf (word w 15) (word w 16) (word w 17);
+      burst = burstOf w;
     }
 
 -- the device state whose words these are, if there is one
 unfoldable pub deviceOf : List ℕ → Read
 deviceOf w = pick (isState w) (known (stateOf w)) unknown
 
--- a device state that has words: eight registers, and a handler at work has one of its three stores to make
+-- a device state that has words: eight registers, and eight words of a burst with zeros behind its records
 pub record HasWords (d : Device) : Type 0 where
   pub registers : length (d .registers) ≡ 8
-  pub handler : StoreLeft (d .handler)
+  pub burst : length (d .burst) ≡ 8
+  pub unused : ZeroBehind (d .handler) (d .burst)
 
 -- a device state is read back from its words, so no two states share their words
 abbrev pub Back : Type 0
 Back = (d : Device) → HasWords d → deviceOf (deviceWords d) ≡ known d
 
--- 18 words that are read as a device state are its words
+-- 26 words that are read as a device state are its words
 abbrev pub Forth : Type 0
-Forth = (w : List ℕ) (d : Device) → length w ≡ 18 → deviceOf w ≡ known d → deviceWords d ≡ w
+Forth = (w : List ℕ) (d : Device) → length w ≡ 26 → deviceOf w ≡ known d → deviceWords d ≡ w
 
--- 18 words that are no device state's are read as none
+-- 26 words that are no device state's are read as none
 abbrev pub Other : Type 0
-Other = (w : List ℕ) → length w ≡ 18 → ((d : Device) → HasWords d → deviceWords d ≡ w → ⊥) → deviceOf w ≡ unknown
+Other = (w : List ℕ) → length w ≡ 26 → ((d : Device) → HasWords d → deviceWords d ≡ w → ⊥) → deviceOf w ≡ unknown
+
+-- the words of a device state with its handler set to work are that device's
+abbrev pub SetToWork : Type 0
+SetToWork = (w : List ℕ) (n : ℕ) (b : List ℕ) → isState w ≡ true → deviceWords (withHandler (stateOf w) (Storing n 0) b) ≡ withBurst w n b
 
 -- ---- Answers as 5 words: case, kind of body, number (of the body or of the refusal), place (two words)
 

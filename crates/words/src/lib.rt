@@ -1,8 +1,8 @@
 // Device states, answers and refusals as words and back, for a boundary that no enum crosses. specs/Words.antt has both tables.
-// Every contract is an equation for all inputs: of 18 words it is told whether they are a device state's.
+// Every contract is an equation for all inputs: of 26 words it is told whether they are a device state's.
 ghost use mathlib.Core.Path.{_≡_};
-ghost use Rattle.words.specs.Words.{flag, kind, number, placeWords, nextWord, handlerWords, deviceWords};
-ghost use Rattle.words.specs.Words.{bodyOf, placeOf, isPlace, handlerOf, isHandler, isState, stateOf};
+ghost use Rattle.words.specs.Words.{flag, kind, number, placeWords, handlerWords, deviceWords, withBurst};
+ghost use Rattle.words.specs.Words.{bodyOf, placeOf, isPlace, handlerOf, isHandler, isRecord, areRecords, burstOf, isState, stateOf};
 ghost use Rattle.words.specs.Words.{refusedWords, answerWords, endedWords, checkedWords, unknownWords, nothingPostedWords};
 ghost use Rattle.words.specs.Words.{storedNumber, stepWords, unknownStepWords};
 use model::Answer;
@@ -15,7 +15,7 @@ use model::Place;
 use model::Refusal;
 use model::Stored;
 
-// ---- A device state as 18 words
+// ---- A device state as 26 words
 
 // Word 0.
 fn flag(on: bool) -> u16
@@ -54,30 +54,24 @@ fn place_words(place: Place) -> [u16; 5]
     }
 }
 
-// The number of a handler's next store, where so many are made: 1 to 3, and 4 where all are.
-fn next_word(made: u16) -> u16
-    ensures { λ r. ⌜ r ≡ nextWord made ⌝ }
-{
-    if made < 3 { made + 1 } else { 4 }
-}
-
 // Words 15 to 17.
 fn handler_words(handler: Handler) -> [u16; 3]
     ensures { λ r. ⌜ r ≡ handlerWords handler ⌝ }
 {
     match handler {
         Handler::Resting => [0, 0, 0],
-        Handler::Storing(made, event, datum) => [next_word(made), event, datum],
+        Handler::Storing(length, made) => [1, length, made],
     }
 }
 
 // The words of a device state.
-pub fn write_device(words: &mut [u16; 18], device: Device)
+pub fn write_device(words: &mut [u16; 26], device: Device)
     ensures { λ _. ⌜ now (words .exit) ≡ deviceWords device ⌝ }
 {
     let registers = device.registers;
     let place = device.place;
     let handler = device.handler;
+    let burst = device.burst;
     let place_words = place_words(place);
     let handler_words = handler_words(handler);
     *words = [
@@ -99,10 +93,52 @@ pub fn write_device(words: &mut [u16; 18], device: Device)
         handler_words[0],
         handler_words[1],
         handler_words[2],
+        burst[0],
+        burst[1],
+        burst[2],
+        burst[3],
+        burst[4],
+        burst[5],
+        burst[6],
+        burst[7],
     ];
 }
 
-// ---- 18 words as a device state
+// The words of a device state whose handler is set to work on a burst of so many records: all but words 15 to 25 stay.
+pub fn with_burst(words: &[u16; 26], length: u16, burst: [u16; 8]) -> [u16; 26]
+    ensures { λ r. ⌜ r ≡ withBurst (now (words .entry)) length burst ⌝ }
+{
+    [
+        words[0],
+        words[1],
+        words[2],
+        words[3],
+        words[4],
+        words[5],
+        words[6],
+        words[7],
+        words[8],
+        words[9],
+        words[10],
+        words[11],
+        words[12],
+        words[13],
+        words[14],
+        1,
+        length,
+        0,
+        burst[0],
+        burst[1],
+        burst[2],
+        burst[3],
+        burst[4],
+        burst[5],
+        burst[6],
+        burst[7],
+    ]
+}
+
+// ---- 26 words as a device state
 
 // The body of its two words.
 fn body_of(kind: u16, number: u16) -> Body
@@ -153,29 +189,58 @@ fn is_place(place: u16, kind: u16, number: u16, instruction: u16, made: u16) -> 
 }
 
 // The handler of words 15 to 17, and whether they are the words of a handler.
-fn handler_of(next: u16, event: u16, datum: u16) -> Handler
-    ensures { λ r. ⌜ r ≡ handlerOf next event datum ⌝ }
+fn handler_of(work: u16, length: u16, made: u16) -> Handler
+    ensures { λ r. ⌜ r ≡ handlerOf work length made ⌝ }
 {
-    if next == 0 {
+    if work == 0 {
         return Handler::Resting;
     }
-    Handler::Storing(next - 1, event, datum)
+    Handler::Storing(length, made)
 }
 
-fn is_handler(next: u16, event: u16, datum: u16) -> bool
-    ensures { λ r. ⌜ r ≡ isHandler next event datum ⌝ }
+fn is_handler(work: u16, length: u16, made: u16) -> bool
+    ensures { λ r. ⌜ r ≡ isHandler work length made ⌝ }
 {
-    if next == 0 {
-        if event != 0 {
+    if work == 0 {
+        if length != 0 {
             return false;
         }
-        return datum == 0;
+        return made == 0;
     }
-    next <= 3
+    work == 1
 }
 
-// The device state of 18 words, and whether they are the words of one.
-pub fn is_state(words: &[u16; 18]) -> bool
+// The two words of a record beside a burst of so many: behind the last one they are 0.
+fn is_record(length: u16, number: u16, event: u16, datum: u16) -> bool
+    ensures { λ r. ⌜ r ≡ isRecord length number event datum ⌝ }
+{
+    if number < length {
+        return true;
+    }
+    if event != 0 {
+        return false;
+    }
+    datum == 0
+}
+
+// Words 18 to 25, beside a burst of so many records.
+fn are_records(words: &[u16; 26], length: u16) -> bool
+    ensures { λ r. ⌜ r ≡ areRecords length (burstOf (now (words .entry))) ⌝ }
+{
+    if !is_record(length, 0, words[18], words[19]) {
+        return false;
+    }
+    if !is_record(length, 1, words[20], words[21]) {
+        return false;
+    }
+    if !is_record(length, 2, words[22], words[23]) {
+        return false;
+    }
+    is_record(length, 3, words[24], words[25])
+}
+
+// The device state of 26 words, and whether they are the words of one.
+pub fn is_state(words: &[u16; 26]) -> bool
     ensures { λ r. ⌜ r ≡ isState (now (words .entry)) ⌝ }
 {
     if words[0] > 1 {
@@ -184,10 +249,13 @@ pub fn is_state(words: &[u16; 18]) -> bool
     if !is_place(words[9], words[10], words[11], words[12], words[13]) {
         return false;
     }
-    is_handler(words[15], words[16], words[17])
+    if !is_handler(words[15], words[16], words[17]) {
+        return false;
+    }
+    are_records(words, words[16])
 }
 
-pub fn state_of(words: &[u16; 18]) -> Device
+pub fn state_of(words: &[u16; 26]) -> Device
     ensures { λ d. ⌜ d ≡ stateOf (now (words .entry)) ⌝ }
 {
     let registers = [
@@ -200,6 +268,16 @@ pub fn state_of(words: &[u16; 18]) -> Device
         words[7],
         words[8],
     ];
+    let burst = [
+        words[18],
+        words[19],
+        words[20],
+        words[21],
+        words[22],
+        words[23],
+        words[24],
+        words[25],
+    ];
     let place = place_of(words[9], words[10], words[11], words[12], words[13]);
     let handler = handler_of(words[15], words[16], words[17]);
     Device {
@@ -208,6 +286,7 @@ pub fn state_of(words: &[u16; 18]) -> Device
         place,
         count: words[14],
         handler,
+        burst,
     }
 }
 
@@ -225,7 +304,7 @@ fn refused_words(why: Refusal) -> [u16; 5]
         Refusal::Instruction(body, instruction) => [6, 0, 5, body, instruction],
         Refusal::StoreContents => [6, 0, 6, 0, 0],
         Refusal::Control(word) => [6, 0, 7, word, 0],
-        Refusal::NoEvent => [6, 0, 8, 0, 0],
+        Refusal::NoEvent(position) => [6, 0, 8, position, 0],
         Refusal::StoreSize => [6, 0, 9, 0, 0],
         Refusal::HandlerBusy => [6, 0, 20, 0, 0],
         Refusal::QueueFull => [6, 0, 21, 0, 0],
@@ -237,6 +316,7 @@ fn refused_words(why: Refusal) -> [u16; 5]
         Refusal::LinesRow(row) => [6, 0, 30, row, 0],
         Refusal::LinesGap(line, level) => [6, 0, 31, line, level],
         Refusal::LinesOverlap(line, level) => [6, 0, 32, line, level],
+        Refusal::BurstLength => [6, 0, 33, 0, 0],
     }
 }
 

@@ -54,8 +54,8 @@ returns-2 c =
       c .before .before .before .before .write-totals .ensures
           ∙ ap totalsWords
           (c .before .before .before .before .before .before .counted .ensures
-          ∙ ap (λ (x : Totals). countedFrom x (r .answer) (r .stored)) (c .before .before .before .before .before .before .before .totals-of .ensures)
-          ∙ counted-as-told _ _ _ t (c .before .before .before .before .before .before .before .before .before .before .before .before .step .ensures)),
+          ∙ ap (λ (x : Totals). countedFrom x (c .before .before .before .before .before .before .before .before .before .before .before .before .before .before .state-of .result .handler) (r .answer) (r .stored)) (c .before .before .before .before .before .before .before .totals-of .ensures)
+          ∙ counted-as-told _ _ _ _ t (c .before .before .before .before .before .before .before .before .before .before .before .before .step .ensures)),
     )
 
 pub runtime-step-spec : {M : Type 1} → statement M

@@ -1,5 +1,5 @@
 -- `step` meets its contract: a walk of its MIR, since the totals lie behind a reference. The program, the lent words and the device
--- go to the runtime's `step`, the reference to the totals with the answer and the word stored to `count`, each borrow at its own lifetime and for good.
+-- go to the runtime's `step`, the reference to the totals with the handler, the answer and the word stored to `count`, each borrow at its own lifetime and for good.
 -- All that the walk knows of the two is that each meets its contract. Assumes nothing.
 use Prim.Native.Nat.{ℕ}
 use mathlib.Core.List.{List, [], _∷_}
@@ -43,12 +43,15 @@ use Rattle.model.proofs.Answer as answer
 use Rattle.model.proofs.Answer.Laws as answer-laws
 use Rattle.model.proofs.Device as device
 use Rattle.model.proofs.Device.Laws as device-laws
+use Rattle.model.proofs.Handler as handler
+use Rattle.model.proofs.Handler.Laws as handler-laws
 use Rattle.model.proofs.Stored as stored
 use Rattle.model.proofs.Stored.Laws as stored-laws
 use Rattle.model.proofs.Totals as totals
 use Rattle.model.specs.Device.{step}
 use Rattle.model.specs.declared.Answer.{Answer}
 use Rattle.model.specs.declared.Device.{Device}
+use Rattle.model.specs.declared.Handler.{Handler}
 use Rattle.model.specs.declared.Stored.{Stored}
 use Rattle.model.specs.declared.Totals.{Totals}
 use Rattle.device.proofs.CallResult as result
@@ -86,6 +89,9 @@ deviceVal d = struct.val device.the-type device-laws.the-laws d
 
 abbrev sliceOf : RefT (List ℕ) → Val
 sliceOf x = sliceVal (x .ptr) (length (x .now))
+
+abbrev handlerVal : Handler → Val
+handlerVal h = enum.val handler.the-type handler-laws.the-laws h
 
 abbrev answerVal : Answer → Val
 answerVal a = enum.val answer.the-type answer-laws.the-laws a
@@ -139,21 +145,21 @@ module _ {M : Type 1} (𝓤 : URA M) (H : Heap 𝓤) (A : Atoms 𝓤) (W : Given
 
     -- what `count` is called with
     abbrev to-count : Answer → Stored → Count .Ghost
-    to-count a w = (((κt, tt), (qt, tt), tt, (t, (a, (w, tt))), (refOf t ∷ [], (answerVal a ∷ [], (storedVal w ∷ [], tt)))), tt)
+    to-count a w = (((κt, tt), (qt, tt), tt, (t, (d .handler, (a, (w, tt)))), (refOf t ∷ [], (handlerVal (d .handler) ∷ [], (answerVal a ∷ [], (storedVal w ∷ [], tt))))), tt)
 
-    goes-count : (a : Answer) (w : Stored) → ent 𝓤 (onEntry 𝓤 H A count.signature (κt, tt) (qt, tt) (t, (a, (w, tt))) (refOf t ∷ [], (answerVal a ∷ [], (storedVal w ∷ [], tt)))) (Count .pre (to-count a w))
+    goes-count : (a : Answer) (w : Stored) → ent 𝓤 (onEntry 𝓤 H A count.signature (κt, tt) (qt, tt) (t, (d .handler, (a, (w, tt)))) (refOf t ∷ [], (handlerVal (d .handler) ∷ [], (answerVal a ∷ [], (storedVal w ∷ [], tt))))) (Count .pre (to-count a w))
     goes-count a w =
-        qed W ((‵ (flft κt qt) ⊛ ‵ ftrue) ∷ ‵ (owns (MutRef (named 0) κt totals.the-row ∷ answer.the-row ∷ stored.the-row ∷ []) (t, (a, (w, tt))) (refOf t ∷ [], (answerVal a ∷ [], (storedVal w ∷ [], tt)))) ∷ []) ∵
+        qed W ((‵ (flft κt qt) ⊛ ‵ ftrue) ∷ ‵ (owns (MutRef (named 0) κt totals.the-row ∷ handler.the-row ∷ answer.the-row ∷ stored.the-row ∷ []) (t, (d .handler, (a, (w, tt)))) (refOf t ∷ [], (handlerVal (d .handler) ∷ [], (answerVal a ∷ [], (storedVal w ∷ [], tt))))) ∷ []) ∵
         join ! $ frame ! $ done !
 
     -- at exit the words are z and the totals t′
-    exits : (r : CallResult) (z : List ℕ) (t′ : Totals) → Performed r z → t′ ≡ countedFrom (t .now) (r .answer) (r .stored) → length z ≡ length (s .now)
+    exits : (r : CallResult) (z : List ℕ) (t′ : Totals) → Performed r z → t′ ≡ countedFrom (t .now) (d .handler) (r .answer) (r .stored) → length z ≡ length (s .now)
         → ent 𝓤 (⋆ 𝓤 H A ((‵ (flft κp qp) ⊛ ‵ (flft κs qs) ⊛ ‵ ftrue) ∷ (‵ (flft κt qt) ⊛ ‵ ftrue) ∷ ‵ (finally u16 (s .name) z) ∷ ‵ (fres (t .name) (totals.the-row .coded .code t′)) ∷ ‵ (result.the-row .own r (resultVal r ∷ [])) ∷ []))
         (Post (resultVal r))
     exits r z t′ e e′ l =
         qed W ((‵ (flft κp qp) ⊛ ‵ (flft κs qs) ⊛ ‵ ftrue) ∷ (‵ (flft κt qt) ⊛ ‵ ftrue) ∷ ‵ (finally u16 (s .name) z) ∷ ‵ (fres (t .name) (totals.the-row .coded .code t′)) ∷ ‵ (result.the-row .own r (resultVal r ∷ [])) ∷ []) ∵
         suffices ! _ (ends-at 𝓤 H A this.ended stayed (this.clauses 𝓤 H A at-mem run) W (((κp, (κs, (κt, tt))), (qp, (qs, (qt, tt))), tt, args, vals), tt) (resultVal r) r (tt, (z, (tt, (t′, tt)))) (tt, (l, (tt, (tt, tt))))) $
-        says ! (record { performs = e; totals = e′ ∙ counted-as-told (s .now) (step (p .now) (s .now) d) (ofCall r z) (t .now) e }) $
+        says ! (record { performs = e; totals = e′ ∙ counted-as-told (s .now) (d .handler) (step (p .now) (s .now) d) (ofCall r z) (t .now) e }) $
         -- the tokens
         split ! $ move ! (1 ∷ []) $ split ! $ move ! (0 ∷ 3 ∷ []) $ join ! $ move ! (2 ∷ 0 ∷ []) $ join ! $ frame ! $
         -- [..; the last words; the last totals; the result]
@@ -189,12 +195,13 @@ module _ {M : Type 1} (𝓤 : URA M) (H : Heap 𝓤) (A : Atoms 𝓤) (W : Given
           assigns ! (addr ! (from ! (hop ! (look ! 14 refl) (stop !)))) (from ! (stop !)) (init ! 4 refl (tt, tt)) $
           -- `count`
           nothing ! $ owned ! stored.the-row (Is stored.the-row) (enum.makes stored.the-type stored-laws.the-plain 𝓤 H A) (r .stored) _ (struct.owed result.the-type result-laws.the-laws r _ is .1 .0) $ fjoin ! $
-          owned ! answer.the-row (Is answer.the-row) (enum.makes answer.the-type answer-laws.the-plain 𝓤 H A) (r .answer) _ (struct.owed result.the-type result-laws.the-laws r _ is .0) $ fjoin ! $ move ! (25 ∷ 0 ∷ []) $ fjoin ! $
+          owned ! answer.the-row (Is answer.the-row) (enum.makes answer.the-type answer-laws.the-plain 𝓤 H A) (r .answer) _ (struct.owed result.the-type result-laws.the-laws r _ is .0) $ fjoin ! $
+          owned ! handler.the-row (Is handler.the-row) (enum.makes handler.the-type handler-laws.the-plain 𝓤 H A) (d .handler) _ (struct.owed device.the-type device-laws.the-laws d _ is-device .1 .1 .1 .1 .0) $ fjoin ! $ move ! (25 ∷ 0 ∷ []) $ fjoin ! $
           move ! (25 ∷ 26 ∷ 0 ∷ []) $ join ! $ use2 W (raw (Count .pre (to-count (r .answer) (r .stored)))) (goes-count (r .answer) (r .stored)) $
-          calls-at ! fm Count known-count (to-count (r .answer) (r .stored)) (and-then ! (load ! (from ! (stop !)) (look ! 5 refl)) (and-then ! (load ! (from ! (fld ! refl (stop !))) (look-in ! 13 (sub ! 0 refl (whole !)))) (and-then ! (load ! (from ! (fld ! refl (stop !))) (look-in ! 13 (sub ! 1 refl (whole !)))) (no-more !)))) (λ w.
-          use1 W (later (some (λ (n : Unit {0}). ((‵ (flft κt qt) ⊛ ‵ ftrue) ⊛ ‵ (unit .own n (w ∷ []))) ⊛ raw (ensured 𝓤 H A count.ended (count.clauses 𝓤 H A at-mem run) (κt, tt) (t, (r .answer, (r .stored, tt))) tt n)))) (id⊢ 𝓤 _) $ await ! tt $ pick ! (λ n.
-          split ! $ move ! (1 ∷ []) $ use1 W (some (λ (ts : Totals × (Unit {0} × (Unit {0} × Unit {0}))). ‵ (lasts count.ended (κt, tt) (t, (r .answer, (r .stored, tt))) ts) ⊛ raw (fact 𝓤 (ts .0 ≡ countedFrom (t .now) (r .answer) (r .stored))))) (id⊢ 𝓤 _) $ pick ! (λ ts.
-          split ! $ move ! (1 ∷ []) $ heard ! (ts .0 ≡ countedFrom (t .now) (r .answer) (r .stored)) (λ e′. fsplit ! $
+          calls-at ! fm Count known-count (to-count (r .answer) (r .stored)) (and-then ! (load ! (from ! (stop !)) (look ! 5 refl)) (and-then ! (load ! (from ! (fld ! refl (stop !))) (look-in ! 17 (sub ! 4 refl (whole !)))) (and-then ! (load ! (from ! (fld ! refl (stop !))) (look-in ! 13 (sub ! 0 refl (whole !)))) (and-then ! (load ! (from ! (fld ! refl (stop !))) (look-in ! 13 (sub ! 1 refl (whole !)))) (no-more !))))) (λ w.
+          use1 W (later (some (λ (n : Unit {0}). ((‵ (flft κt qt) ⊛ ‵ ftrue) ⊛ ‵ (unit .own n (w ∷ []))) ⊛ raw (ensured 𝓤 H A count.ended (count.clauses 𝓤 H A at-mem run) (κt, tt) (t, (d .handler, (r .answer, (r .stored, tt)))) tt n)))) (id⊢ 𝓤 _) $ await ! tt $ pick ! (λ n.
+          split ! $ move ! (1 ∷ []) $ use1 W (some (λ (ts : Totals × (Unit {0} × (Unit {0} × (Unit {0} × Unit {0})))). ‵ (lasts count.ended (κt, tt) (t, (d .handler, (r .answer, (r .stored, tt)))) ts) ⊛ raw (fact 𝓤 (ts .0 ≡ countedFrom (t .now) (d .handler) (r .answer) (r .stored))))) (id⊢ 𝓤 _) $ pick ! (λ ts.
+          split ! $ move ! (1 ∷ []) $ heard ! (ts .0 ≡ countedFrom (t .now) (d .handler) (r .answer) (r .stored)) (λ e′. fsplit ! $
           move ! (2 ∷ []) $ split ! $ move ! (1 ∷ []) $ peeks ! unit (Is unit) (shows 𝓤 H A unit) n (w ∷ []) (λ is′.
           land ! (from ! (stop !)) (init ! 10 refl (nothing-lawful 𝓤 H A W .typed n _ is′ .0)) $
           -- [..; the token of t; the last totals; ..; what r owns; the tokens of p and s; the last words; ..; _9; ..; _8; ..; _7; ..; _6; ..; _5; ..; _4; ..; _3; ..; _2; ..; _1; ..; _0; ..]

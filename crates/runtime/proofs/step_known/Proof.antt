@@ -3,8 +3,8 @@ use mathlib.Core.Bool.{Bool, true, false, not}
 use mathlib.Core.Logic.{⊎-elim}
 use mathlib.Core.Path.{_≡_, refl, sym, ap, _∙_}
 use denote.Ref.{now}
-use Rattle.device.specs.Result.{device, ofCore, ofOutcome}
-use Rattle.device.specs.declared.CoreResult.{CoreResult}
+use Rattle.device.specs.Result.{deviceWith, ofStep, ofOutcome}
+use Rattle.device.specs.declared.StepResult.{StepResult}
 use Rattle.model.proofs.DeviceLaws.{step-goes, step-refused}
 use Rattle.model.proofs.Passed.{look-passed}
 use Rattle.model.proofs.TestLaws.{clash}
@@ -33,26 +33,26 @@ same-length c = search needs
 returns : tie.Need-returns
 unfolding settled storedWord
 returns c =
-    let s = now (c .before .before .before .before .before .before .before .before .before .before .args .store) in
-    let p = now (c .before .before .before .before .before .before .before .before .before .before .args .program) in
-    let d = device (c .before .before .before .before .before .before .before .before .before .before .args .core) (now (c .before .before .before .before .before .before .before .before .before .before .args .registers)) in
-    ap (λ (x : CoreResult). ofCore x (now (c .before .before .before .before .before .before .before .before .before .before .args .registers)) s) (c .refused .ensures) ∙ ap (λ (o : Outcome). ofOutcome s o) (sym (step-refused p s d (sym (c .before .before .before .before .look .ensures .0) ∙ c .before .before .found .given .1)))
+    let s = now (c .before .before .before .before .before .before .before .before .before .before .before .args .store) in
+    let p = now (c .before .before .before .before .before .before .before .before .before .before .before .args .program) in
+    let d = deviceWith (c .before .before .before .before .before .before .before .before .before .before .before .args .core) (now (c .before .before .before .before .before .before .before .before .before .before .before .args .registers)) (c .before .before .before .before .before .before .before .before .before .before .before .args .handler) (now (c .before .before .before .before .before .before .before .before .before .before .before .args .burst)) in
+    (ap (λ (x : StepResult). ofStep x (now (c .before .before .before .before .before .before .before .before .before .before .before .args .registers)) (now (c .before .before .before .before .before .before .before .before .before .before .before .args .burst)) s) (c .refused .ensures) ∙ ap (λ (o : Outcome). ofOutcome s o) (sym (step-refused p s d (sym (c .before .before .before .before .look .ensures .0) ∙ c .before .before .found .given .1))), c .before .before .before .before .before .before .before .before .before .before .before .pre .0)
 
 enum-told : tie.Need-enum-told
 enum-told c = search needs
 
 next-step-requires : tie.Need-next-step-requires
-next-step-requires c κs = look-passed _ _ _ (⊎-elim (λ h. sym (h .3 .ensures .0) ∙ h .5 .given .1) (λ h. c .before .before .before .before .before .pre (known-is _ (h .left))) (c .before .before .if1 .came))
+next-step-requires c κs = (look-passed _ _ _ (⊎-elim (λ h. sym (h .4 .ensures .0) ∙ h .6 .given .1) (λ h. c .before .before .before .before .before .before .pre .1 (known-is _ (h .left))) (c .before .before .before .if1 .came)), c .before .before .before .before .before .before .pre .0)
 
 same-length-2 : tie.Need-same-length-2
 same-length-2 c = search needs
 
 returns-2 : tie.Need-returns-2
 returns-2 c =
-    let s = now (c .before .before .before .before .before .before .before .before .args .store) in
-    let p = now (c .before .before .before .before .before .before .before .before .args .program) in
-    let d = device (c .before .before .before .before .before .before .before .before .args .core) (now (c .before .before .before .before .before .before .before .before .args .registers)) in
-    c .before .before .next-step .ensures ∙ ap (λ (o : Outcome). ofOutcome s o) (sym (step-goes p s d (⊎-elim (λ h. sym (h .3 .ensures .0) ∙ h .5 .given .1) (λ h. c .before .before .before .before .before .before .before .before .pre (known-is _ (h .left))) (c .before .before .before .before .before .if1 .came))))
+    let s = now (c .before .before .before .before .before .before .before .before .before .args .store) in
+    let p = now (c .before .before .before .before .before .before .before .before .before .args .program) in
+    let d = deviceWith (c .before .before .before .before .before .before .before .before .before .args .core) (now (c .before .before .before .before .before .before .before .before .before .args .registers)) (c .before .before .before .before .before .before .before .before .before .args .handler) (now (c .before .before .before .before .before .before .before .before .before .args .burst)) in
+    (c .before .before .next-step .ensures .0 ∙ ap (λ (o : Outcome). ofOutcome s o) (sym (step-goes p s d (⊎-elim (λ h. sym (h .4 .ensures .0) ∙ h .6 .given .1) (λ h. c .before .before .before .before .before .before .before .before .before .pre .1 (known-is _ (h .left))) (c .before .before .before .before .before .before .if1 .came)))), c .before .before .next-step .ensures .1)
 
 pub step-known-spec : {M : Type 1} → statement M
 step-known-spec =

@@ -1,5 +1,5 @@
 -- `count` meets its contract: a walk of its MIR, since the totals lie behind a reference. The borrow is opened, the totals are copied
--- out of it and passed to `counted` with the answer and the word stored, what `counted` returns is stored in their place, and the borrow is closed at it.
+-- out of it and passed to `counted` with the handler, the answer and the word stored, what `counted` returns is stored in their place, and the borrow is closed at it.
 -- All that the walk knows of `counted` is that it meets its contract. Assumes nothing.
 use Prim.Native.Nat.{ℕ}
 use mathlib.Core.List.{List, [], _∷_}
@@ -39,11 +39,14 @@ use denote.Triple.Table.{entered, cited}
 use denote.Triple.Walked.{says, Stays, stay-ref, stay-none, walkOf, AllGo, goes-ref, goes-none, Walks, ends-at, walked, walk-meets}
 use Rattle.model.proofs.Answer as answer
 use Rattle.model.proofs.Answer.Laws as answer-laws
+use Rattle.model.proofs.Handler as handler
+use Rattle.model.proofs.Handler.Laws as handler-laws
 use Rattle.model.proofs.Stored as stored
 use Rattle.model.proofs.Stored.Laws as stored-laws
 use Rattle.model.proofs.Totals as totals
 use Rattle.model.proofs.Totals.Laws as totals-laws
 use Rattle.model.specs.declared.Answer.{Answer}
+use Rattle.model.specs.declared.Handler.{Handler}
 use Rattle.model.specs.declared.Stored.{Stored}
 use Rattle.model.specs.declared.Totals.{Totals}
 use Rattle.totals.specs.Counted.{countedFrom}
@@ -56,13 +59,19 @@ use Rattle.totals.proofs.count.Code as code
 use Rattle.totals.proofs.count.Key.{name as #count}
 use Rattle.totals.proofs.count.Statement as stated
 
--- what the body still has of its parameters where it returns: the reference; of the answer and the word stored nothing is said
+-- what the body still has of its parameters where it returns: the reference; of the others nothing is said
 abbrev stayed : Stays (count.ended .signature .params) (count.ended .kept)
-stayed = (stay-ref (0 ∷ []) tt (plain (λ _. totals.the-row)), (stay-none (λ _. answer.the-row) yes, (stay-none (λ _. stored.the-row) yes, tt)))
+stayed = (
+  stay-ref (0 ∷ []) tt (plain (λ _. totals.the-row)),
+  (stay-none (λ _. handler.the-row) yes, (stay-none (λ _. answer.the-row) yes, (stay-none (λ _. stored.the-row) yes, tt))),
+)
 
--- the machine values of totals, of an answer and of a word stored
+-- the machine values of totals, of a handler, of an answer and of a word stored
 abbrev totalsVal : Totals → Val
 totalsVal t = struct.val totals.the-type totals-laws.the-laws t
+
+abbrev handlerVal : Handler → Val
+handlerVal h = enum.val handler.the-type handler-laws.the-laws h
 
 abbrev answerVal : Answer → Val
 answerVal a = enum.val answer.the-type answer-laws.the-laws a
@@ -74,6 +83,9 @@ module _ {M : Type 1} (𝓤 : URA M) (H : Heap 𝓤) (A : Atoms 𝓤) (W : Given
   totals-lawful : Lawful 𝓤 H A totals.the-row
   totals-lawful = struct.lawful totals.the-type totals-laws.the-laws 𝓤 H A W
 
+  handler-lawful : Lawful 𝓤 H A handler.the-row
+  handler-lawful = enum.lawful handler.the-type handler-laws.the-laws 𝓤 H A W tt
+
   answer-lawful : Lawful 𝓤 H A answer.the-row
   answer-lawful = enum.lawful answer.the-type answer-laws.the-laws 𝓤 H A W tt
 
@@ -84,22 +96,22 @@ module _ {M : Type 1} (𝓤 : URA M) (H : Heap 𝓤) (A : Atoms 𝓤) (W : Given
   abbrev Counted : Contract 𝓤
   Counted = tripleOf 𝓤 H A counted.signature (counted.spec 𝓤 H A at-mem run)
 
-  abbrev Ensured : Totals → Answer → Stored → Totals → SProp 𝓤
-  Ensured t a w r = ensured 𝓤 H A counted.ended (counted.clauses 𝓤 H A at-mem run) tt (t, (a, (w, tt))) tt r
+  abbrev Ensured : Totals → Handler → Answer → Stored → Totals → SProp 𝓤
+  Ensured t h a w r = ensured 𝓤 H A counted.ended (counted.clauses 𝓤 H A at-mem run) tt (t, (h, (a, (w, tt)))) tt r
 
-  learnt : (t : Totals) (a : Answer) (w : Stored) (r : Totals) → ent 𝓤 (Ensured t a w r) (fact 𝓤 (r ≡ countedFrom t a w))
-  learnt t a w r = exE 𝓤 _ (λ ws. snd∗ 𝓤 (sem 𝓤 H A (lasts counted.ended tt (t, (a, (w, tt))) ws)) (fact 𝓤 (r ≡ countedFrom t a w)))
+  learnt : (t : Totals) (h : Handler) (a : Answer) (w : Stored) (r : Totals) → ent 𝓤 (Ensured t h a w r) (fact 𝓤 (r ≡ countedFrom t h a w))
+  learnt t h a w r = exE 𝓤 _ (λ ws. snd∗ 𝓤 (sem 𝓤 H A (lasts counted.ended tt (t, (h, (a, (w, tt)))) ws)) (fact 𝓤 (r ≡ countedFrom t h a w)))
 
-  -- the reference to totals t, under the name γ at the lifetime κ, the answer a and the word stored w
-  module _ (κ : Lft) (q : Share) (b o : ℕ) (γ : GName) (t : Totals) (a : Answer) (w : Stored) (is-answer : Is answer.the-row a (answerVal a ∷ [])) (is-stored : Is stored.the-row w (storedVal w ∷ [])) where
-    abbrev args : RefT Totals × (Answer × (Stored × Unit {0}))
-    args = (record { ptr = (b, o); name = γ; now = t }, (a, (w, tt)))
+  -- the reference to totals t, under the name γ at the lifetime κ, the handler h, the answer a and the word stored w
+  module _ (κ : Lft) (q : Share) (b o : ℕ) (γ : GName) (t : Totals) (h : Handler) (a : Answer) (w : Stored) (is-handler : Is handler.the-row h (handlerVal h ∷ [])) (is-answer : Is answer.the-row a (answerVal a ∷ [])) (is-stored : Is stored.the-row w (storedVal w ∷ [])) where
+    abbrev args : RefT Totals × (Handler × (Answer × (Stored × Unit {0})))
+    args = (record { ptr = (b, o); name = γ; now = t }, (h, (a, (w, tt))))
 
-    -- the answer and the word, which are passed on
-    abbrev told-vals : List Val × (List Val × Unit {0})
-    told-vals = (answerVal a ∷ [], (storedVal w ∷ [], tt))
+    -- handler, answer and word, which are passed on
+    abbrev told-vals : List Val × (List Val × (List Val × Unit {0}))
+    told-vals = (handlerVal h ∷ [], (answerVal a ∷ [], (storedVal w ∷ [], tt)))
 
-    abbrev vals : List Val × (List Val × (List Val × Unit {0}))
+    abbrev vals : List Val × (List Val × (List Val × (List Val × Unit {0})))
     vals = (vptr b o ∷ [], told-vals)
 
     abbrev Post : Val → SProp 𝓤
@@ -107,69 +119,70 @@ module _ {M : Type 1} (𝓤 : URA M) (H : Heap 𝓤) (A : Atoms 𝓤) (W : Given
 
     -- what `counted` is called with
     abbrev to-counted : Counted .Ghost
-    to-counted = ((tt, tt, tt, (t, (a, (w, tt))), (totalsVal t ∷ [], told-vals)), tt)
+    to-counted = ((tt, tt, tt, (t, (h, (a, (w, tt)))), (totalsVal t ∷ [], told-vals)), tt)
 
-    goes-counted : ent 𝓤 (sep 𝓤 (sem 𝓤 H A (totals.the-row .own t (totalsVal t ∷ []))) (sem 𝓤 H A (owns (answer.the-row ∷ stored.the-row ∷ []) (a, (w, tt)) told-vals))) (Counted .pre to-counted)
+    goes-counted : ent 𝓤 (sep 𝓤 (sem 𝓤 H A (totals.the-row .own t (totalsVal t ∷ []))) (sem 𝓤 H A (owns (handler.the-row ∷ answer.the-row ∷ stored.the-row ∷ []) (h, (a, (w, tt))) told-vals))) (Counted .pre to-counted)
     goes-counted =
-        qed W (‵ (totals.the-row .own t (totalsVal t ∷ [])) ∷ ‵ (owns (answer.the-row ∷ stored.the-row ∷ []) (a, (w, tt)) told-vals) ∷ []) ∵
+        qed W (‵ (totals.the-row .own t (totalsVal t ∷ [])) ∷ ‵ (owns (handler.the-row ∷ answer.the-row ∷ stored.the-row ∷ []) (h, (a, (w, tt))) told-vals) ∷ []) ∵
         fjoin ! $ nothing ! $ join ! $ frame ! $ done !
 
     -- at exit the reference stands at r
-    exits : (r : Totals) → r ≡ countedFrom t a w
+    exits : (r : Totals) → r ≡ countedFrom t h a w
         → ent 𝓤 (sep 𝓤 (A .obs γ (totals.the-row .coded .code r)) (sep 𝓤 (A .bor κ (Body (mem totals.the-row) b o γ)) (A .lft κ q))) (Post vunit)
     exits r e =
         qed W (‵ (fobs γ (totals.the-row .coded .code r)) ∷ ‵ (fbor κ (Body (mem totals.the-row) b o γ)) ∷ ‵ (flft κ q) ∷ []) ∵
-        suffices ! _ (ends-at 𝓤 H A count.ended stayed (count.clauses 𝓤 H A at-mem run) W (((κ, tt), (q, tt), tt, args, vals), tt) vunit tt (r, (tt, (tt, tt))) (tt, (tt, (tt, tt)))) $
+        suffices ! _ (ends-at 𝓤 H A count.ended stayed (count.clauses 𝓤 H A at-mem run) W (((κ, tt), (q, tt), tt, args, vals), tt) vunit tt (r, (tt, (tt, (tt, tt)))) (tt, (tt, (tt, (tt, tt))))) $
         says ! e $ nothing ! $ move ! (3 ∷ 0 ∷ []) $ join ! $ frame ! $
         feqI ! (List Val) (vptr b o ∷ []) (vptr b o ∷ []) refl $ fjoin3 ! $ nothing ! $
         owned ! stored.the-row (Is stored.the-row) (enum.makes stored.the-type stored-laws.the-plain 𝓤 H A) w _ is-stored $ fjoin ! $
         owned ! answer.the-row (Is answer.the-row) (enum.makes answer.the-type answer-laws.the-plain 𝓤 H A) a _ is-answer $ fjoin ! $
+        owned ! handler.the-row (Is handler.the-row) (enum.makes handler.the-type handler-laws.the-plain 𝓤 H A) h _ is-handler $ fjoin ! $
         move ! (1 ∷ 0 ∷ []) $ fjoin ! $ feqI ! (List Val) (vunit ∷ []) (vunit ∷ []) refl $ move ! (1 ∷ 0 ∷ []) $ done !
 
     module _ (C : Calls 𝓤 H) (Λ : Loops 𝓤 H) (fm : FmC 𝓤 H (W .laws) C) (known : Triple 𝓤 (C #counted) Counted) where
-      walk : ent 𝓤 (onEntry 𝓤 H A count.signature (κ, tt) (q, tt) args vals) (WpFn 𝓤 H C Λ code.function (vptr b o ∷ answerVal a ∷ storedVal w ∷ []) Post)
+      walk : ent 𝓤 (onEntry 𝓤 H A count.signature (κ, tt) (q, tt) args vals) (WpFn 𝓤 H C Λ code.function (vptr b o ∷ handlerVal h ∷ answerVal a ∷ storedVal w ∷ []) Post)
       walk =
-          qed W ((‵ (flft κ q) ⊛ ‵ ftrue) ∷ ‵ (owns (MutRef (named 0) κ totals.the-row ∷ answer.the-row ∷ stored.the-row ∷ []) args vals) ∷ []) ∵
-          split ! $ move ! (2 ∷ []) $ fsplit ! $ move ! (1 ∷ []) $ fsplit ! $ move ! (1 ∷ []) $ fsplit ! $ move ! (3 ∷ []) $ fsplit3 ! $ drop ! $ move ! (0 ∷ 1 ∷ 5 ∷ 4 ∷ 2 ∷ []) $
-          -- [what observes the totals; the borrow; the token; what the answer and the word own; ..]
-          enter ! C Λ code.function (vptr b o ∷ answerVal a ∷ storedVal w ∷ []) _ $
-          alloc1 ! (λ l₀. alloc1 ! (λ l₁. alloc1 ! (λ l₂. alloc1 ! (λ l₃. alloc1 ! (λ l₄. alloc1 ! (λ l₅. alloc0 ! $ params1 ! $
-          pass1 ! (init ! 8 refl (tt, tt)) $ pass1 ! (init ! 6 refl (answer-lawful .typed a _ is-answer .0)) $ pass1 ! (init ! 4 refl (stored-lawful .typed w _ is-stored .0)) $ pass0 ! $
+          qed W ((‵ (flft κ q) ⊛ ‵ ftrue) ∷ ‵ (owns (MutRef (named 0) κ totals.the-row ∷ handler.the-row ∷ answer.the-row ∷ stored.the-row ∷ []) args vals) ∷ []) ∵
+          split ! $ move ! (2 ∷ []) $ fsplit ! $ move ! (1 ∷ []) $ fsplit ! $ move ! (1 ∷ []) $ fsplit ! $ move ! (1 ∷ []) $ fsplit ! $ move ! (4 ∷ []) $ fsplit3 ! $ drop ! $ move ! (0 ∷ 1 ∷ 6 ∷ 5 ∷ 4 ∷ 2 ∷ []) $
+          -- [what observes the totals; the borrow; the token; what handler, answer and word own; ..]
+          enter ! C Λ code.function (vptr b o ∷ handlerVal h ∷ answerVal a ∷ storedVal w ∷ []) _ $
+          alloc1 ! (λ l₀. alloc1 ! (λ l₁. alloc1 ! (λ l₂. alloc1 ! (λ l₃. alloc1 ! (λ l₄. alloc1 ! (λ l₅. alloc1 ! (λ l₆. alloc0 ! $ params1 ! $
+          pass1 ! (init ! 10 refl (tt, tt)) $ pass1 ! (init ! 8 refl (handler-lawful .typed h _ is-handler .0)) $ pass1 ! (init ! 6 refl (answer-lawful .typed a _ is-answer .0)) $ pass1 ! (init ! 4 refl (stored-lawful .typed w _ is-stored .0)) $ pass0 ! $
           -- the borrow is opened
-          move ! (12 ∷ 13 ∷ 14 ∷ []) $ opens ! tt totals.the-row {h = t} b o (λ vs.
+          move ! (14 ∷ 15 ∷ 16 ∷ []) $ opens ! tt totals.the-row {h = t} b o (λ vs.
           spelt ! totals.the-row (Is totals.the-row) (shows 𝓤 H A totals.the-row) (struct.vals totals.the-type totals-laws.the-laws) (struct.tells totals.the-type totals-laws.the-laws) fullShare t vs b o $
           move ! (1 ∷ []) $ peeks ! totals.the-row (Is totals.the-row) (shows 𝓤 H A totals.the-row) t (totalsVal t ∷ []) (λ is. move ! (1 ∷ 0 ∷ []) $
-          -- [the totals' cell; what they own; the open borrow; what observes, what holds; _5; ..; _4; ..; _3; ..; _2; ..; _1; ..; _0; ..; what the answer and the word own; ..]
-          assigns ! (of-opd ! (load ! (from ! (hop ! (look ! 13 refl) (stop !))) (look-raw ! 0 refl))) (from ! (stop !)) (init ! 5 refl (totals-lawful .typed t _ is .0)) $
+          -- [the totals' cell; what they own; the open borrow; what observes, what holds; _6; ..; _5; ..; _4; ..; _3; ..; _2; ..; _1; ..; _0; ..; what handler, answer and word own; ..]
+          assigns ! (of-opd ! (load ! (from ! (hop ! (look ! 15 refl) (stop !))) (look-raw ! 0 refl))) (from ! (stop !)) (init ! 5 refl (totals-lawful .typed t _ is .0)) $
           -- the call
-          nothing ! $ move ! (19 ∷ 0 ∷ []) $ fjoin ! $ move ! (18 ∷ 0 ∷ []) $ fjoin ! $ move ! (2 ∷ 0 ∷ []) $ use2 W (raw (Counted .pre to-counted)) goes-counted $
-          calls-at ! fm Counted known to-counted (and-then ! (load ! (from ! (stop !)) (look ! 5 refl)) (and-then ! (load ! (from ! (stop !)) (look ! 11 refl)) (and-then ! (load ! (from ! (stop !)) (look ! 9 refl)) (no-more !)))) (λ v.
-          use1 W (later (some (λ (r : Totals). (‵ ftrue ⊛ ‵ (totals.the-row .own r (v ∷ []))) ⊛ raw (Ensured t a w r)))) (id⊢ 𝓤 _) $ await ! tt $ pick ! (λ r.
-          split ! $ move ! (1 ∷ []) $ use1 W (raw (fact 𝓤 (r ≡ countedFrom t a w))) (learnt t a w r) $ heard ! (r ≡ countedFrom t a w) (λ e. split ! $ drop ! $
+          nothing ! $ move ! (22 ∷ 0 ∷ []) $ fjoin ! $ move ! (21 ∷ 0 ∷ []) $ fjoin ! $ move ! (20 ∷ 0 ∷ []) $ fjoin ! $ move ! (2 ∷ 0 ∷ []) $ use2 W (raw (Counted .pre to-counted)) goes-counted $
+          calls-at ! fm Counted known to-counted (and-then ! (load ! (from ! (stop !)) (look ! 5 refl)) (and-then ! (load ! (from ! (stop !)) (look ! 13 refl)) (and-then ! (load ! (from ! (stop !)) (look ! 11 refl)) (and-then ! (load ! (from ! (stop !)) (look ! 9 refl)) (no-more !))))) (λ v.
+          use1 W (later (some (λ (r : Totals). (‵ ftrue ⊛ ‵ (totals.the-row .own r (v ∷ []))) ⊛ raw (Ensured t h a w r)))) (id⊢ 𝓤 _) $ await ! tt $ pick ! (λ r.
+          split ! $ move ! (1 ∷ []) $ use1 W (raw (fact 𝓤 (r ≡ countedFrom t h a w))) (learnt t h a w r) $ heard ! (r ≡ countedFrom t h a w) (λ e. split ! $ drop ! $
           peeks ! totals.the-row (Is totals.the-row) (shows 𝓤 H A totals.the-row) r (v ∷ []) (λ is′.
-          -- [what r owns; the totals' cell; the open borrow; what observes, what holds; _5; ..; _4; ..; _3; ..; _2; ..; _1; ..; _0; ..]
+          -- [what r owns; the totals' cell; the open borrow; what observes, what holds; _6; ..; _5; ..; _4; ..; _3; ..; _2; ..; _1; ..; _0; ..]
           land ! (from ! (stop !)) (init ! 7 refl (totals-lawful .typed r _ is′ .0)) $
           -- the store
-          assigns ! (of-opd ! (load ! (from ! (stop !)) (look ! 7 refl))) (from ! (hop ! (look ! 13 refl) (stop !))) (store-raw ! 1 refl (totals-lawful .typed r _ is′ .0)) $
-          assigns ! (of-opd ! (unit-lit !)) (from ! (stop !)) (init ! 15 refl (tt, tt)) $
+          assigns ! (of-opd ! (load ! (from ! (stop !)) (look ! 7 refl))) (from ! (hop ! (look ! 15 refl) (stop !))) (store-raw ! 1 refl (totals-lawful .typed r _ is′ .0)) $
+          assigns ! (of-opd ! (unit-lit !)) (from ! (stop !)) (init ! 17 refl (tt, tt)) $
           -- the borrow is closed, and the locals are freed
           move ! (1 ∷ 0 ∷ []) $ closes ! tt totals.the-row r (v ∷ []) b o $
-          returns ! (look ! 13 refl) $ forget ! 3 refl $ forget ! 5 refl $ forget ! 7 refl $ forget ! 9 refl $ forget ! 11 refl $ forget ! 13 refl $
-          move ! (13 ∷ 14 ∷ []) $ free1 ! $ move ! (11 ∷ 12 ∷ []) $ free1 ! $ move ! (9 ∷ 10 ∷ []) $ free1 ! $ move ! (7 ∷ 8 ∷ []) $ free1 ! $ move ! (5 ∷ 6 ∷ []) $ free1 ! $ move ! (3 ∷ 4 ∷ []) $ free1 ! $ free0 ! $
-          keep ! (0 ∷ 1 ∷ 2 ∷ []) $ by ! (exits r e)))))))))))))
+          returns ! (look ! 15 refl) $ forget ! 3 refl $ forget ! 5 refl $ forget ! 7 refl $ forget ! 9 refl $ forget ! 11 refl $ forget ! 13 refl $ forget ! 15 refl $
+          move ! (15 ∷ 16 ∷ []) $ free1 ! $ move ! (13 ∷ 14 ∷ []) $ free1 ! $ move ! (11 ∷ 12 ∷ []) $ free1 ! $ move ! (9 ∷ 10 ∷ []) $ free1 ! $ move ! (7 ∷ 8 ∷ []) $ free1 ! $ move ! (5 ∷ 6 ∷ []) $ free1 ! $ move ! (3 ∷ 4 ∷ []) $ free1 ! $ free0 ! $
+          keep ! (0 ∷ 1 ∷ 2 ∷ []) $ by ! (exits r e))))))))))))))
 
   goes : AllGo 𝓤 H A W 1 (count.signature .params) (count.ended .kept) stayed
-  goes = (goes-ref 𝓤 H A W 1 0 tt (plain (λ _. totals.the-row)), (goes-none 𝓤 H A W 1 (λ _. answer.the-row) yes (λ κs x f. refl), (goes-none 𝓤 H A W 1 (λ _. stored.the-row) yes (λ κs x f. refl), tt)))
+  goes = (goes-ref 𝓤 H A W 1 0 tt (plain (λ _. totals.the-row)), (goes-none 𝓤 H A W 1 (λ _. handler.the-row) yes (λ κs x f. refl), (goes-none 𝓤 H A W 1 (λ _. answer.the-row) yes (λ κs x f. refl), (goes-none 𝓤 H A W 1 (λ _. stored.the-row) yes (λ κs x f. refl), tt))))
 
   count-walks : (C : Calls 𝓤 H) (Λ : Loops 𝓤 H) → FmC 𝓤 H (W .laws) C → Triple 𝓤 (C #counted) Counted
       → Walks 𝓤 H A count.ended stayed (WpFn 𝓤 H C Λ code.function) (count.clauses 𝓤 H A at-mem run)
   count-walks C Λ fm known =
       walked 𝓤 H A count.ended stayed (count.clauses 𝓤 H A at-mem run) (WpFn 𝓤 H C Λ code.function)
-      (λ κs. (ptr-vals, (enum.vals answer.the-type answer-laws.the-laws, (enum.vals stored.the-type stored-laws.the-laws, tt))))
-      (λ κs. (mut-tells (named 0) (κs .0) totals.the-row, (enum.tells answer.the-type answer-laws.the-laws, (enum.tells stored.the-type stored-laws.the-laws, tt))))
+      (λ κs. (ptr-vals, (enum.vals handler.the-type handler-laws.the-laws, (enum.vals answer.the-type answer-laws.the-laws, (enum.vals stored.the-type stored-laws.the-laws, tt)))))
+      (λ κs. (mut-tells (named 0) (κs .0) totals.the-row, (enum.tells handler.the-type handler-laws.the-laws, (enum.tells answer.the-type answer-laws.the-laws, (enum.tells stored.the-type stored-laws.the-laws, tt)))))
       (λ κs qs bounds x g are.
       via 𝓤 _ (fst∗ 𝓤 _ (emp 𝓤))
-      (walk (κs .0) (qs .0) (x .0 .ptr .0) (x .0 .ptr .1) (x .0 .name) (x .0 .now) (x .1 .0) (x .1 .1 .0) (are .1 .0) (are .1 .1 .0) C Λ fm known))
+      (walk (κs .0) (qs .0) (x .0 .ptr .0) (x .0 .ptr .1) (x .0 .name) (x .0 .now) (x .1 .0) (x .1 .1 .0) (x .1 .1 .1 .0) (are .1 .0) (are .1 .1 .0) (are .1 .1 .1 .0) C Λ fm known))
 
   count-meets : (𝓣 : Tables 𝓤 H) → Triple 𝓤 (𝓣 .C #counted) Counted
       → Meets 𝓤 H A count.signature (WpFn 𝓤 H (𝓣 .C) (𝓣 .Λ) code.function) (count.spec 𝓤 H A at-mem run)

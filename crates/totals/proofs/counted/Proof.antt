@@ -1,6 +1,6 @@
 -- `counted` meets its contract: each total by its number. Assumes nothing.
-use borrow.Author.Needs.{needs}
 use Rattle.totals.specs.Counted.{countedFrom}
+use borrow.Author.Needs.{needs}
 use Rattle.totals.proofs.counted.Statement.{statement}
 use Rattle.totals.proofs.counted.Tie as tie
 
@@ -10,21 +10,18 @@ committed-bodies-requires c κs = search needs
 more-by-requires : tie.Need-more-by-requires
 more-by-requires c κs = search needs
 
-accepted-events-requires : tie.Need-accepted-events-requires
-accepted-events-requires c κs = search needs
-
-more-by-requires-2 : tie.Need-more-by-requires-2
-more-by-requires-2 c κs = search needs
+accepted-after-requires : tie.Need-accepted-after-requires
+accepted-after-requires c κs = search needs
 
 stores-requires : tie.Need-stores-requires
 stores-requires c κs = search needs
 
-more-by-requires-3 : tie.Need-more-by-requires-3
-more-by-requires-3 c κs = search needs
+more-by-requires-2 : tie.Need-more-by-requires-2
+more-by-requires-2 c κs = search needs
 
 returns : tie.Need-returns
 unfolding countedFrom
-returns c = simp (c .more-by3 .ensures, c .before .stores .ensures, c .before .before .more-by2 .ensures, c .before .before .before .accepted-events .ensures, c .before .before .before .before .more-by .ensures, c .before .before .before .before .before .committed-bodies .ensures)
+returns c = simp (c .more-by2 .ensures, c .before .stores .ensures, c .before .before .accepted-after .ensures, c .before .before .before .more-by .ensures, c .before .before .before .before .committed-bodies .ensures)
 
 pub counted-spec : {M : Type 1} → statement M
 counted-spec =
@@ -32,8 +29,7 @@ counted-spec =
     (tie.spec
     committed-bodies-requires
     more-by-requires
-    accepted-events-requires
-    more-by-requires-2
+    accepted-after-requires
     stores-requires
-    more-by-requires-3
+    more-by-requires-2
     returns)

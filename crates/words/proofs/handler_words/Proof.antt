@@ -10,23 +10,13 @@ enum-told c = search needs
 enum-known-handler : tie.Need-enum-known-handler
 enum-known-handler c = search needs
 
-next-word-requires : tie.Need-next-word-requires
-next-word-requires c κs = search needs
-
 returns : tie.Need-returns
 unfolding handlerWords
 returns c = simp (c .enum-told .given .1)
 
 returns-2 : tie.Need-returns-2
 unfolding handlerWords
-returns-2 c = simp (c .before .before .handler .given .1, c .next-word .ensures)
+returns-2 c = simp (c .before .handler .given .1)
 
 pub handler-words-spec : {M : Type 1} → statement M
-handler-words-spec =
-    tie.close
-    (tie.spec
-    enum-told
-    enum-known-handler
-    next-word-requires
-    returns
-    returns-2)
+handler-words-spec = tie.close (tie.spec enum-told enum-known-handler returns returns-2)

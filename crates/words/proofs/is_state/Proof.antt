@@ -1,4 +1,4 @@
--- `words::is_state` meets its contract: the definition's three tests in their order. Assumes nothing.
+-- `words::is_state` meets its contract: the definition's four tests in their order. Assumes nothing.
 use Rattle.words.specs.Words.{isState}
 use Rattle.model.specs.Test.{_and_}
 use borrow.Author.Tests.{lt-leb, le-leb, not-true, not-false}
@@ -50,7 +50,17 @@ is-handler-requires c κs = search needs
 
 returns-3 : tie.Need-returns-3
 unfolding isState _and_
-returns-3 c = simp (le-leb _ _ (c .before .before .before .before .before .before .before .before .before .before .before .if1 .left), sym (c .before .before .before .before .before .is-place .ensures) ∙ not-false _ (c .before .before .before .before .if2 .left), (c .is-handler .ensures))
+returns-3 c = simp (le-leb _ _ (c .before .before .before .before .before .before .before .before .before .before .before .before .if1 .left), sym (c .before .before .before .before .before .before .is-place .ensures) ∙ not-false _ (c .before .before .before .before .before .if2 .left), sym (c .before .is-handler .ensures) ∙ not-true _ (c .if3 .taken))
+
+element-copy-out-are-records : tie.Need-element-copy-out-are-records
+element-copy-out-are-records c = search needs
+
+are-records-requires : tie.Need-are-records-requires
+are-records-requires c κs = search needs
+
+returns-4 : tie.Need-returns-4
+unfolding isState _and_
+returns-4 c = simp (le-leb _ _ (c .before .before .before .before .before .before .before .before .before .before .before .before .before .before .if1 .left), sym (c .before .before .before .before .before .before .before .before .is-place .ensures) ∙ not-false _ (c .before .before .before .before .before .before .before .if2 .left), sym (c .before .before .before .is-handler .ensures) ∙ not-false _ (c .before .before .if3 .left), c .are-records .ensures)
 
 pub is-state-spec : {M : Type 1} → statement M
 is-state-spec =
@@ -69,4 +79,7 @@ is-state-spec =
     element-copy-out-is-handler-2
     element-copy-out-is-handler-3
     is-handler-requires
-    returns-3)
+    returns-3
+    element-copy-out-are-records
+    are-records-requires
+    returns-4)

@@ -26,6 +26,9 @@ enum-told-3 c = search needs
 enum-known-why-4 : tie.Need-enum-known-why-4
 enum-known-why-4 c = search needs
 
+enum-known-why-5 : tie.Need-enum-known-why-5
+enum-known-why-5 c = search needs
+
 enum-told-4 : tie.Need-enum-told-4
 enum-told-4 c = search needs
 
@@ -50,17 +53,17 @@ enum-told-10 c = search needs
 enum-told-11 : tie.Need-enum-told-11
 enum-told-11 c = search needs
 
-enum-told-12 : tie.Need-enum-told-12
-enum-told-12 c = search needs
-
-enum-known-why-5 : tie.Need-enum-known-why-5
-enum-known-why-5 c = search needs
-
 enum-known-why-6 : tie.Need-enum-known-why-6
 enum-known-why-6 c = search needs
 
 enum-known-why-7 : tie.Need-enum-known-why-7
 enum-known-why-7 c = search needs
+
+enum-known-why-8 : tie.Need-enum-known-why-8
+enum-known-why-8 c = search needs
+
+enum-told-12 : tie.Need-enum-told-12
+enum-told-12 c = search needs
 
 returns : tie.Need-returns
 unfolding refusedWords refusal
@@ -92,51 +95,55 @@ returns-7 c = simp (c .before .why4 .given .1)
 
 returns-8 : tie.Need-returns-8
 unfolding refusedWords refusal
-returns-8 c = simp (c .enum-told4 .given .1)
+returns-8 c = simp (c .before .why5 .given .1)
 
 returns-9 : tie.Need-returns-9
 unfolding refusedWords refusal
-returns-9 c = simp (c .enum-told5 .given .1)
+returns-9 c = simp (c .enum-told4 .given .1)
 
 returns-10 : tie.Need-returns-10
 unfolding refusedWords refusal
-returns-10 c = simp (c .enum-told6 .given .1)
+returns-10 c = simp (c .enum-told5 .given .1)
 
 returns-11 : tie.Need-returns-11
 unfolding refusedWords refusal
-returns-11 c = simp (c .enum-told7 .given .1)
+returns-11 c = simp (c .enum-told6 .given .1)
 
 returns-12 : tie.Need-returns-12
 unfolding refusedWords refusal
-returns-12 c = simp (c .enum-told8 .given .1)
+returns-12 c = simp (c .enum-told7 .given .1)
 
 returns-13 : tie.Need-returns-13
 unfolding refusedWords refusal
-returns-13 c = simp (c .enum-told9 .given .1)
+returns-13 c = simp (c .enum-told8 .given .1)
 
 returns-14 : tie.Need-returns-14
 unfolding refusedWords refusal
-returns-14 c = simp (c .enum-told10 .given .1)
+returns-14 c = simp (c .enum-told9 .given .1)
 
 returns-15 : tie.Need-returns-15
 unfolding refusedWords refusal
-returns-15 c = simp (c .enum-told11 .given .1)
+returns-15 c = simp (c .enum-told10 .given .1)
 
 returns-16 : tie.Need-returns-16
 unfolding refusedWords refusal
-returns-16 c = simp (c .enum-told12 .given .1)
+returns-16 c = simp (c .enum-told11 .given .1)
 
 returns-17 : tie.Need-returns-17
 unfolding refusedWords refusal
-returns-17 c = simp (c .before .why5 .given .1)
+returns-17 c = simp (c .before .why6 .given .1)
 
 returns-18 : tie.Need-returns-18
 unfolding refusedWords refusal
-returns-18 c = simp (c .before .why6 .given .1)
+returns-18 c = simp (c .before .why7 .given .1)
 
 returns-19 : tie.Need-returns-19
 unfolding refusedWords refusal
-returns-19 c = simp (c .before .why7 .given .1)
+returns-19 c = simp (c .before .why8 .given .1)
+
+returns-20 : tie.Need-returns-20
+unfolding refusedWords refusal
+returns-20 c = simp (c .enum-told12 .given .1)
 
 pub refused-words-spec : {M : Type 1} → statement M
 refused-words-spec =
@@ -149,6 +156,7 @@ refused-words-spec =
     enum-known-why-3
     enum-told-3
     enum-known-why-4
+    enum-known-why-5
     enum-told-4
     enum-told-5
     enum-told-6
@@ -157,10 +165,10 @@ refused-words-spec =
     enum-told-9
     enum-told-10
     enum-told-11
-    enum-told-12
-    enum-known-why-5
     enum-known-why-6
     enum-known-why-7
+    enum-known-why-8
+    enum-told-12
     returns
     returns-2
     returns-3
@@ -179,4 +187,5 @@ refused-words-spec =
     returns-16
     returns-17
     returns-18
-    returns-19)
+    returns-19
+    returns-20)

@@ -1,12 +1,13 @@
 -- `calls::post_check` meets its contract. Each answer is the first refusal in a row of checks; what `look` gives bounds
 -- the reads after it. Assumes nothing.
 use mathlib.Core.Path.{sym, ap, _∙_}
-use native.Mathlib.Omega.{arith}
-use borrow.Author.Needs.{needs}
 use lib.Dec.{leb}
-use borrow.Author.Tests.{lt-ltb, le-ltb, lt-leb, le-leb}
+use borrow.Author.Tests.{lt-leb, le-leb}
 use Rattle.model.specs.Device.{atRest, postCheck}
+use Rattle.model.specs.Test.{_and_}
 use Rattle.model.proofs.TestLaws.{then-stop, then-go, must-refuses, must-accepts, must-stop, must-go}
+use Rattle.device.proofs.Bursts.{burst-by, fits-by}
+use borrow.Author.Needs.{needs}
 use Rattle.device.proofs.calls.post_check.Statement.{statement}
 use Rattle.device.proofs.calls.post_check.Tie as tie
 
@@ -23,12 +24,16 @@ returns : tie.Need-returns
 unfolding postCheck
 returns c = then-stop _ _ (c .before .before .look-whole .ensures .0) (c .enum-told2 .given .1)
 
-shared-slice-read-if1 : tie.Need-shared-slice-read-if1
-shared-slice-read-if1 c = let l = c .before .before .before .look-whole .ensures .1 (c .before .enum-told .given .1) in omega (arith, l .contents .six)
-
 returns-2 : tie.Need-returns-2
-unfolding postCheck
-returns-2 c = must-stop _ _ (le-ltb _ _ (c .if1 .taken)) ∙ then-go _ _ (c .before .before .before .before .look-whole .ensures .0) (c .before .before .enum-told .given .1)
+unfolding postCheck _and_
+returns-2 c = must-stop _ _ (burst-by _ _ ∙ simp (lt-leb _ _ (c .if1 .taken))) ∙ then-go _ _ (c .before .before .before .look-whole .ensures .0) (c .before .enum-told .given .1)
+
+returns-3 : tie.Need-returns-3
+unfolding postCheck _and_
+returns-3 c = must-stop _ _ (burst-by _ _ ∙ simp (le-leb _ _ (c .before .if1 .left), lt-leb _ _ (c .if2 .taken))) ∙ then-go _ _ (c .before .before .before .before .look-whole .ensures .0) (c .before .before .enum-told .given .1)
+
+events-requires : tie.Need-events-requires
+events-requires c κs = let l = c .before .before .before .before .look-whole .ensures .1 (c .before .before .enum-told .given .1) in (l .contents, search needs)
 
 enum-told-3 : tie.Need-enum-told-3
 enum-told-3 c = search needs
@@ -36,20 +41,30 @@ enum-told-3 c = search needs
 enum-told-4 : tie.Need-enum-told-4
 enum-told-4 c = search needs
 
-returns-3 : tie.Need-returns-3
-unfolding postCheck atRest
-returns-3 c = must-stop _ _ (simp (c .enum-told4 .given .1)) ∙ must-go _ _ (lt-ltb _ _ (c .before .before .if1 .left)) ∙ then-go _ _ (c .before .before .before .before .before .before .look-whole .ensures .0) (c .before .before .before .before .enum-told .given .1)
-
-room-requires : tie.Need-room-requires
-room-requires c κs = let l = c .before .before .before .before .before .before .look-whole .ensures .1 (c .before .before .before .before .enum-told .given .1) in (l .shaped .shaped, (l .control .head-in, l .control .tail-in))
-
 returns-4 : tie.Need-returns-4
-unfolding postCheck atRest
-returns-4 c = must-refuses _ (ap (leb 1) (sym (c .before .room .ensures)) ∙ lt-leb _ _ (c .if2 .taken)) ∙ must-go _ _ (simp (c .before .before .enum-told3 .given .1)) ∙ must-go _ _ (lt-ltb _ _ (c .before .before .before .before .if1 .left)) ∙ then-go _ _ (c .before .before .before .before .before .before .before .before .look-whole .ensures .0) (c .before .before .before .before .before .before .enum-told .given .1)
+unfolding postCheck _and_
+returns-4 c = then-stop _ _ (c .before .before .events .ensures) (c .enum-told4 .given .1) ∙ must-go _ _ (burst-by _ _ ∙ simp (le-leb _ _ (c .before .before .before .before .if1 .left), le-leb _ _ (c .before .before .before .if2 .left))) ∙ then-go _ _ (c .before .before .before .before .before .before .before .look-whole .ensures .0) (c .before .before .before .before .before .enum-told .given .1)
+
+enum-told-5 : tie.Need-enum-told-5
+enum-told-5 c = search needs
+
+enum-told-6 : tie.Need-enum-told-6
+enum-told-6 c = search needs
 
 returns-5 : tie.Need-returns-5
-unfolding postCheck atRest
-returns-5 c = must-accepts _ (ap (leb 1) (sym (c .before .room .ensures)) ∙ le-leb _ _ (c .if2 .left)) ∙ must-go _ _ (simp (c .before .before .enum-told3 .given .1)) ∙ must-go _ _ (lt-ltb _ _ (c .before .before .before .before .if1 .left)) ∙ then-go _ _ (c .before .before .before .before .before .before .before .before .look-whole .ensures .0) (c .before .before .before .before .before .before .enum-told .given .1)
+unfolding postCheck atRest _and_
+returns-5 c = must-stop _ _ (simp (c .enum-told6 .given .1)) ∙ then-go _ _ (c .before .before .before .before .events .ensures) (c .before .before .enum-told3 .given .1) ∙ must-go _ _ (burst-by _ _ ∙ simp (le-leb _ _ (c .before .before .before .before .before .before .if1 .left), le-leb _ _ (c .before .before .before .before .before .if2 .left))) ∙ then-go _ _ (c .before .before .before .before .before .before .before .before .before .look-whole .ensures .0) (c .before .before .before .before .before .before .before .enum-told .given .1)
+
+room-requires : tie.Need-room-requires
+room-requires c κs = let l = c .before .before .before .before .before .before .before .before .before .look-whole .ensures .1 (c .before .before .before .before .before .before .before .enum-told .given .1) in (l .shaped .shaped, (l .control .head-in, l .control .tail-in))
+
+returns-6 : tie.Need-returns-6
+unfolding postCheck atRest _and_
+returns-6 c = must-refuses _ (fits-by _ _ _ ∙ ap (leb (c .before .before .before .before .before .before .before .before .before .before .before .before .before .before .args .length)) (sym (c .before .room .ensures)) ∙ lt-leb _ _ (c .if3 .taken)) ∙ must-go _ _ (simp (c .before .before .enum-told5 .given .1)) ∙ then-go _ _ (c .before .before .before .before .before .before .events .ensures) (c .before .before .before .before .enum-told3 .given .1) ∙ must-go _ _ (burst-by _ _ ∙ simp (le-leb _ _ (c .before .before .before .before .before .before .before .before .if1 .left), le-leb _ _ (c .before .before .before .before .before .before .before .if2 .left))) ∙ then-go _ _ (c .before .before .before .before .before .before .before .before .before .before .before .look-whole .ensures .0) (c .before .before .before .before .before .before .before .before .before .enum-told .given .1)
+
+returns-7 : tie.Need-returns-7
+unfolding postCheck atRest _and_
+returns-7 c = must-accepts _ (fits-by _ _ _ ∙ ap (leb (c .before .before .before .before .before .before .before .before .before .before .before .before .before .before .args .length)) (sym (c .before .room .ensures)) ∙ le-leb _ _ (c .if3 .left)) ∙ must-go _ _ (simp (c .before .before .enum-told5 .given .1)) ∙ then-go _ _ (c .before .before .before .before .before .before .events .ensures) (c .before .before .before .before .enum-told3 .given .1) ∙ must-go _ _ (burst-by _ _ ∙ simp (le-leb _ _ (c .before .before .before .before .before .before .before .before .if1 .left), le-leb _ _ (c .before .before .before .before .before .before .before .if2 .left))) ∙ then-go _ _ (c .before .before .before .before .before .before .before .before .before .before .before .look-whole .ensures .0) (c .before .before .before .before .before .before .before .before .before .enum-told .given .1)
 
 pub post-check-spec : {M : Type 1} → statement M
 post-check-spec =
@@ -59,11 +74,15 @@ post-check-spec =
     enum-told
     enum-told-2
     returns
-    shared-slice-read-if1
     returns-2
+    returns-3
+    events-requires
     enum-told-3
     enum-told-4
-    returns-3
-    room-requires
     returns-4
-    returns-5)
+    enum-told-5
+    enum-told-6
+    returns-5
+    room-requires
+    returns-6
+    returns-7)

@@ -9,7 +9,4 @@ unfolding withHandler
 returns c = refl
 
 pub with-handler-spec : {M : Type 1} → statement M
-with-handler-spec =
-    tie.close
-    (tie.spec
-    returns)
+with-handler-spec = tie.close (tie.spec returns)

@@ -44,7 +44,14 @@ is-fresh-requires c κs = search needs
 
 returns-6 : tie.Need-returns-6
 unfolding deviceSound pick _and_
-returns-6 c = simp (c .before .before .before .before .before .if1 .left, passed (c .before .before .before .before .zeros .ensures) (c .before .before .before .if4 .left), eq-eqb _ _ (c .before .if5 .left), c .is-fresh .ensures)
+returns-6 c = simp (c .before .before .before .before .before .before .if1 .left, passed (c .before .before .before .before .before .zeros .ensures) (c .before .before .before .before .if4 .left), eq-eqb _ _ (c .before .before .if5 .left), failed (c .before .is-fresh .ensures) (c .if6 .taken))
+
+zeros-requires-2 : tie.Need-zeros-requires-2
+zeros-requires-2 c κs = search needs
+
+returns-7 : tie.Need-returns-7
+unfolding deviceSound pick _and_
+returns-7 c = simp (c .before .before .before .before .before .before .before .if1 .left, passed (c .before .before .before .before .before .before .zeros .ensures) (c .before .before .before .before .before .if4 .left), eq-eqb _ _ (c .before .before .before .if5 .left), passed (c .before .before .is-fresh .ensures) (c .before .if6 .left), c .zeros2 .ensures)
 
 pub device-sound-spec : {M : Type 1} → statement M
 device-sound-spec =
@@ -60,4 +67,6 @@ device-sound-spec =
     returns-4
     returns-5
     is-fresh-requires
-    returns-6)
+    returns-6
+    zeros-requires-2
+    returns-7)

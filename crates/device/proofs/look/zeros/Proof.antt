@@ -1,4 +1,4 @@
--- `look::zeros` meets its contract. The loop's invariant: the registers below i are 0. Assumes nothing.
+-- `look::zeros` meets its contract. The loop's invariant: the words below i are 0. Assumes nothing.
 use Prim.Native.Nat.{ℕ, zero, suc, _+_, _-_, _≤_, _<_}
 use mathlib.Core.Bool.{Bool, true, false}
 use mathlib.Core.List.{List}
@@ -48,7 +48,7 @@ element-copy-out-if1 : tie.Need-element-copy-out-if1 Inv-loop μ-loop
 element-copy-out-if1 c = search needs
 
 returns : tie.Need-returns Inv-loop μ-loop
-returns c = sym (not-zeros (c .before .before .before .before .args .registers .now) 8 (c .before .before .before .loop .i) (c .before .before .loop-test .taken) (c .if1 .taken))
+returns c = sym (not-zeros (c .before .before .before .before .args .words .now) 8 (c .before .before .before .loop .i) (c .before .before .loop-test .taken) (c .if1 .taken))
 
 add-i : tie.Need-add-i Inv-loop μ-loop
 add-i c = search needs
@@ -57,7 +57,7 @@ loop-less : tie.Need-loop-less Inv-loop μ-loop
 loop-less c = search needs
 
 loop-again : tie.Need-loop-again Inv-loop μ-loop
-loop-again c = (search needs, one-more (c .before .before .before .before .args .registers .now) (c .before .before .before .loop .i) (c .before .before .before .loop .inv .1) (c .if1 .left))
+loop-again c = (search needs, one-more (c .before .before .before .before .args .words .now) (c .before .before .before .loop .i) (c .before .before .before .loop .inv .1) (c .if1 .left))
 
 returns-2 : tie.Need-returns-2 Inv-loop μ-loop
 returns-2 c = let e : c .before .loop .i ≡ 8 = omega arith in sym (rw e at (c .before .loop .inv .1))

@@ -2,6 +2,7 @@
 use mathlib.Core.Path.{refl, sym, ap, _∙_}
 use denote.Ref.{now}
 use lib.ListN.{length}
+use Rattle.model.specs.Burst.{single}
 use Rattle.model.specs.Calls.{Boot, Step, Cut, Post, call}
 use Rattle.sheet.proofs.SheetLaws.{ends-unread, ends-cut, ends-other}
 use Rattle.sheet.specs.Inside.{callOf}
@@ -138,7 +139,7 @@ returns-4 c =
       short = c .before .before .answered3 .ensures .short;
       ends =
           λ reached sized going.
-          ends-other (now (c .before .before .before .before .before .before .before .before .before .before .before .before .before .before .before .before .before .args .program)) (length (now (c .before .before .before .before .before .before .before .before .before .before .before .before .before .before .before .before .before .args .copy))) h going (c .before .before .answered3 .result .state) reached sized (Post (c .before .before .before .before .before .before .before .scheduled .given .0 .0) (c .before .before .before .before .before .before .before .scheduled .given .0 .1 .0)) (sym (c .before .before .before .before .before .before .before .before .before .held3 .ensures) ∙ ap callOf (c .before .before .before .before .before .before .before .scheduled .given .1))
+          ends-other (now (c .before .before .before .before .before .before .before .before .before .before .before .before .before .before .before .before .before .args .program)) (length (now (c .before .before .before .before .before .before .before .before .before .before .before .before .before .before .before .before .before .args .copy))) h going (c .before .before .answered3 .result .state) reached sized (Post (single (c .before .before .before .before .before .before .before .scheduled .given .0 .0) (c .before .before .before .before .before .before .before .scheduled .given .0 .1 .0))) (sym (c .before .before .before .before .before .before .before .before .before .held3 .ensures) ∙ ap callOf (c .before .before .before .before .before .before .before .scheduled .given .1))
           _ (c .before .before .before .post .result) (c .before .before .before .post .ensures) refl refl (c .before .before .answered3 .ensures .state);
     }
 
