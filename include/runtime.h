@@ -17,7 +17,7 @@
 #define RUNTIME_STEP_ANSWER_WORDS 6 /* a step's answer tells the word stored, too */
 #define RUNTIME_TOTALS_NUMBERS 3
 #define RUNTIME_REGISTERS 8
-#define RUNTIME_BURST_WORDS 8        /* a burst: its first event, that event's data, its second event, .. */
+#define RUNTIME_BURST_WORDS 8       /* a burst: its first event, that event's data, its second event, .. */
 #define RUNTIME_LINES_ROW_WORDS 4   /* a line table's rows */
 
 /* The length of a store of M memory words, L log pairs and Q queue records. */

@@ -153,17 +153,19 @@ fn is_fresh(place: Place, handler: Handler) -> bool
     }
 }
 
+// Are all words 0? Asked of their bits together, which is one test for eight.
 fn zeros(words: &[u16; 8]) -> bool
     ensures { λ r. ⌜ r ≡ zeros (now (words .entry)) 8 ⌝ }
 {
-    let mut i: usize = 0;
-    while i < 8 {
-        if words[i] != 0 {
-            return false;
-        }
-        i += 1;
-    }
-    true
+    let bits = words[0]
+        | words[1]
+        | words[2]
+        | words[3]
+        | words[4]
+        | words[5]
+        | words[6]
+        | words[7];
+    bits == 0
 }
 
 // Refusal 25, without what needs a row, an instruction, a log pair or a record.

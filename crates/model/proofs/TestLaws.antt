@@ -4,6 +4,7 @@ use Prim.Native.Nat.{ℕ, zero, suc, _+_, _-_, _≤_, _<_}
 use mathlib.Core.Path.{_≡_, refl, sym, subst, ap, _∙_}
 use mathlib.Core.Logic.{_≢_}
 use mathlib.Core.Bool.{Bool, true, false, not}
+use lib.Bits.{bitOr, or-zero-l, or-add-and, and-le-r}
 use lib.Dec.{eqb, ltb}
 use borrow.Author.Tests.{eqb-true, eqb-false, ltb-true, ltb-false, lt-ltb, le-ltb, le-leb, lt-leb, eq-eqb, ne-eqb}
 use borrow.Author.Tests.{not-true as of-not-true, not-false as of-not-false}
@@ -67,6 +68,14 @@ or-true-right false b e = e
 
 pub not-false : {b : Bool} → b ≡ false → not b ≡ true
 not-false e = rw e
+
+-- the bits of two numbers together are 0 where both are
+pub both-zero : (a b : ℕ) → eqb (bitOr a b) 0 ≡ (eqb a 0 and eqb b 0)
+unfolding _and_
+both-zero zero b = rw (or-zero-l b)
+both-zero (suc a) b =
+    ne-eqb (bitOr (suc a) b) 0 (λ e. absurd (omega (arith, e, or-add-and (suc a) b, and-le-r (suc a) b)))
+    ∙ sym (ap (λ (t : Bool). t and eqb b 0) (ne-eqb (suc a) 0 (λ e. absurd (omega (arith, e)))))
 
 -- two numbers: equal or not, in one order or the other
 pub same-or {ℓ} : {X : Type ℓ} (a b : ℕ) → (a ≡ b → X) → (a ≢ b → X) → X

@@ -1,15 +1,15 @@
 -- The laws of a run: a step that is refused ends it and changes nothing, one that isn't leaves the rest of the run. Assumes nothing.
-use Prim.Native.Nat.{ℕ, suc, _+_, _-_, _<_, _≤_}
+use Prim.Native.Nat.{ℕ, suc, _+_, _≤_}
 use mathlib.Core.Bool.{true, false}
 use mathlib.Core.List.{List}
 use mathlib.Core.Path.{_≡_, refl, sym, ap, _∙_}
 use native.Mathlib.Omega.{arith}
 use lib.ListN.{length}
-use Rattle.model.proofs.DeviceLaws.{StepOutcome, refused, made, step-outcome, step-refused}
-use Rattle.model.proofs.TestLaws.{impossible}
+use Rattle.model.proofs.DeviceLaws.{StepOutcome, refused, made, step-outcome}
+use Rattle.model.proofs.TestLaws.{clash, impossible}
 use Rattle.model.proofs.Refused.{refused-is}
-use Rattle.model.specs.Calls.{RunOutcome, Step, call, unlessRefused, isRefusal, counted, run, runFrom}
-use Rattle.model.specs.Device.{Outcome, refuse, look, step}
+use Rattle.model.specs.Calls.{RunOutcome, Step, call, unlessRefused, isRefusal, counted, runFrom}
+use Rattle.model.specs.Device.{Outcome, refuse, step}
 use Rattle.model.specs.Store.{memoryAt, settled, storedWord}
 use Rattle.model.specs.declared.Answer.{Answer}
 use Rattle.model.specs.declared.Checked.{Checked}
@@ -19,8 +19,9 @@ use Rattle.model.specs.declared.Refusal.{Refusal}
 use Rattle.model.specs.declared.Totals.{Totals}
 use Rattle.totals.proofs.CountLaws.{counted-is}
 use Rattle.totals.specs.Counted.{countedFrom}
+use Rattle.runtime.specs.RunResult.{isAccepted}
 
--- ---- is an answer a refusal?
+-- ---- is an answer a refusal? did a check pass?
 
 abbrev pub refusalOf : Answer → Checked
 refusalOf a = unlessRefused a Checked.Refused Checked.Accepted
@@ -49,6 +50,11 @@ pub unrefused : (a : Answer) → refusalOf a ≡ Checked.Accepted → isRefusal 
 unfolding isRefusal
 unrefused a = goes a (λ r. true) false
 
+pub accepted : (found : Checked) → isAccepted found ≡ true → found ≡ Checked.Accepted
+unfolding isAccepted
+accepted Checked.Accepted e = refl
+accepted (Checked.Refused r) e = clash e refl
+
 -- ---- a run at its next step, n steps made
 
 abbrev pub ended : ℕ → Ended → List ℕ → Device → Totals → RunOutcome
@@ -75,14 +81,6 @@ module _ (p : List ℕ) (k j n : ℕ) (s : List ℕ) (d : Device) (t : Totals) (
       rw left
       (goes (o .answer) (λ f. ended n (Ended.Refused f) s d t) _ e
       ∙ ap (λ (x : Totals). runFrom p j (n + 1) (settled s (o .write)) (o .device) x) (counted-is s t (d .handler) o))
-
--- a run whose first step is refused by its early checks
-pub run-refused : (p : List ℕ) (b : ℕ) (s : List ℕ) (d : Device) (t : Totals) {f : Refusal} → 0 < b → look p s d ≡ Checked.Refused f → run p b s d t ≡ ended 0 (Ended.Refused f) s d t
-unfolding run settled unlessRefused
-run-refused p b s d t {f = f} some e =
-    let q = step-refused p s d e in
-    run-stops p b (b - 1) 0 s d t (omega (arith, some)) (ap (λ (o : Outcome). refusalOf (o .answer)) q)
-    ∙ ap (λ (o : Outcome). ended 0 (Ended.Refused f) (settled s (o .write)) (o .device) t) q
 
 -- a step that isn't refused has a store with all control words
 pub control-there : (p s : List ℕ) (d : Device) → refusalOf (step p s d .answer) ≡ Checked.Accepted → memoryAt ≤ length s

@@ -1,6 +1,7 @@
 -- What a run leaves, from the code's result, as the value that is defined for it; what it promises is that the two are equal. Assumes
 -- nothing.
 use Prim.Native.Nat.{ℕ}
+use mathlib.Core.Bool.{Bool, true, false}
 use mathlib.Core.List.{List}
 use mathlib.Core.Path.{_≡_}
 use Rattle.device.specs.Result.{Result, deviceWith, ofOutcome}
@@ -8,6 +9,7 @@ use Rattle.device.specs.declared.Core.{Core}
 use Rattle.model.specs.Calls.{RunOutcome as Defined, run}
 use Rattle.model.specs.Device.{step}
 use Rattle.model.specs.declared.Answer.{Answer}
+use Rattle.model.specs.declared.Checked.{Checked}
 use Rattle.model.specs.declared.Device.{Device}
 use Rattle.model.specs.declared.Ended.{Ended}
 use Rattle.model.specs.declared.Handler.{Handler}
@@ -15,6 +17,11 @@ use Rattle.model.specs.declared.Stored.{Stored}
 use Rattle.model.specs.declared.Totals.{Totals}
 use Rattle.runtime.specs.declared.CoreRunResult.{CoreRunResult}
 use Rattle.runtime.specs.declared.RunResult.{RunResult}
+
+-- did a check pass?
+unfoldable pub isAccepted : Checked → Bool
+isAccepted Checked.Accepted = true
+isAccepted (Checked.Refused r) = false
 
 abbrev pub coreRunResult : Answer → Stored → ℕ → Ended → Handler → Core → Totals → CoreRunResult
 coreRunResult a w n e h c t = record { last = a; stored = w; steps = n; ended = e; handler = h; core = c; totals = t }

@@ -12,7 +12,7 @@ ghost use Rattle.model.specs.Claims.{soundAfter};
 ghost use Rattle.model.specs.Device.{look, step};
 ghost use Rattle.model.specs.Store.{memoryAt};
 ghost use Rattle.device.specs.Result.{Eight, deviceWith, stepResult, ofStep, ofCall, ofOutcome, StepPerforms};
-ghost use Rattle.runtime.specs.RunResult.{coreRunResult, ofLast, CoreRuns, RunPerforms};
+ghost use Rattle.runtime.specs.RunResult.{isAccepted, coreRunResult, ofLast, CoreRuns, RunPerforms};
 use device::CallResult;
 use device::Core;
 use device::StepResult;
@@ -167,8 +167,8 @@ fn refused_run(
     }
 }
 
-// Steps on lent registers and a lent burst, up to a budget; of the first one it is told whether its early checks are known to pass. A single step is a budget of 1: so the code of a step stands in one place, in the loop, and
-// what it leaves needs no copy from step to step.
+// Steps on lent registers and a lent burst, up to a budget; of the first one it is told whether its early checks are known to pass. A single
+// step is a budget of 1: so the code of a step stands in one place, in the loop, and what it leaves needs no copy from step to step.
 fn run_in(
     program: &[u16],
     store: &mut [u16],
@@ -250,7 +250,18 @@ fn packed(steps: CoreRunResult, registers: [u16; 8], burst: [u16; 8]) -> CallRes
     }
 }
 
-// Step: at most one store, on the lent words. Which word that was is told.
+// Did a check pass?
+fn is_accepted(found: Checked) -> bool
+    ensures { λ r. ⌜ r ≡ isAccepted found ⌝ }
+{
+    match found {
+        Checked::Accepted => true,
+        Checked::Refused(_) => false,
+    }
+}
+
+// Step: at most one store, on the lent words. Which word that was is told. Its early checks come first; where they don't pass, `run_in` makes
+// them again and tells why, so that nothing has to be kept of the device for a refusal.
 pub fn step(program: &[u16], store: &mut [u16], device: Device) -> CallResult
     ensures { λ r. ⌜ StepPerforms (now (program .entry)) (now (store .entry)) device r (now (store .exit)) ⌝ }
 {
@@ -264,13 +275,6 @@ pub fn step(program: &[u16], store: &mut [u16], device: Device) -> CallResult
     let core = core_of(device);
     let handler = device.handler;
     let found = look::look(program, store, &registers, &burst, handler, core);
-    if let Checked::Refused(why) = found {
-        return CallResult {
-            answer: Answer::Refused(why),
-            stored: Stored::Nothing,
-            device,
-        };
-    }
     let steps = run_in(
         program,
         store,
@@ -280,7 +284,7 @@ pub fn step(program: &[u16], store: &mut [u16], device: Device) -> CallResult
         core,
         zero,
         1,
-        true,
+        is_accepted(found),
     );
     packed(steps, registers, burst)
 }
@@ -299,18 +303,7 @@ pub fn run(
     let mut burst = device.burst;
     let handler = device.handler;
     let core = core_of(device);
-    let looked = budget > 0;
-    if looked {
-        let found = look::look(program, store, &registers, &burst, handler, core);
-        if let Checked::Refused(why) = found {
-            return RunResult {
-                steps: 0,
-                ended: Ended::Refused(why),
-                device,
-                totals,
-            };
-        }
-    }
+    let found = look::look(program, store, &registers, &burst, handler, core);
     let steps = run_in(
         program,
         store,
@@ -320,7 +313,7 @@ pub fn run(
         core,
         totals,
         budget,
-        looked,
+        is_accepted(found),
     );
     let ended = steps.ended;
     let handler = steps.handler;

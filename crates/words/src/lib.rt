@@ -223,10 +223,15 @@ fn is_record(length: u16, number: u16, event: u16, datum: u16) -> bool
     datum == 0
 }
 
-// Words 18 to 25, beside a burst of so many records.
+// Words 18 to 25, beside a burst of so many records. Of no burst their bits are asked together, which is one test for eight.
 fn are_records(words: &[u16; 26], length: u16) -> bool
     ensures { λ r. ⌜ r ≡ areRecords length (burstOf (now (words .entry))) ⌝ }
 {
+    if length == 0 {
+        let bits = (words[18] | words[19])
+            | ((words[20] | words[21]) | ((words[22] | words[23]) | (words[24] | words[25])));
+        return bits == 0;
+    }
     if !is_record(length, 0, words[18], words[19]) {
         return false;
     }
