@@ -1,9 +1,8 @@
 -- Several events or none, for any list of calls on a fresh store. It cites: Fresh (the start), Demand3 (what came in, of a list), Observed
 -- (recovery). Assumes nothing.
 use Prim.Native.Nat.{ℕ, _+_}
-use mathlib.Core.Path.{_≡_, refl, sym, ap, _∙_}
+use mathlib.Core.Path.{_≡_, sym, ap, _∙_}
 use mathlib.Core.List.{List, _++_}
-use mathlib.Core.Option.{Option, some}
 use native.Mathlib.Omega.{arith}
 use lib.ListN.{length}
 use Rattle.model.proofs.Demand3.{CallsKept, calls-kept}
@@ -15,7 +14,7 @@ use Rattle.model.proofs.SerialLaws.{some-same}
 use Rattle.model.proofs.StoreLaws.{viewAt}
 use Rattle.model.specs.AllOrNone.{ComeWhole, BurstsComeWhole}
 use Rattle.model.specs.Burst.{recordsAt}
-use Rattle.model.specs.Calls.{Call, history}
+use Rattle.model.specs.Calls.{Call}
 use Rattle.model.specs.Demand3.{reached, Observed}
 use Rattle.model.specs.Device.{fresh, off, burstLength}
 use Rattle.model.specs.Program.{memoryWords}

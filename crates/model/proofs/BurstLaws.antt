@@ -1,13 +1,13 @@
 -- Laws of a burst (specs/Burst.antt): its records from words and back, and its events. Assumes nothing.
-use Prim.Native.Nat.{ℕ, zero, suc, _+_, _*_, _≤_, _<_}
+use Prim.Native.Nat.{ℕ, zero, suc, _≤_, _<_}
 use mathlib.Core.Path.{_≡_, refl, ap, _∙_}
 use mathlib.Core.Bool.{Bool, true, false}
-use mathlib.Core.List.{List, [], _∷_, _++_}
+use mathlib.Core.List.{List, [], _∷_}
 use native.Mathlib.Omega.{arith}
 use borrow.Author.Tests.{ltb-true, leb-true, eqb-true, le-leb, lt-ltb}
 use lib.Dec.{ltb}
 use lib.ListN.{length, replicate}
-use Rattle.model.proofs.TestLaws.{below-or, and-true, and-left, and-right, must-passed, must-true, then-first, then-rest, then-passed, then-skip}
+use Rattle.model.proofs.TestLaws.{below-or, and-true, and-left, and-right, must-true, then-passed, then-skip}
 use Rattle.model.specs.Accepted.{Known}
 use Rattle.model.specs.Burst.{isBurst, recordsAt, carried, recordWords, noBurst, burstWords, knownEvents, eventsRule}
 use Rattle.model.specs.Device.{zeros}

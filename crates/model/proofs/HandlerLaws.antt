@@ -2,7 +2,7 @@
 -- Assumes nothing.
 use Prim.Native.Nat.{ℕ, _+_, _≤_}
 use mathlib.Core.Path.{_≡_, refl, sym, ap, _∙_}
-use mathlib.Core.Bool.{Bool, true, false}
+use mathlib.Core.Bool.{true, false}
 use mathlib.Core.List.{List, []}
 use mathlib.Core.Option.{Option}
 use lib.ListN.{length}
@@ -11,12 +11,12 @@ use Rattle.model.proofs.DeviceLaws.{judged-case, record-made, tail-made
 use Rattle.model.proofs.SerialLaws.{adds}
 use Rattle.model.proofs.TestLaws.{pick-true, pick-false, clash, must-passed, then-first, then-rest}
 use Rattle.model.specs.AllOrNone.{wayAfter}
-use Rattle.model.specs.Burst.{isBurst, recordsAt, carried, burstWords}
+use Rattle.model.specs.Burst.{recordsAt, carried, burstWords}
 use Rattle.model.specs.Calls.{Call, Boot, Step, Cut, Post, call, unlessRefused, isAccept, acceptedEvents}
-use Rattle.model.specs.Device.{Outcome, fresh, withPlace, withHandler, started, choosing, begunOf, takenUp, look, bootCheck, boot, cut, postCheck, post, burstLength, handled, step}
+use Rattle.model.specs.Device.{Outcome, fresh, withPlace, withHandler, started, choosing, begunOf, takenUp, bootCheck, boot, cut, postCheck, post, burstLength, handled, step}
 use Rattle.model.specs.Store.{Store, Record, view}
 use Rattle.model.specs.Test.{pick}
-use Rattle.model.specs.Types.{Answer, Body, Checked, Device, Handler, Refusal, Resting, Storing}
+use Rattle.model.specs.Types.{Answer, Body, Device, Handler, Refusal, Resting, Storing}
 
 -- ---- a step that isn't refused
 

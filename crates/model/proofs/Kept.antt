@@ -10,7 +10,7 @@ use native.Mathlib.Numerals.{add-one}
 use native.Mathlib.Omega.{arith}
 use lib.Dec.{eqb}
 use lib.ListN.{length, getD, set}
-use borrow.Author.Tests.{lt-ltb, le-ltb, eq-eqb}
+use borrow.Author.Tests.{lt-ltb, le-ltb}
 use Rattle.model.proofs.FirstStores.{First, storing-goes, storing-ends}
 use Rattle.model.proofs.Invariant.{Controls, controls, Has, Lengths, Waiting, AtWork, Handles, HeldAt, Lasting, Copying, CopyingAt, TaskCommitAt, EventCommitAt, CommitAt, ChosenAt, Running, Placed, Begins, On, Inv}
 use Rattle.model.proofs.LogLaws.{overlay, overlay-suc}

@@ -11,7 +11,7 @@ use lib.ListN.{length, getD, set}
 use lib.Seq.{getD-set-other, getD-set-same}
 use borrow.Author.Tests.{ltb-true, leb-true, leb-false, eqb-true, eqb-false, le-leb, lt-ltb}
 use Rattle.model.proofs.FirstStores.{First}
-use Rattle.model.proofs.TestLaws.{pick-case, pick-true, pick-false, clash, and-true, and-left, and-right, or-true-left}
+use Rattle.model.proofs.TestLaws.{pick-case, pick-true, pick-false, clash, and-true, or-true-left}
 use Rattle.model.specs.Accepted.{Known}
 use Rattle.model.specs.Claims.{FullIsNoRoom}
 use Rattle.model.specs.Burst.{recordsAt}

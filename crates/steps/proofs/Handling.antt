@@ -8,7 +8,7 @@ use Rattle.model.proofs.BurstLaws.{carried-length}
 use Rattle.model.proofs.FirstStores.{storing-goes, storing-ends}
 use Rattle.model.proofs.RingLaws.{record-stores, tail-store, word-store}
 use Rattle.model.specs.Burst.{carried}
-use Rattle.model.specs.Device.{Outcome, out, recordStores, withHandler, resting, handlerStep}
+use Rattle.model.specs.Device.{out, recordStores, withHandler, resting, handlerStep}
 use Rattle.model.specs.Program.{word}
 use Rattle.model.specs.Store.{Store, Tail, Write, to, forward, ringWord}
 use Rattle.model.specs.declared.Answer.{Answer}

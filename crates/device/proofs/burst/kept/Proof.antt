@@ -1,7 +1,6 @@
 -- `burst::kept` meets its contract: its test is the contract's. Assumes nothing.
 use Rattle.model.specs.Test.{pick}
 use Rattle.model.proofs.TestLaws.{tests}
-use borrow.Author.Needs.{needs}
 use Rattle.device.proofs.burst.kept.Statement.{statement}
 use Rattle.device.proofs.burst.kept.Tie as tie
 

@@ -1,7 +1,7 @@
 -- `calls::burst` meets its contract: it is judged by the defined check, and the handler set to work is the defined one. Assumes nothing.
-use mathlib.Core.Path.{refl, sym, ap, _∙_}
+use mathlib.Core.Path.{sym, _∙_}
 use lib.ListN.{length}
-use Rattle.model.specs.Device.{out, judged, withHandler, post}
+use Rattle.model.specs.Device.{judged, post}
 use Rattle.model.proofs.BurstLaws.{carried-length}
 use Rattle.device.proofs.Bursts.{posted-few}
 use borrow.Author.Needs.{needs}
