@@ -42,19 +42,22 @@
 /* ---- An answer's words. Every call writes them; what a case doesn't have is 0. */
 
 #define RUNTIME_ANSWER_CASE 0
-#define RUNTIME_ANSWER_KIND 1         /* the body's, of chosen and committed */
-#define RUNTIME_ANSWER_NUMBER 2       /* the body's, or the refusal's */
-#define RUNTIME_ANSWER_PLACE 3        /* the refusal's, first word */
-#define RUNTIME_ANSWER_SECOND_PLACE 4 /* .. and second word */
-#define RUNTIME_ANSWER_STORED 5       /* of a step alone: the index of the store's word that it stored, even where
-                                       * the value stayed the same, or RUNTIME_NO_STORE */
+#define RUNTIME_ANSWER_KIND 1          /* the body's, of chosen and committed */
+#define RUNTIME_ANSWER_NUMBER 2        /* the body's, or the refusal's */
+#define RUNTIME_ANSWER_PLACE 3         /* the refusal's, first word */
+#define RUNTIME_ANSWER_SECOND_PLACE 4  /* .. and second word */
+#define RUNTIME_ANSWER_DROPPED 1       /* of accepted: 1 if a record was dropped for the event, 0 if none */
+#define RUNTIME_ANSWER_DROPPED_EVENT 2 /* .. the dropped record's event */
+#define RUNTIME_ANSWER_DROPPED_DATA 3  /* .. and its data */
+#define RUNTIME_ANSWER_STORED 5        /* of a step alone: the index of the store's word that it stored, even where
+                                        * the value stayed the same, or RUNTIME_NO_STORE */
 
 #define RUNTIME_CASE_DONE 0           /* check, format, boot, post, burst, cut; lines_check; raise: the event was posted */
 #define RUNTIME_CASE_CHOSEN 1         /* step: a body, with its kind and number */
 #define RUNTIME_CASE_WORKED 2         /* step */
 #define RUNTIME_CASE_STORED 3         /* step */
 #define RUNTIME_CASE_COMMITTED 4      /* step: a body, with its kind and number */
-#define RUNTIME_CASE_ACCEPTED 5       /* step: every event of the handler's burst */
+#define RUNTIME_CASE_ACCEPTED 5       /* step: every event of the handler's burst, with the record dropped for it or none */
 #define RUNTIME_CASE_REFUSED 6        /* all but cut: the refusal's number and place */
 #define RUNTIME_CASE_SPENT 7          /* run */
 #define RUNTIME_CASE_NO_DEVICE 8      /* boot, step, post, burst, run, raise: the device's words stand for no device state */
@@ -79,7 +82,8 @@
 #define RUNTIME_REFUSAL_NO_EVENT 8       /* the program has no such event; place: its position in the burst, from 0 */
 #define RUNTIME_REFUSAL_STORE_SIZE 9     /* log pairs or queue records, when formatting */
 #define RUNTIME_REFUSAL_HANDLER_BUSY 20  /* a handler is at work */
-#define RUNTIME_REFUSAL_QUEUE_FULL 21    /* no room for the whole burst */
+#define RUNTIME_REFUSAL_QUEUE_FULL 21    /* no room for the whole burst; of one event: and the oldest record may not be
+                                          * dropped, since RUNTIME_STORE_BEGUN or RUNTIME_STORE_PHASE is 2 */
 #define RUNTIME_REFUSAL_POWER_OFF 22     /* step, post, burst or raise while off */
 #define RUNTIME_REFUSAL_ADDRESS 23       /* past the memory words */
 #define RUNTIME_REFUSAL_LOG_FULL 24      /* SAVE to an address not in the log, with all pairs used */
@@ -146,8 +150,9 @@
 #define RUNTIME_DEVICE_STORES 13      /* no body: made since copying began; running: made of those that end the body */
 #define RUNTIME_DEVICE_LOG_COUNT 14
 #define RUNTIME_DEVICE_HANDLER 15
-#define RUNTIME_DEVICE_BURST_LENGTH 16   /* the handler's: how many events */
-#define RUNTIME_DEVICE_HANDLER_STORES 17 /* made of its stores: of each event, of its data, and last of the tail */
+#define RUNTIME_DEVICE_BURST_LENGTH 16   /* the handler's: how many events; 1 of a handler that drops or has dropped */
+#define RUNTIME_DEVICE_HANDLER_STORES 17 /* made of its burst's: of each event, of its data, and last of the tail; a store
+                                          * of the head, which drops, isn't one of them */
 #define RUNTIME_DEVICE_BURST 18          /* the handler's, RUNTIME_BURST_WORDS of them; 0 behind its last event's data */
 
 #define RUNTIME_PLACE_NO_BODY 0
@@ -156,11 +161,13 @@
 
 #define RUNTIME_HANDLER_AT_REST 0
 #define RUNTIME_HANDLER_STORING 1
+#define RUNTIME_HANDLER_DROPPING 2  /* about to drop the oldest record, by a store of the head */
+#define RUNTIME_HANDLER_REPLACING 3 /* it has dropped it, and stores the event in its place */
 
 /* ---- The totals, which the host keeps. Each stays at its largest value. */
 
 #define RUNTIME_TOTALS_COMMITTED 0 /* bodies */
-#define RUNTIME_TOTALS_ACCEPTED 1  /* events */
+#define RUNTIME_TOTALS_ACCEPTED 1  /* events, those for which a record was dropped too */
 #define RUNTIME_TOTALS_STORES 2
 
 /* ---- A line table: a row's words. A level from the low one to the high one, both included, is the row's. */
@@ -191,19 +198,20 @@ void runtime_step(const uint16_t *program, size_t program_length, uint16_t *stor
                   uint16_t device[RUNTIME_DEVICE_WORDS], uint32_t totals[RUNTIME_TOTALS_NUMBERS],
                   uint16_t answer[RUNTIME_STEP_ANSWER_WORDS]);
 
+/* To a full queue it drops the oldest record, once the handler's first step is made, unless it is refused with 21. */
 void runtime_post(const uint16_t *program, size_t program_length, const uint16_t *store, size_t store_length,
                   uint16_t device[RUNTIME_DEVICE_WORDS], uint16_t event, uint16_t datum,
                   uint16_t answer[RUNTIME_ANSWER_WORDS]);
 
-/* As a post, of count events together: they are accepted by one store, all of them or none. The words behind the last
- * event's data aren't looked at. */
+/* As a post, of count events together: they are accepted by one store, all of them or none. Two or more drop nothing. The
+ * words behind the last event's data aren't looked at. */
 void runtime_burst(const uint16_t *program, size_t program_length, const uint16_t *store, size_t store_length,
                    uint16_t device[RUNTIME_DEVICE_WORDS], uint16_t count, const uint16_t burst[RUNTIME_BURST_WORDS],
                    uint16_t answer[RUNTIME_ANSWER_WORDS]);
 
 void runtime_cut(uint16_t device[RUNTIME_DEVICE_WORDS], uint16_t answer[RUNTIME_ANSWER_WORDS]);
 
-/* The number of steps made; a refused one isn't counted. */
+/* The number of steps made; a refused one isn't counted. What its steps told of dropped records isn't passed on. */
 uint32_t runtime_run(const uint16_t *program, size_t program_length, uint16_t *store, size_t store_length,
                      uint16_t device[RUNTIME_DEVICE_WORDS], uint32_t totals[RUNTIME_TOTALS_NUMBERS], uint32_t budget,
                      uint16_t answer[RUNTIME_ANSWER_WORDS]);

@@ -520,7 +520,7 @@ static void power_and_queue(void)
     HOLDS((boot(), refuses(RUNTIME_REFUSAL_POWER_ON, 0, 0)));
     HOLDS((post(2, 0), refuses(RUNTIME_REFUSAL_NO_EVENT, 0, 0)));
     HOLDS((post(1, 0), is(RUNTIME_CASE_DONE)));
-    HOLDS(run(3) == 3);
+    HOLDS(run(4) == 4); /* accepted, and chosen */
     HOLDS((post(1, 0), refuses(RUNTIME_REFUSAL_QUEUE_FULL, 0, 0)));
     device[RUNTIME_DEVICE_LOG_COUNT] = 4;
     HOLDS(step_refuses(RUNTIME_REFUSAL_STATE));
@@ -597,8 +597,41 @@ static void burst_refusals(void)
     HOLDS((burst(1), refuses(RUNTIME_REFUSAL_HANDLER_BUSY, 0, 0)));
     device[RUNTIME_DEVICE_BURST_LENGTH] = RUNTIME_MAX_BURST; /* the queue has no room for it */
     HOLDS(step_refuses(RUNTIME_REFUSAL_STATE));
-    device[RUNTIME_DEVICE_HANDLER] = RUNTIME_HANDLER_STORING + 1;
+    device[RUNTIME_DEVICE_HANDLER] = RUNTIME_HANDLER_REPLACING + 1;
     HOLDS(steps(RUNTIME_CASE_NO_DEVICE, RUNTIME_NO_STORE));
+}
+
+/* A post to a full queue: head is stored first, then the record, and the accepting answer has the dropped one. */
+static void record_dropped(void)
+{
+    memset(totals, 0, sizeof totals);
+    guard(device, ALL(device));
+    life_program();
+    fresh(3, 1);
+    HOLDS((boot(), is(RUNTIME_CASE_DONE)));
+    HOLDS((post(0, 66), is(RUNTIME_CASE_DONE)));
+    HOLDS(run(3) == 3);
+    HOLDS((post(1, 77), is(RUNTIME_CASE_DONE)));
+    build_burst();
+    expect_on();
+    expect_burst(1);
+    device_expected[RUNTIME_DEVICE_HANDLER] = RUNTIME_HANDLER_DROPPING;
+    HOLDS(device_is_expected());
+    device_expected[RUNTIME_DEVICE_HANDLER] = RUNTIME_HANDLER_REPLACING;
+    HOLDS(steps_to_store(RUNTIME_STORE_HEAD, 0));
+    device_expected[RUNTIME_DEVICE_HANDLER_STORES] = 1;
+    HOLDS(steps_to_store(store[RUNTIME_STORE_QUEUE_START] + 2, 0));
+    device_expected[RUNTIME_DEVICE_HANDLER_STORES] = 2;
+    HOLDS(steps_to_store(store[RUNTIME_STORE_QUEUE_START] + 3, 0));
+    step();
+    HOLDS(answered(RUNTIME_STEP_ANSWER_WORDS, RUNTIME_CASE_ACCEPTED, 1, 0, 66, 0, RUNTIME_STORE_TAIL));
+    HOLDS(answer[RUNTIME_ANSWER_DROPPED] == 1);
+    HOLDS(answer[RUNTIME_ANSWER_DROPPED_EVENT] == 0);
+    HOLDS(answer[RUNTIME_ANSWER_DROPPED_DATA] == 66);
+    expect_on();
+    HOLDS(device_is_expected());
+    HOLDS(totals[RUNTIME_TOTALS_ACCEPTED] == 2);
+    HOLDS(totals[RUNTIME_TOTALS_STORES] == 3 + 4);
 }
 
 /* ---- Line tables */
@@ -693,6 +726,7 @@ int main(void)
     address_and_log();
     burst_accepted();
     burst_refusals();
+    record_dropped();
     lines_limits();
     lines_refusals();
     lines_raised();

@@ -4,6 +4,7 @@
 
 use crate::begun::situations::{Begun, Found, Past};
 use crate::bursts::situations::{Bursts, Gone};
+use crate::drops::situations::{Drops, Trace};
 use crate::lines::situations::Lines;
 use crate::reference::PHASE;
 use crate::runtime::*;
@@ -34,12 +35,16 @@ pub struct Counts {
     pub nothing_posted: [u64; CALL_KINDS],
     pub committed: u64,
     pub accepted: u64,
+    /// Records dropped, by a head store before an event's.
+    pub dropped: u64,
     /// Cuts while the phase is 1 or 2, and of these the ones after a boot into that phase.
     pub cuts_in_commit: u64,
     pub cuts_in_recovery: u64,
     pub cuts_in_half_save: u64,
     pub cuts_in_ending: u64,
     pub cuts_in_handler: u64,
+    /// Of these, cuts after a record was dropped.
+    pub cuts_after_drop: u64,
     /// Runs with a budget of 0, of 1, and of 2 to the 32 less 1: refused at once, and after some steps.
     pub runs_of_0: u64,
     pub runs_of_1: u64,
@@ -55,6 +60,8 @@ pub struct Counts {
     pub begun: Begun,
     /// Bursts.
     pub bursts: Bursts,
+    /// Records dropped from a full queue.
+    pub drops: Drops,
     /// SHR of every word by every k, apart from the lists.
     pub shifts: Shifts,
 }
@@ -94,6 +101,9 @@ impl Counts {
             self.largest_at_once += (*budget == u32::MAX && refused && answer.steps == 0) as u64;
             self.largest_later += (*budget == u32::MAX && refused && answer.steps > 0) as u64;
         }
+        let dropping = device.on && device.handler.is_some_and(|handler| handler.work == Work::Dropping);
+        let steps = matches!(outcome, Outcome::Run(RunAnswer { steps: 1.., .. }));
+        self.dropped += (dropping && (steps || outcome.answer() == Some(Answer::Stored))) as u64;
         if *call == Call::Cut {
             let ending = matches!(device.place, Place::Running { ending, .. } if ending > 0);
             let half = matches!(device.place, Place::HalfSave { .. });
@@ -102,6 +112,7 @@ impl Counts {
             self.cuts_in_half_save += half as u64;
             self.cuts_in_ending += ending as u64;
             self.cuts_in_handler += device.handler.is_some() as u64;
+            self.cuts_after_drop += device.handler.is_some_and(|handler| handler.work == Work::Replacing) as u64;
         }
     }
 
@@ -131,20 +142,23 @@ impl Counts {
         self.lines.add_all(&other.lines);
         self.begun.add_all(&other.begun);
         self.bursts.add_all(&other.bursts);
+        self.drops.add_all(&other.drops);
         self.shifts.add_all(&other.shifts);
     }
 
     /// The counts that are one number each, with their names.
-    pub fn singles(&self) -> [(&'static str, u64); 13] {
+    pub fn singles(&self) -> [(&'static str, u64); 15] {
         [
             ("steps in runs", self.run_steps),
             ("bodies committed", self.committed),
             ("events accepted", self.accepted),
+            ("events dropped", self.dropped),
             ("cuts in a commit", self.cuts_in_commit),
             ("cuts in a commit after a boot into it", self.cuts_in_recovery),
             ("cuts in half a SAVE", self.cuts_in_half_save),
             ("cuts between ending stores", self.cuts_in_ending),
             ("cuts with a handler at work", self.cuts_in_handler),
+            ("cuts after an event was dropped", self.cuts_after_drop),
             ("runs, budget 0", self.runs_of_0),
             ("runs, budget 1", self.runs_of_1),
             ("runs, budget 4294967295, refused at once", self.largest_at_once),
@@ -153,16 +167,18 @@ impl Counts {
         ]
     }
 
-    fn singles_mut(&mut self) -> [&mut u64; 13] {
+    fn singles_mut(&mut self) -> [&mut u64; 15] {
         [
             &mut self.run_steps,
             &mut self.committed,
             &mut self.accepted,
+            &mut self.dropped,
             &mut self.cuts_in_commit,
             &mut self.cuts_in_recovery,
             &mut self.cuts_in_half_save,
             &mut self.cuts_in_ending,
             &mut self.cuts_in_handler,
+            &mut self.cuts_after_drop,
             &mut self.runs_of_0,
             &mut self.runs_of_1,
             &mut self.largest_at_once,
@@ -337,6 +353,7 @@ struct Trail {
     recovering: bool,
     past: Past,
     gone: Gone,
+    trace: Trace,
 }
 
 impl Counts {
@@ -350,6 +367,7 @@ impl Counts {
         }
         self.lines.add(call, left, outcome);
         self.bursts.add(&mut trail.gone, call, &found, left, outcome);
+        self.drops.add(&mut trail.trace, call, &found, left, outcome);
         self.begun.add(&mut trail.past, call, found, left, outcome);
         trail.recovering = match (call, outcome) {
             (Call::Boot, Outcome::Answer(Answer::Done)) => phase != 0,

@@ -4,8 +4,9 @@
 //! The shapes are those of include/runtime.h. A device is 26 words (`Device::to_words`), totals are three 32-bit
 //! numbers (committed, accepted, stores). An answer is five words: case, kind of body (0 task, 1 event), number,
 //! and a place of two words. Cases: 0 done, 1 chosen, 2 worked, 3 stored, 4 committed, 5 accepted, 6 refused,
-//! 7 spent (of a run), 8 no device, 9 nothing posted (of a raise). Words that a case doesn't have are 0. A step's
-//! answer has a sixth word: the index of the word that it stored, or `NO_STORE`.
+//! 7 spent (of a run), 8 no device, 9 nothing posted (of a raise). Behind accepted come whether a record was dropped
+//! (1, or 0), its event and its data. Words that a case doesn't have are 0. A step's answer has a sixth word: the index
+//! of the word that it stored, or `NO_STORE`.
 
 use crate::runtime::*;
 use crate::scenario::{Call, Outcome};
@@ -68,7 +69,8 @@ pub fn answer_words(answer: &Answer) -> [u16; ANSWER_WORDS] {
         Answer::Worked => [2, 0, 0, 0, 0],
         Answer::Stored => [3, 0, 0, 0, 0],
         Answer::Committed(body) => body_words(4, body),
-        Answer::Accepted => [5, 0, 0, 0, 0],
+        Answer::Accepted(None) => [5, 0, 0, 0, 0],
+        Answer::Accepted(Some((event, datum))) => [5, 1, *event, *datum, 0],
         Answer::Refused(refusal) => [6, 0, refusal.number, refusal.place.0, refusal.place.1],
         Answer::NoDevice => [8, 0, 0, 0, 0],
         Answer::NothingPosted => [9, 0, 0, 0, 0],
@@ -101,7 +103,7 @@ pub fn answer_from_words(words: &[u16; ANSWER_WORDS]) -> Option<Answer> {
         2 => Answer::Worked,
         3 => Answer::Stored,
         4 => Answer::Committed(body),
-        5 => Answer::Accepted,
+        5 => Answer::Accepted((words[1] != 0).then_some((words[2], words[3]))),
         6 => Answer::Refused(Refusal { number: words[2], place: (words[3], words[4]) }),
         8 => Answer::NoDevice,
         _ => Answer::NothingPosted,

@@ -3,6 +3,7 @@
 //! be replayed and shortened without the generator.
 
 use crate::bursts;
+use crate::drops;
 use crate::lines;
 use crate::reference::*;
 use crate::runtime::*;
@@ -146,6 +147,8 @@ pub fn sizes(random: &mut Random) -> Sizes {
             sizes.exact = true;
             sizes.fill = true;
         }
+        // A queue of the largest size.
+        135..=144 => sizes.queue_records = 32,
         // Middling.
         71..=130 => {
             sizes = Sizes {
@@ -977,11 +980,11 @@ impl Schedule {
         for _ in 0..self.random.from(1, 3) {
             let place = self.fitting_place();
             self.make(Call::SetDevice(Device { place, ..Device::ON }));
-            let call = match self.random.below(12) {
+            let call = match self.random.below(13) {
                 0..=2 => Call::Boot,
-                3 | 4 => self.post(),
-                5 => self.post_or_raise(40),
-                6 | 7 => Call::Run { budget: self.budget() },
+                3..=5 => self.post(),
+                6 => self.post_or_raise(40),
+                7 | 8 => Call::Run { budget: self.budget() },
                 _ => Call::Step,
             };
             // What a step uses of the program comes between the first look and some of the rest of 7.
@@ -1054,6 +1057,41 @@ impl Schedule {
             0 => self.post(),
             1 => self.burst(),
             2 => Call::Run { budget: self.budget() },
+            _ => Call::Step,
+        };
+        self.make(call);
+    }
+
+    /// A queue that is full, mostly, with any handler that drops or has dropped, or a post to it; records are bad now and
+    /// then.
+    fn strange_drop(&mut self) {
+        let Sizes { events, queue_records, .. } = self.sizes;
+        self.strange_control();
+        let handler = drops::generate::handler(&mut self.random, events);
+        let handler = self.random.percent(75).then_some(handler);
+        let filled = drops::generate::filled(&mut self.random, queue_records, handler);
+        let tail = (self.word(HEAD) as usize + filled) % (queue_records + 1);
+        self.make(Call::SetStore { index: TAIL, word: tail as u16 });
+        if self.random.percent(25) {
+            // At head, or after tail, where a record has been dropped.
+            let after_tail = (tail + 1) % (queue_records + 1);
+            let slot = match self.random.below(5) {
+                0 | 1 => self.word(HEAD) as usize,
+                2 | 3 => after_tail,
+                _ => self.random.below(queue_records + 1),
+            };
+            let (word, _) = drops::generate::record(&mut self.random, events, 80);
+            self.make(Call::SetStore { index: self.sizes.queue() + 2 * slot, word });
+        }
+        let place = self.fitting_place();
+        let on = handler.is_none() || self.random.percent(92);
+        self.make(Call::SetDevice(Device { on, place, handler, ..Device::ON }));
+        let call = match self.random.below(8) {
+            0 => self.post(),
+            1 => self.burst(),
+            2 | 3 => self.post_or_raise(100),
+            4 => Call::Run { budget: self.budget() },
+            _ if handler.is_none() => self.post_or_raise(50),
             _ => Call::Step,
         };
         self.make(call);
@@ -1192,7 +1230,8 @@ impl Schedule {
             words[index] = match index {
                 0 => 1 - words[0].min(1),
                 9 => self.random.below(3) as u16,
-                10 | 15 => self.random.below(2) as u16,
+                10 => self.random.below(2) as u16,
+                15 => self.random.below(4) as u16,
                 16 => self.random.pick(&[0, 1, 2, 3, 4, 5, 6, 65535]),
                 17 => self.random.pick(&[0, 1, 2, 3, 4, 5, 6, 7, 8, 9, 10, 65535]),
                 _ => self.telling_word(words[index]),
@@ -1209,10 +1248,19 @@ impl Schedule {
         }
     }
 
+    /// The device, now and then with a handler that drops.
+    fn with_handler_now_and_then(&mut self) -> Device {
+        let handler = drops::generate::handler(&mut self.random, self.sizes.events);
+        match self.random.percent(25) {
+            true => Device { handler: Some(handler), ..self.machine.device },
+            false => self.machine.device,
+        }
+    }
+
     /// Words in the device's place, a device's or not: one word of a device changed, or several, or any words.
     /// Where they are no device's, some calls on them.
     fn device_words(&mut self) {
-        let mut words = self.machine.device.to_words();
+        let mut words = self.with_handler_now_and_then().to_words();
         let changes = match self.random.below(10) {
             0..=5 => 1,
             6 | 7 => self.random.from(2, 4),
@@ -1259,12 +1307,13 @@ impl Schedule {
     fn damage_once(&mut self) {
         match self.random.below(100) {
             0..=5 => return self.device_words(),
-            6..=11 => return self.several_broken(),
-            12 | 13 => return self.closing_commit(),
-            14 => return self.another_event(),
-            15..=21 => return self.strange_handler(),
-            22 => return self.one_short(),
-            23 | 24 => return self.burst_at_the_largest(),
+            6..=12 => return self.several_broken(),
+            13 | 14 => return self.closing_commit(),
+            15 => return self.another_event(),
+            16..=22 => return self.strange_handler(),
+            23 => return self.one_short(),
+            24 | 25 => return self.burst_at_the_largest(),
+            26..=29 => return self.strange_drop(),
             _ => {}
         }
         match self.random.below(100) {
@@ -1272,8 +1321,8 @@ impl Schedule {
             30..=34 => self.damage_program_length(),
             35..=63 => self.damage_store(),
             64..=66 => self.damage_store_length(),
-            67..=78 => self.damage_device(),
-            79 => {
+            67..=77 => self.damage_device(),
+            78 | 79 => {
                 if self.random.percent(60) {
                     self.strange_device();
                 }

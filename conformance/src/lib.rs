@@ -6,6 +6,7 @@ pub mod begun;
 pub mod bursts;
 pub mod cases;
 pub mod compare;
+pub mod drops;
 pub mod foreign;
 pub mod generate;
 #[cfg(feature = "library")]

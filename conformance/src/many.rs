@@ -6,7 +6,7 @@
 use crate::compare::{self, Counts, Difference, POSSIBLE};
 use crate::runtime::{Answer, Runtime, BURST_WORDS};
 use crate::scenario::{call_text, outcome_text, Call, Outcome, Scenario, Table, CALL_NAMES};
-use crate::{begun, bursts, cases, generate, lines, selfrun, seven, shift, shorten};
+use crate::{begun, bursts, cases, drops, generate, lines, selfrun, seven, shift, shorten};
 use std::io::Read;
 use std::time::Instant;
 
@@ -96,6 +96,8 @@ fn print_counts(undamaged: &Counts, damaged: &Counts, all: &Counts) {
     println!();
     print!("{}", all.bursts.table());
     println!();
+    print!("{}", all.drops.table());
+    println!();
     print!("{}", all.lines.table());
     println!();
     print!("{}", all.shifts.table());
@@ -130,6 +132,7 @@ pub fn missing(all: &Counts) -> Vec<String> {
     lines.extend(all.several.missing());
     lines.extend(all.begun.missing());
     lines.extend(all.bursts.missing());
+    lines.extend(all.drops.missing());
     lines.extend(all.lines.missing());
     lines.extend(all.shifts.missing());
     lines
@@ -150,10 +153,16 @@ fn judge(all: &Counts) -> Verdict {
     Verdict::TooLittle
 }
 
-/// The lists that don't come from a seed: several rules of 7 broken at once, word 16, line tables, and bursts.
+/// The lists that don't come from a seed: several rules of 7 broken at once, word 16, line tables, bursts, and drops.
 pub fn fixed_lists() -> impl Iterator<Item = Scenario> {
     let first = seven::lists().into_iter().chain(begun::lists::lists());
-    first.chain(lines::lists::lists()).chain(bursts::lists::lists())
+    first.chain(lines::lists::lists()).chain(bursts::lists::lists()).chain(drops::lists::lists())
+}
+
+/// Of these, the undamaged ones over which each side is held alone.
+fn undamaged_lists() -> impl Iterator<Item = Scenario> {
+    let first = begun::lists::undamaged().into_iter().chain(bursts::lists::undamaged());
+    first.chain(drops::lists::undamaged())
 }
 
 /// What both sides do with the lists of one seed: compared, and each alone. Whether nothing differs.
@@ -182,7 +191,7 @@ impl Lists<'_> {
             }
         }
         let alone: [(&str, Drive); 2] = [("first side", &first_alone), ("second side", &second_alone)];
-        for list in begun::lists::undamaged().into_iter().chain(bursts::lists::undamaged()) {
+        for list in undamaged_lists() {
             for (side, drive) in alone {
                 if let Err(difference) = drive(&list, &mut Counts::default()) {
                     report(&format!("{side}, fixed list"), &list, &difference, drive);
@@ -248,9 +257,9 @@ pub fn many(first: &dyn Runtime, second: &dyn Runtime, first_seed: u64, calls: u
     all.add_all(&lists.damaged);
     print_counts(&lists.undamaged, &lists.damaged, &all);
     println!("All lists: both sides compared after every call. Undamaged lists: for each side demand 3 by recovering");
-    println!("a copy, after every call and every step of a run, bursts whole or not at all, a run held against single");
-    println!("steps, and whose turn it is.");
-    println!("fixed lists, several rules of 7 broken at once, word 16, line tables and bursts: {fixed} calls");
+    println!("a copy, after every call and every step of a run, bursts whole or not at all, what is dropped, a run held");
+    println!("against single steps, and whose turn it is.");
+    println!("fixed lists, several rules of 7 broken at once, word 16, line tables, bursts and drops: {fixed} calls");
     println!("SHR of every word by every k, and by every other k: {} calls", all.shifts.calls);
     println!(
         "these and seeds {first_seed} to {}: {} programs, {} calls compared in {:.1} s",
@@ -292,8 +301,8 @@ pub fn replay(first: &dyn Runtime, second: &dyn Runtime, text: &str) -> Verdict 
         println!("the sides part here: {}", difference.text);
     }
     let mut results = vec![("comparison", compared)];
-    // Demand 3 is about lists of boots, steps, posts, cuts, runs and raises on a fresh store.
-    if fresh && scenario.calls.iter().all(|call| call.takes_device()) {
+    // Demand 3 is about lists of calls on a fresh store.
+    if fresh && scenario.calls.iter().all(|call| call.undamaging()) {
         results.push(("first side, demand 3", selfrun::drive(first, &scenario, &mut Counts::default())));
         results.push(("second side, demand 3", selfrun::drive(second, &scenario, &mut Counts::default())));
     }

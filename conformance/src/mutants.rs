@@ -3,6 +3,8 @@
 
 use crate::begun;
 use crate::bursts;
+use crate::drops;
+use crate::drops::mutants::By;
 use crate::lines;
 use crate::reference::*;
 use crate::runtime::*;
@@ -244,9 +246,64 @@ pub enum Mistake {
     RoomForTheRest,
     FullQueueAlone,
     LastStoreUnlike,
+    // Records dropped from a full queue. Which posts drop.
+    DropWithEventBegun,
+    DropInEventCommit,
+    DropInEventCommitOnceMoved,
+    DropInEventCommitOnceCleared,
+    FullAsBefore,
+    DropInPhaseZeroOnly,
+    DropWithNothingBegunOnly,
+    DropOutsideTransactionsOnly,
+    BurstOfTwoDrops,
+    LongerBurstDropsOne,
+    BurstOfOneDropsNothing,
+    RaiseDropsNothing,
+    DropAsStoring,
+    PostStoresHead,
+    PostReadsDroppedRecord,
+    RefusedPostEndsDrop,
+    // The stores.
+    HeadAfterTail,
+    NewRecordOverHead,
+    NewRecordInDroppedSlot,
+    NewestDropped,
+    TwoDropped,
+    AllDropped,
+    HeadNotWrapped,
+    HeadWrapsBeforeLastSlot,
+    HeadStoreNotCounted,
+    HeadStoreNotTold,
+    HeadStoreAnswersWorked,
+    HeadStoreAnswersAccepted,
+    HeadStoreEndsHandler,
+    // The accepting answer, the accepted total, and runs.
+    DropLeftOutOfAnswer,
+    DroppedSwapped,
+    NewRecordInAnswer,
+    OldestLeftInAnswer,
+    DropNamedByEveryAnswer,
+    AcceptedNotRaisedForReplaced,
+    RunEndsAtDrop,
+    // 7 and 25 of a handler that drops.
+    DroppedRecordUnchecked,
+    DroppedRecordNamedByData,
+    DroppedRecordBeforeState,
+    DroppedRecordCheckedWhenNamed,
+    AllRecordsChecked,
+    DroppingFullnessUnseen,
+    DroppingBegunUnseen,
+    DroppingPhaseUnseen,
+    DroppingEventUnseen,
+    DroppingAskedForRoom,
+    ReplacingRoomUnseen,
+    ReplacingRoomUnseenOnceStoring,
+    ReplacingPastTailUnseen,
+    ReplacingEventUnseen,
+    ReplacingAskedForRoomOfOne,
 }
 
-pub const MISTAKES: [Mistake; 213] = [
+pub const MISTAKES: [Mistake; 264] = [
     Mistake::HeadPlusOneOnRedo,
     Mistake::TailBeforeDatum,
     Mistake::PhaseBeforeTask,
@@ -460,6 +517,57 @@ pub const MISTAKES: [Mistake; 213] = [
     Mistake::RoomForTheRest,
     Mistake::FullQueueAlone,
     Mistake::LastStoreUnlike,
+    Mistake::DropWithEventBegun,
+    Mistake::DropInEventCommit,
+    Mistake::DropInEventCommitOnceMoved,
+    Mistake::DropInEventCommitOnceCleared,
+    Mistake::FullAsBefore,
+    Mistake::DropInPhaseZeroOnly,
+    Mistake::DropWithNothingBegunOnly,
+    Mistake::DropOutsideTransactionsOnly,
+    Mistake::BurstOfTwoDrops,
+    Mistake::LongerBurstDropsOne,
+    Mistake::BurstOfOneDropsNothing,
+    Mistake::RaiseDropsNothing,
+    Mistake::DropAsStoring,
+    Mistake::PostStoresHead,
+    Mistake::PostReadsDroppedRecord,
+    Mistake::RefusedPostEndsDrop,
+    Mistake::HeadAfterTail,
+    Mistake::NewRecordOverHead,
+    Mistake::NewRecordInDroppedSlot,
+    Mistake::NewestDropped,
+    Mistake::TwoDropped,
+    Mistake::AllDropped,
+    Mistake::HeadNotWrapped,
+    Mistake::HeadWrapsBeforeLastSlot,
+    Mistake::HeadStoreNotCounted,
+    Mistake::HeadStoreNotTold,
+    Mistake::HeadStoreAnswersWorked,
+    Mistake::HeadStoreAnswersAccepted,
+    Mistake::HeadStoreEndsHandler,
+    Mistake::DropLeftOutOfAnswer,
+    Mistake::DroppedSwapped,
+    Mistake::NewRecordInAnswer,
+    Mistake::OldestLeftInAnswer,
+    Mistake::DropNamedByEveryAnswer,
+    Mistake::AcceptedNotRaisedForReplaced,
+    Mistake::RunEndsAtDrop,
+    Mistake::DroppedRecordUnchecked,
+    Mistake::DroppedRecordNamedByData,
+    Mistake::DroppedRecordBeforeState,
+    Mistake::DroppedRecordCheckedWhenNamed,
+    Mistake::AllRecordsChecked,
+    Mistake::DroppingFullnessUnseen,
+    Mistake::DroppingBegunUnseen,
+    Mistake::DroppingPhaseUnseen,
+    Mistake::DroppingEventUnseen,
+    Mistake::DroppingAskedForRoom,
+    Mistake::ReplacingRoomUnseen,
+    Mistake::ReplacingRoomUnseenOnceStoring,
+    Mistake::ReplacingPastTailUnseen,
+    Mistake::ReplacingEventUnseen,
+    Mistake::ReplacingAskedForRoomOfOne,
 ];
 
 /// The mistakes about SHR.
@@ -489,7 +597,12 @@ pub fn mistakes_about_lines() -> &'static [Mistake] {
 
 /// The mistakes about bursts.
 pub fn mistakes_about_bursts() -> &'static [Mistake] {
-    &MISTAKES[Mistake::TailBeforeLastDatum as usize..]
+    &MISTAKES[Mistake::TailBeforeLastDatum as usize..=Mistake::LastStoreUnlike as usize]
+}
+
+/// The mistakes about records dropped from a full queue.
+pub fn mistakes_about_drops() -> &'static [Mistake] {
+    &MISTAKES[Mistake::DropWithEventBegun as usize..]
 }
 
 /// Of these, the mistakes in a table's check.
@@ -791,6 +904,9 @@ impl Mutant {
             _ if mistakes_about_bursts().contains(&self.0) => {
                 bursts::mutants::step(self.0, program, store, device, totals)
             }
+            _ if mistakes_about_drops().contains(&self.0) => {
+                drops::mutants::step(self.0, program, store, device, totals)
+            }
             _ => None,
         }
     }
@@ -924,6 +1040,44 @@ impl Mutant {
         }
         self.own_step(program, store, device, totals)
     }
+
+    /// A post, a burst or a raise.
+    fn posted(
+        &self,
+        by: By,
+        program: &[u16],
+        store: &mut [u16],
+        device: &mut Device,
+        (count, words): (u16, &BurstWords),
+    ) -> Answer {
+        let old = *device;
+        if self.0 == Mistake::PostLooksAtAll {
+            if let Some(lowest) = broken(program, store).all.first() {
+                return refused_at_word(*lowest);
+            }
+        }
+        let mistaken = match self.0 {
+            Mistake::EventInOpenTransaction => {
+                Some(as_if_closed(store, |store| Reference.burst(program, store, device, count, words)))
+            }
+            _ if mistakes_about_begun().contains(&self.0) => {
+                begun::mutants::burst(self.0, program, store, device, (count, words))
+            }
+            _ if mistakes_about_bursts().contains(&self.0) => {
+                bursts::mutants::burst(self.0, program, store, device, (count, words))
+            }
+            _ if mistakes_about_drops().contains(&self.0) => {
+                drops::mutants::burst(self.0, program, store, device, (count, words), by)
+            }
+            _ => None,
+        };
+        let answer = mistaken.unwrap_or_else(|| Reference.burst(program, store, device, count, words));
+        if self.0 == Mistake::QueueFullEarly && answer == Answer::Done && bursts::room(store) == count as usize {
+            *device = old;
+            return refused(21);
+        }
+        self.answer(Call::Burst { count, words: *words }, program, store, answer)
+    }
 }
 
 impl Runtime for Mutant {
@@ -963,30 +1117,11 @@ impl Runtime for Mutant {
         count: u16,
         words: &BurstWords,
     ) -> Answer {
-        let old = *device;
-        if self.0 == Mistake::PostLooksAtAll {
-            if let Some(lowest) = broken(program, store).all.first() {
-                return refused_at_word(*lowest);
-            }
-        }
-        let mistaken = match self.0 {
-            Mistake::EventInOpenTransaction => {
-                Some(as_if_closed(store, |store| Reference.burst(program, store, device, count, words)))
-            }
-            _ if mistakes_about_begun().contains(&self.0) => {
-                begun::mutants::burst(self.0, program, store, device, (count, words))
-            }
-            _ if mistakes_about_bursts().contains(&self.0) => {
-                bursts::mutants::burst(self.0, program, store, device, (count, words))
-            }
-            _ => None,
-        };
-        let answer = mistaken.unwrap_or_else(|| Reference.burst(program, store, device, count, words));
-        if self.0 == Mistake::QueueFullEarly && answer == Answer::Done && bursts::room(store) == count as usize {
-            *device = old;
-            return refused(21);
-        }
-        self.answer(Call::Burst { count, words: *words }, program, store, answer)
+        self.posted(By::Burst, program, store, device, (count, words))
+    }
+
+    fn post(&self, program: &[u16], store: &mut [u16], device: &mut Device, event: u16, datum: u16) -> Answer {
+        self.posted(By::Post, program, store, device, (1, &single(event, datum)))
     }
 
     fn cut(&self, device: &mut Device) -> Answer {
@@ -1014,6 +1149,9 @@ impl Runtime for Mutant {
                 return RunAnswer { steps, end: End::Refused(self.refusal(Call::Run { budget }, program, store, refusal)) };
             }
             steps += 1;
+            if self.0 == Mistake::RunEndsAtDrop && matches!(step.answer, Answer::Accepted(Some(_))) {
+                break;
+            }
         }
         RunAnswer { steps, end: End::Spent }
     }
@@ -1036,7 +1174,7 @@ impl Runtime for Mutant {
     ) -> Answer {
         let events = program.get(2).copied().unwrap_or(0);
         match lines::mutants::post(self.0, table, line, level, events) {
-            Ok((event, datum)) => self.post(program, store, device, event, datum),
+            Ok((event, datum)) => self.posted(By::Raise, program, store, device, (1, &single(event, datum))),
             Err(answer) => {
                 let first = self.looked_at_first(&answer);
                 match Reference.post(program, store, &mut device.clone(), 0, level) {

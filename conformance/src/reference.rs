@@ -562,6 +562,11 @@ impl Look {
             head - tail - 1
         }
     }
+
+    /// N7: whether a single post drops the record at head: the queue is full, and neither word 16 nor the phase is 2.
+    fn drops(&self, store: &[u16]) -> bool {
+        self.room(store) == 0 && store[BEGUN] != EVENT_BEGUN && store[PHASE] != 2
+    }
 }
 
 /// What word 16 says while the device runs what it runs.
@@ -579,14 +584,17 @@ fn first_bad_event(look: &Look, length: usize, words: &BurstWords) -> Option<usi
     words.iter().step_by(2).take(length).position(|event| *event as usize >= look.head.events)
 }
 
-/// 25 meets a handler "whose burst doesn't fit, is past its tail store or has a length or an event out of range".
+/// 25 meets a handler "whose burst doesn't fit, is past its tail store or has a length or an event out of range"; of one
+/// about to drop it "asks instead of room a full queue, a burst of one, and neither word 16 nor the phase at 2". Such a
+/// handler of another burst is no device state.
 #[inline(always)]
 fn handler_unlike(look: &Look, store: &[u16], handler: &Handler) -> bool {
     let length = handler.length as usize;
     length == 0
         || length > MAX_BURST
         || handler.made as usize > 2 * length
-        || length > look.room(store)
+        || (handler.work != Work::Dropping && length > look.room(store))
+        || (handler.work == Work::Dropping && !look.drops(store))
         || first_bad_event(look, length, &handler.words).is_some()
 }
 
@@ -681,7 +689,21 @@ impl Node<'_> {
     }
 }
 
-/// A handler at work makes its next store: each event and then its data, in the slots from tail on; then tail.
+/// A handler about to drop stores head first. It uses the record there.
+#[inline(always)]
+fn drop_store(look: &Look, mut node: Node, handler: Handler) -> Result<Answer, Refusal> {
+    let head = node.store[HEAD] as usize;
+    let slot = look.parts.slot(head);
+    if node.store[slot] as usize >= look.head.events {
+        return Err(refusal_at(7, slot, 0));
+    }
+    node.make((HEAD, look.parts.after(head) as u16));
+    node.device.handler = Some(Handler { work: Work::Replacing, ..handler });
+    Ok(Answer::Stored)
+}
+
+/// A handler at work makes its next store: each event and then its data, in the slots from tail on; then tail. Where it
+/// has dropped a record, that one still stands in the slot after tail.
 #[inline(always)]
 fn handler_store(look: &Look, mut node: Node, handler: Handler) -> Answer {
     let tail = node.store[TAIL] as usize;
@@ -692,10 +714,12 @@ fn handler_store(look: &Look, mut node: Node, handler: Handler) -> Answer {
         node.device.handler = Some(Handler { made: handler.made + 1, ..handler });
         return Answer::Stored;
     }
+    let slot = look.parts.slot(look.parts.after(tail));
+    let dropped = (node.store[slot], node.store[slot + 1]);
     node.make((TAIL, look.parts.past(tail, length) as u16));
     add(&mut node.totals.accepted, handler.length as u32);
     node.device.handler = None;
-    Answer::Accepted
+    Answer::Accepted((handler.work == Work::Replacing).then_some(dropped))
 }
 
 /// A commit makes its next store after the commit store: n copies; 9 from 12 and 10 from 13, or 14 from 12;
@@ -1039,10 +1063,11 @@ fn burst(program: &[u16], store: &[u16], device: &mut Device, count: u16, words:
     if device.handler.is_some() {
         return Err(refusal(20));
     }
-    if length > look.room(store) {
+    let work = if length == 1 && look.drops(store) { Work::Dropping } else { Work::Storing };
+    if work == Work::Storing && length > look.room(store) {
         return Err(refusal(21));
     }
-    device.handler = Some(Handler::new(count, words));
+    device.handler = Some(Handler { work, ..Handler::new(count, words) });
     Ok(())
 }
 
@@ -1057,8 +1082,10 @@ fn step(
     let look = look(program, store, device)?;
     let (place, handler) = (device.place, device.handler);
     let node = Node { store, device, totals, made };
-    if let Some(handler) = handler {
-        return Ok(handler_store(&look, node, handler));
+    match handler {
+        Some(handler) if handler.work == Work::Dropping => return drop_store(&look, node, handler),
+        Some(handler) => return Ok(handler_store(&look, node, handler)),
+        None => {}
     }
     match place {
         Place::NoBody { commit } => {

@@ -14,6 +14,9 @@ pub enum Body {
     Event(u16),
 }
 
+/// A record of the queue: event and data.
+pub type Record = (u16, u16);
+
 /// A refusal: its number and a place of two words.
 #[derive(Clone, Copy, PartialEq, Eq, Debug)]
 pub struct Refusal {
@@ -29,7 +32,8 @@ pub enum Answer {
     Worked,
     Stored,
     Committed(Body),
-    Accepted,
+    /// With the record that was dropped for the accepted one, or none.
+    Accepted(Option<Record>),
     Refused(Refusal),
     /// The words in the device's place stand for no device state.
     NoDevice,
@@ -76,21 +80,53 @@ pub const MAX_BURST: usize = 4;
 pub const BURST_WORDS: usize = 2 * MAX_BURST;
 pub type BurstWords = [u16; BURST_WORDS];
 
-/// A handler at work: how many events its burst has, how many of its stores are made (of each event, of its data, and
-/// last of the tail), and the burst's words. Those behind its last event's data are 0.
+/// What a handler is about.
+#[derive(Clone, Copy, PartialEq, Eq, Debug)]
+pub enum Work {
+    /// It stores a burst.
+    Storing,
+    /// It is about to drop the oldest record: a burst of one, with no store made. Another one is no device state.
+    Dropping,
+    /// It has dropped that record, and stores a burst of one in its place. One of another length is no device state.
+    Replacing,
+}
+
+/// A handler at work: what it is about, how many events its burst has, how many of its stores are made (of each event, of
+/// its data, and last of the tail), and the burst's words. Those behind its last event's data are 0.
 #[derive(Clone, Copy, PartialEq, Eq, Debug)]
 pub struct Handler {
+    pub work: Work,
     pub length: u16,
     pub made: u16,
     pub words: BurstWords,
 }
 
 impl Handler {
-    /// With no store made, and 0 behind the last event's data, whatever was there.
+    /// Storing, with no store made, and 0 behind the last event's data, whatever was there.
     pub fn new(length: u16, words: &BurstWords) -> Handler {
         let mut words = *words;
         words[used_words(length)..].fill(0);
-        Handler { length, made: 0, words }
+        Handler { work: Work::Storing, length, made: 0, words }
+    }
+
+    /// About to drop the oldest record for this one.
+    pub fn dropping((event, datum): Record) -> Handler {
+        Handler { work: Work::Dropping, ..Handler::single(event, datum) }
+    }
+
+    /// With the oldest record dropped for this one, of which so many stores are made.
+    pub fn replacing((event, datum): Record, made: u16) -> Handler {
+        Handler { work: Work::Replacing, made, ..Handler::single(event, datum) }
+    }
+
+    /// Whether it drops a record, or has dropped one.
+    pub fn drops(&self) -> bool {
+        self.work != Work::Storing
+    }
+
+    /// Its first record.
+    pub fn record(&self) -> Record {
+        (self.words[0], self.words[1])
     }
 
     /// Of one event.
@@ -144,8 +180,8 @@ impl Device {
 
     /// The flat form. Words: 0 on; 1 to 8 registers; 9 place (0 no body, 1 running, 2 half a SAVE);
     /// 10 kind of body (0 task, 1 event); 11 its number; 12 its instruction; 13 commit place, or ending
-    /// stores made; 14 log count; 15 handler (0 at rest, 1 at work); 16 the length of its burst; 17 how many
-    /// of its stores are made; 18 to 25 the burst's words. What a case doesn't have is 0.
+    /// stores made; 14 log count; 15 handler (0 at rest, 1 storing, 2 dropping, 3 replacing); 16 the length of its
+    /// burst; 17 how many of its stores are made; 18 to 25 the burst's words. What a case doesn't have is 0.
     pub fn to_words(&self) -> [u16; DEVICE_WORDS] {
         let mut words = [0; DEVICE_WORDS];
         words[0] = self.on as u16;
@@ -173,7 +209,7 @@ impl Device {
         }
         words[14] = self.log_count;
         if let Some(handler) = self.handler {
-            words[15] = 1;
+            words[15] = handler.work as u16 + 1;
             words[16] = handler.length;
             words[17] = handler.made;
             words[18..].copy_from_slice(&handler.words);
@@ -196,19 +232,15 @@ impl Device {
         registers.copy_from_slice(&words[1..9]);
         let mut burst = [0; BURST_WORDS];
         burst.copy_from_slice(&words[18..]);
-        let handler = Handler { made: words[17], ..Handler::new(words[16], &burst) };
-        let device = Device {
-            on: words[0] != 0,
-            registers,
-            place,
-            log_count: words[14],
-            handler: (words[15] != 0).then_some(handler),
+        let stored = Handler { made: words[17], ..Handler::new(words[16], &burst) };
+        let handler = match words[15] {
+            0 => None,
+            1 => Some(stored),
+            2 => Some(Handler::dropping(stored.record())),
+            _ => Some(Handler::replacing(stored.record(), stored.made)),
         };
-        if device.to_words() == *words {
-            Some(device)
-        } else {
-            None
-        }
+        let device = Device { on: words[0] != 0, registers, place, log_count: words[14], handler };
+        (device.to_words() == *words).then_some(device)
     }
 }
 

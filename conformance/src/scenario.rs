@@ -72,6 +72,11 @@ impl Call {
         matches!(self.kind(), Some(2..=6 | 8..))
     }
 
+    /// Whether a list with it is undamaged: every call is, but formatting anew.
+    pub fn undamaging(&self) -> bool {
+        self.kind().is_some() && !matches!(self, Call::Format { .. })
+    }
+
     /// Whether it looks at it. A cut leaves the off value, whatever it finds.
     pub fn looks_at_device(&self) -> bool {
         self.takes_device() && *self != Call::Cut
@@ -311,7 +316,8 @@ fn answer_text(answer: &Answer) -> String {
         Answer::Worked => "worked".into(),
         Answer::Stored => "stored".into(),
         Answer::Committed(body) => format!("committed {}", body_text(body)),
-        Answer::Accepted => "accepted".into(),
+        Answer::Accepted(None) => "accepted".into(),
+        Answer::Accepted(Some((event, datum))) => format!("accepted, dropped {event} {datum}"),
         Answer::Refused(Refusal { number, place: (first, second) }) => match *number {
             NO_ANSWER => format!("no answer of this call (words {first} {second} ..)"),
             BAD_DEVICE => "words that are no device's".into(),

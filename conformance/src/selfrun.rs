@@ -1,7 +1,9 @@
-//! One implementation over an undamaged list: demand 3, bursts whole or not at all, and whose turn it is after every call,
-//! at most one store for each step, the totals, run against single steps, and only the refusals that such a list may meet.
+//! One implementation over an undamaged list: demand 3, bursts whole or not at all, what is dropped, and whose turn it is
+//! after every call, at most one store for each step, the totals, run against single steps, and only the refusals that such
+//! a list may meet.
 
 use crate::compare::{word_difference, Counts, Difference};
+use crate::drops::mutants::Rule;
 use crate::reference::PHASE;
 use crate::runtime::*;
 use crate::scenario::{Call, Machine, Outcome, Scenario};
@@ -25,10 +27,10 @@ fn about_the_table(number: u16) -> bool {
     matches!(number, 30..=32)
 }
 
-/// Whether a call is one of demand 3's list. A raise is where it posts.
+/// Whether a call is one of demand 3's list: a boot, a step, a post or a cut. A raise is where it posts.
 fn in_the_list(call: &Call, answer: &Answer) -> bool {
     match (call, answer) {
-        (Call::LinesCheck { .. }, _) | (Call::Raise { .. }, Answer::NothingPosted) => false,
+        (Call::Check | Call::LinesCheck { .. }, _) | (Call::Raise { .. }, Answer::NothingPosted) => false,
         (Call::Raise { .. }, Answer::Refused(refusal)) => !about_the_table(refusal.number),
         _ => true,
     }
@@ -50,8 +52,25 @@ struct Watch<'a> {
 /// The number of stores that an answer tells.
 fn stores_of(answer: &Answer) -> usize {
     match answer {
-        Answer::Chosen(_) | Answer::Stored | Answer::Committed(_) | Answer::Accepted => 1,
+        Answer::Chosen(_) | Answer::Stored | Answer::Committed(_) | Answer::Accepted(_) => 1,
         _ => 0,
+    }
+}
+
+impl<'a> Watch<'a> {
+    /// Of a formatted store.
+    fn new(runtime: &'a dyn Runtime, machine: Machine, serial: Serial) -> Watch<'a> {
+        Watch {
+            runtime,
+            machine,
+            serial,
+            turn: Turn::default(),
+            whole: Whole::default(),
+            before: Vec::new(),
+            copy: Vec::new(),
+            recovering: false,
+            stuck: None,
+        }
     }
 }
 
@@ -115,7 +134,7 @@ impl Watch<'_> {
             expected.committed = expected.committed.saturating_add(1);
             counts.committed += 1;
         }
-        if *answer == Answer::Accepted {
+        if let Answer::Accepted(_) = answer {
             let length = self.serial.carried().len();
             expected.accepted = expected.accepted.saturating_add(length as u32);
             counts.accepted += length as u64;
@@ -192,6 +211,16 @@ impl Watch<'_> {
 
 /// Drive one implementation over an undamaged scenario.
 pub fn drive(runtime: &dyn Runtime, scenario: &Scenario, counts: &mut Counts) -> Result<(), Difference> {
+    drive_by(Rule::Right, runtime, scenario, counts)
+}
+
+/// The same with a serial run that drops records by this rule.
+pub fn drive_by(
+    rule: Rule,
+    runtime: &dyn Runtime,
+    scenario: &Scenario,
+    counts: &mut Counts,
+) -> Result<(), Difference> {
     counts.scenarios += 1;
     let start = |text: String| Difference { index: None, text };
     let mut machine = Machine::new(scenario);
@@ -203,18 +232,8 @@ pub fn drive(runtime: &dyn Runtime, scenario: &Scenario, counts: &mut Counts) ->
             return Err(start(format!("{call:?} answers {outcome:?}")));
         }
     }
-    let serial = Serial::new(&machine.program);
-    let mut watch = Watch {
-        runtime,
-        machine,
-        serial,
-        turn: Turn::default(),
-        whole: Whole::default(),
-        before: Vec::new(),
-        copy: Vec::new(),
-        recovering: false,
-        stuck: None,
-    };
+    let serial = Serial::by(rule, &machine.program, scenario.queue_records);
+    let mut watch = Watch::new(runtime, machine, serial);
     watch.demand_3().map_err(start)?;
     for (index, call) in scenario.calls.iter().enumerate() {
         let result = match watch.machine.affordable(runtime, call) {

@@ -1,17 +1,14 @@
-//! The serial run: the history that a list of calls with their answers must amount to. It has the program
+//! The serial run: the history that a list of calls with their answers must amount to. It has the program and Q,
 //! and reads the list, never the store. With it the check of demand 3 in running code: after every call a
 //! copy of the store is recovered and compared with the serial run's state; and beside it that of N6's "several events
-//! or none". The interpreter here is its own
-//! and knows no log.
+//! or none". The interpreter here is its own and knows no log.
 
+use crate::drops::mutants::Rule;
 use crate::reference::{BEGUN, COUNT, HEAD, MEMORY, OPEN, PENDING, PHASE, TAIL, TASK};
 use crate::runtime::*;
 use crate::scenario::Call;
 use crate::turn::Turn;
 use std::collections::VecDeque;
-
-/// Event and data.
-pub type Record = (u16, u16);
 
 /// The serial run's state.
 #[derive(Clone, Debug)]
@@ -23,9 +20,18 @@ pub struct Serial {
     pub records: VecDeque<Record>,
     /// What the latest post or burst with the answer done carried.
     latest: Vec<Record>,
-    /// Records added so far, events committed so far.
+    /// Q, formatting's argument.
+    queue_records: usize,
+    /// When the oldest record is dropped: by N7, or for the tests by a mistake.
+    rule: Rule,
+    /// The last call that wasn't refused is a post that found Q records.
+    found_full: bool,
+    /// What was dropped since the latest post or burst with the answer done.
+    dropped_since: Option<Record>,
+    /// Records added so far, events committed so far, records dropped so far.
     pub accepted: u64,
     pub completed: u64,
+    pub dropped: u64,
     /// Calls read so far. It is fuel enough for a body: each of its instructions took a step.
     calls: u64,
 }
@@ -38,15 +44,25 @@ enum Ended {
 
 impl Serial {
     /// The start: memory 0, the entry task, open number 0, no records.
-    pub fn new(program: &[u16]) -> Serial {
+    pub fn new(program: &[u16], queue_records: u16) -> Serial {
+        Serial::by(Rule::Right, program, queue_records)
+    }
+
+    /// The same, dropping records by this rule.
+    pub fn by(rule: Rule, program: &[u16], queue_records: u16) -> Serial {
         Serial {
             memory: vec![0; program[3] as usize],
             task: program[4],
             open: 0,
             records: VecDeque::new(),
             latest: Vec::new(),
+            queue_records: queue_records as usize,
+            rule,
+            found_full: false,
+            dropped_since: None,
             accepted: 0,
             completed: 0,
+            dropped: 0,
             calls: 0,
         }
     }
@@ -54,43 +70,76 @@ impl Serial {
     /// Read one call with its answer. An error is a broken claim. A run isn't read; its steps are.
     pub fn read(&mut self, program: &[u16], call: &Call, answer: &Answer) -> Result<(), String> {
         self.calls += 1;
-        match (call, answer) {
-            (Call::Post { .. } | Call::Burst { .. } | Call::Raise { .. }, Answer::Done) => self.latest = posted(call)?,
-            (_, Answer::Accepted) => {
-                if self.latest.is_empty() {
-                    return Err("accepted without a post".into());
-                }
-                self.records.extend(&self.latest);
-                self.accepted += self.latest.len() as u64;
-            }
-            (_, Answer::Committed(Body::Task(number))) => {
-                if *number != self.task {
-                    return Err(format!("committed task {number}, serial task {}", self.task));
-                }
-                let Ended::Go(next) = self.run_body(program, *number, 0)? else {
-                    return Err("a task ended with DONE".into());
-                };
-                let ended_number = transaction_of(program, self.task);
-                let next_number = transaction_of(program, next);
-                self.open = if ended_number != 0 && ended_number == next_number { ended_number } else { 0 };
-                self.task = next;
-            }
-            (_, Answer::Committed(Body::Event(number))) => {
-                let (event, datum) = self.records.pop_front().ok_or("committed an event without a record")?;
-                if event != *number {
-                    return Err(format!("committed event {number}, oldest record {event}"));
-                }
-                if self.open != 0 {
-                    return Err(format!("committed event {number} while {} is open", self.open));
-                }
-                self.completed += 1;
-                let Ended::Done = self.run_body(program, program[1] + event, datum)? else {
-                    return Err("an event ended with GO".into());
-                };
-            }
+        self.read_drop(call, answer)?;
+        match answer {
+            Answer::Done if posts(call) => self.latest = posted(call)?,
+            Answer::Accepted(dropped) => self.accept(*dropped)?,
+            Answer::Committed(Body::Task(number)) => self.commit_task(program, *number)?,
+            Answer::Committed(Body::Event(number)) => self.commit_event(program, *number)?,
             _ => {}
         }
         Ok(())
+    }
+
+    /// "The serial run drops its oldest record at a stored answer when the last call before it that wasn't refused is a
+    /// post that found Q records."
+    fn read_drop(&mut self, call: &Call, answer: &Answer) -> Result<(), String> {
+        let (rule, found_full) = (self.rule, self.found_full);
+        let refused = matches!(answer, Answer::Refused(_));
+        let post = *answer == Answer::Done && posts(call);
+        let finds_full = post && rule.full(self.records.len(), self.queue_records);
+        self.dropped_since = self.dropped_since.filter(|_| !post);
+        if rule.drops(found_full, finds_full, answer) {
+            let record = if rule.newest() { self.records.pop_back() } else { self.records.pop_front() };
+            self.dropped_since = Some(record.ok_or("dropped without a record")?);
+        }
+        self.dropped += rule.counts(found_full, finds_full, answer) as u64;
+        if !refused || rule.reads_refused_calls() {
+            self.found_full = rule.mark(found_full, finds_full, call, answer);
+        }
+        Ok(())
+    }
+
+    /// The latest burst comes in. The dropped record of the answer is the one dropped for it.
+    fn accept(&mut self, dropped: Option<Record>) -> Result<(), String> {
+        if self.latest.is_empty() {
+            return Err("accepted without a post".into());
+        }
+        if dropped != self.dropped_since {
+            return Err(format!("accepted with {dropped:?} dropped, serial run {:?}", self.dropped_since));
+        }
+        self.records.extend(&self.latest);
+        self.accepted += self.latest.len() as u64;
+        Ok(())
+    }
+
+    fn commit_task(&mut self, program: &[u16], number: u16) -> Result<(), String> {
+        if number != self.task {
+            return Err(format!("committed task {number}, serial task {}", self.task));
+        }
+        let Ended::Go(next) = self.run_body(program, number, 0)? else {
+            return Err("a task ended with DONE".into());
+        };
+        let ended_number = transaction_of(program, self.task);
+        let next_number = transaction_of(program, next);
+        self.open = if ended_number != 0 && ended_number == next_number { ended_number } else { 0 };
+        self.task = next;
+        Ok(())
+    }
+
+    fn commit_event(&mut self, program: &[u16], number: u16) -> Result<(), String> {
+        let (event, datum) = self.records.pop_front().ok_or("committed an event without a record")?;
+        if event != number {
+            return Err(format!("committed event {number}, oldest record {event}"));
+        }
+        if self.open != 0 {
+            return Err(format!("committed event {number} while {} is open", self.open));
+        }
+        self.completed += 1;
+        match self.run_body(program, program[1] + event, datum)? {
+            Ended::Done => Ok(()),
+            Ended::Go(_) => Err("an event ended with GO".into()),
+        }
     }
 
     /// What the latest post or burst with the answer done carried.
@@ -144,6 +193,11 @@ impl Serial {
     }
 }
 
+/// Whether a call with the answer done has posted.
+fn posts(call: &Call) -> bool {
+    matches!(call, Call::Post { .. } | Call::Burst { .. } | Call::Raise { .. })
+}
+
 /// The records of a post, a burst or a raise with the answer done.
 fn posted(call: &Call) -> Result<Vec<Record>, String> {
     match call {
@@ -187,25 +241,33 @@ fn waiting_records(store: &[u16]) -> Result<Vec<Record>, String> {
     Ok(records)
 }
 
-/// Request N6, "Several events or none": of each burst all records come in together, in order, or none. Read from calls,
-/// their answers and the store's waiting records alone.
+/// Request N6, "Several events or none": of each burst all records come in together, in order, or none. Nothing else comes
+/// in, and nothing goes but the oldest record: by an event's commit, or by N7 where a post found the queue full. Read from
+/// calls, their answers and the store's waiting records alone.
 #[derive(Clone, Debug, Default)]
 pub struct Whole {
     /// The records that waited after the latest call.
     waiting: Vec<Record>,
     /// What the latest post or burst with the answer done carried, unless that has come in.
     latest: Vec<Record>,
+    /// The last call that wasn't refused is a post that found Q records waiting.
+    found_full: bool,
 }
 
 impl Whole {
     /// Read a call with its answer, and the store as it left it.
     pub fn read(&mut self, call: &Call, answer: &Answer, store: &[u16]) -> Result<(), String> {
         let records = waiting_records(store)?;
-        if *answer == Answer::Done && matches!(call, Call::Post { .. } | Call::Burst { .. } | Call::Raise { .. }) {
+        let post = *answer == Answer::Done && posts(call);
+        if post {
             self.latest = posted(call)?;
         }
-        // A committed event's record waits no more.
-        let gone = matches!(answer, Answer::Committed(Body::Event(_))) as usize;
+        // A committed event's record waits no more, nor does a dropped one.
+        let drops = self.found_full && *answer == Answer::Stored;
+        let gone = (drops || matches!(answer, Answer::Committed(Body::Event(_)))) as usize;
+        if !matches!(answer, Answer::Refused(_)) {
+            self.found_full = post && self.waiting.len() == store[3] as usize;
+        }
         let before = self.waiting.get(gone..).unwrap_or(&[]);
         let Some(came) = records.strip_prefix(before) else {
             return Err(format!("{:?} waited, now {records:?}", self.waiting));
@@ -213,7 +275,7 @@ impl Whole {
         if !came.is_empty() && came != self.latest {
             return Err(format!("{came:?} came in of a burst of {:?}", self.latest));
         }
-        if came.is_empty() != (*answer != Answer::Accepted) {
+        if came.is_empty() == matches!(answer, Answer::Accepted(_)) {
             return Err(format!("{came:?} came in"));
         }
         if !came.is_empty() {
@@ -248,10 +310,10 @@ fn compare_records(store: &[u16], serial: &Serial, when: &str) -> Result<(), Str
     if waiting != serial.records.len() {
         return Err(format!("{when}: {waiting} records wait, serial records {:?}", serial.records));
     }
-    if serial.accepted != serial.completed + waiting as u64 {
+    if serial.accepted != serial.completed + waiting as u64 + serial.dropped {
         return Err(format!(
-            "{when}: accepted {}, completed {}, waiting {waiting}",
-            serial.accepted, serial.completed
+            "{when}: accepted {}, completed {}, waiting {waiting}, dropped {}",
+            serial.accepted, serial.completed, serial.dropped
         ));
     }
     Ok(())

@@ -16,6 +16,7 @@ use std::io;
 pub enum Line {
     Cut { call: u64, memory: Vec<u16> },
     Refused { call: u64, refusal: Refusal },
+    Dropped { call: u64, record: Record },
     Unread { call: u64 },
 }
 
@@ -95,6 +96,14 @@ pub trait Clauses {
         memory(&copy)
     }
 
+    /// N7: "the accepting answer gains the dropped record or none; for a dropped one N1's sheet prints"
+    fn dropped(&self, answer: &Answer, _machine: &Machine) -> Option<Record> {
+        match answer {
+            Answer::Accepted(dropped) => *dropped,
+            _ => None,
+        }
+    }
+
     /// "numbered from 1": the number after this one, whatever the call has printed.
     fn next(&self, number: u64, _printed: Option<&Line>) -> u64 {
         number + 1
@@ -107,7 +116,7 @@ pub trait Clauses {
 
     /// "for each cut the call's number in decimal and the words [...], in four capital hex digits, all parted by single
     /// spaces", "its number, "refused", the refusal's number and its two place words in decimal", "its number and
-    /// "unread""
+    /// "unread"", and by N7 "the call's number, "dropped", event and data in decimal"
     fn text(&self, line: &Line) -> String {
         match line {
             Line::Cut { call, memory } => {
@@ -120,6 +129,7 @@ pub trait Clauses {
             Line::Refused { call, refusal: Refusal { number, place: (first, second) } } => {
                 format!("{call} refused {number} {first} {second}\n")
             }
+            Line::Dropped { call, record: (event, datum) } => format!("{call} dropped {event} {datum}\n"),
             Line::Unread { call } => format!("{call} unread\n"),
         }
     }
@@ -145,7 +155,8 @@ fn machine(clauses: &dyn Clauses, runtime: &dyn Runtime, program: Vec<u16>) -> M
     machine
 }
 
-/// What a line of the schedule prints, if anything: a call that is neither a cut nor refused prints nothing.
+/// What a line of the schedule prints, if anything: a call that is neither a cut nor refused, and tells of no dropped
+/// record, prints nothing.
 fn printed(
     clauses: &dyn Clauses,
     runtime: &dyn Runtime,
@@ -157,8 +168,10 @@ fn printed(
     if call == Call::Cut {
         return Some(Line::Cut { call: number, memory: clauses.cut(runtime, machine) });
     }
-    let refusal = machine.call(runtime, &call)?.refusal()?;
-    Some(Line::Refused { call: number, refusal })
+    match machine.call(runtime, &call)?.answer()? {
+        Answer::Refused(refusal) => Some(Line::Refused { call: number, refusal }),
+        answer => clauses.dropped(&answer, machine).map(|record| Line::Dropped { call: number, record }),
+    }
 }
 
 /// What is told of a schedule, line by line as far as it is read: the machine before the call, and the line.

@@ -86,7 +86,7 @@ fn device(random: &mut Random) -> Device {
     words[0] = random.percent(90) as u16;
     words[9] %= 3;
     words[10] %= 2;
-    words[15] = random.percent(30) as u16;
+    words[15] = if random.percent(40) { random.from(1, 3) as u16 } else { 0 };
     if words[9] == 0 {
         words[10] = 0;
         words[11] = 0;
@@ -97,6 +97,13 @@ fn device(random: &mut Random) -> Device {
     }
     if words[15] == 0 {
         words[16..].fill(0);
+    }
+    // One that drops, or has dropped, has a burst of one; one that drops no store made.
+    if words[15] > 1 {
+        words[16] = 1;
+    }
+    if words[15] == 2 {
+        words[17] = 0;
     }
     let used = 2 * words[16].min(4) as usize;
     words[18 + used..].fill(0);

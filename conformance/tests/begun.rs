@@ -103,7 +103,7 @@ fn whose_turn_it_is_is_seen_on_one_side() {
 
 /// The error at the last of these answers, all of the counting program's calls on one device; the others are right.
 fn error(answers: &[Answer]) -> String {
-    let (mut turn, serial) = (Turn::default(), Serial::new(&cases::COUNTING));
+    let (mut turn, serial) = (Turn::default(), Serial::new(&cases::COUNTING, 1));
     let (last, before) = answers.split_last().unwrap();
     for answer in before {
         turn.read(answer, &Device::ON, &serial).unwrap();

@@ -131,23 +131,23 @@ fn a_burst_is_whole_by_calls_answers_and_records_alone() {
         whole.read(&Call::Step, &answer, &waiting(records))
     };
     // All, or none.
-    assert_eq!(step(&mut posted(), &three, Answer::Accepted), Ok(()));
+    assert_eq!(step(&mut posted(), &three, Answer::Accepted(None)), Ok(()));
     assert_eq!(step(&mut posted(), &[], Answer::Stored), Ok(()));
     // Half of it, in another order, with another record between or behind, without the answer, and with it alone.
     let [one, two, last] = three;
     let wrong: [&[(u16, u16)]; 4] = [&three[..2], &[two, one, last], &[one, (0, 0), two, last], &[]];
     for records in wrong {
-        assert!(step(&mut posted(), records, Answer::Accepted).is_err(), "{records:?}");
+        assert!(step(&mut posted(), records, Answer::Accepted(None)).is_err(), "{records:?}");
     }
-    assert!(step(&mut posted(), &[one, two, last, (0, 0)], Answer::Accepted).is_err());
+    assert!(step(&mut posted(), &[one, two, last, (0, 0)], Answer::Accepted(None)).is_err());
     assert!(step(&mut posted(), &three, Answer::Stored).is_err());
     // A refused burst carries nothing; one comes in once.
     let mut whole = posted();
     let refused = Answer::Refused(Refusal { number: 20, place: (0, 0) });
     assert_eq!(whole.read(&burst(1), &refused, &waiting(&[])), Ok(()));
-    assert_eq!(step(&mut whole, &three, Answer::Accepted), Ok(()));
+    assert_eq!(step(&mut whole, &three, Answer::Accepted(None)), Ok(()));
     let twice = [&three[..1], &three[..]].concat();
-    assert!(step(&mut whole.clone(), &twice, Answer::Accepted).is_err());
+    assert!(step(&mut whole.clone(), &twice, Answer::Accepted(None)).is_err());
     // An event's commit takes the oldest, and nothing else goes.
     let committed = Answer::Committed(Body::Event(1));
     let mut store = waiting(&three);

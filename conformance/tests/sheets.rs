@@ -114,16 +114,16 @@ fn calls_that_cant_be_read() {
 #[test]
 fn calls_that_are_refused() {
     let counting = image(&COUNTING);
-    let schedule = "s\np00000\nb\nb\np10000\np00001\ns\np00002\ns\ns\np00003\nc\ns\nb\n";
+    let schedule = "s\np00000\nb\nb\np10000\np00001\ns\np00002\ns\ns\ns\np00003\nc\ns\nb\n";
     let lines = [
         "1 refused 22 0 0",
         "2 refused 22 0 0",
         "4 refused 26 0 0",
         "5 refused 8 0 0",
         "8 refused 20 0 0",
-        "11 refused 21 0 0",
-        "12 0000 0000",
-        "13 refused 22 0 0",
+        "12 refused 21 0 0",
+        "13 0000 0000",
+        "14 refused 22 0 0",
     ];
     prints(&counting, schedule, &lines);
     // LOADX of word 1 + 1, and SAVE to words 1 and 0 with L 1.
@@ -131,6 +131,30 @@ fn calls_that_are_refused() {
     prints(&outside, &format!("b\n{}c\n", "s\n".repeat(5)), &["5 refused 23 0 0", "6 refused 23 0 0", "7 0000 0000"]);
     let two = with(&[(16, 0x0900), (17, 1)]);
     prints(&two, &format!("b\n{}c\n", "s\n".repeat(6)), &["7 refused 24 0 0", "8 0000 0000"]);
+}
+
+#[test]
+fn dropped_records() {
+    // Calls 2 to 5 accept an event; the second post drops it, and its fourth step says so.
+    let schedule = "b\np0ABCD\ns\ns\ns\np01234\ns\ns\ns\ns\nc\n";
+    prints(&image(&COUNTING), schedule, &["10 dropped 0 43981", "11 0000 0000"]);
+    // Twice in a row, and the record that is left runs.
+    let again = format!("{}b\np0FFFF\n{}c\n", schedule, "s\n".repeat(4 + 9));
+    let lines = ["10 dropped 0 43981", "11 0000 0000", "17 dropped 0 4660", "27 0000 FFFF"];
+    prints(&image(&COUNTING), &again, &lines);
+    // A cut after the head store: both records are lost, and no line names them.
+    let cut = format!("b\np0ABCD\ns\ns\ns\np01234\ns\nc\nb\n{}c\n", "s\n".repeat(10));
+    prints(&image(&COUNTING), &cut, &["8 0000 0000", "20 0001 0000"]);
+    // Once the event has begun nothing is dropped.
+    let begun = "b\np0ABCD\ns\ns\ns\ns\np01234\nc\n";
+    prints(&image(&COUNTING), begun, &["7 refused 21 0 0", "8 0000 0000"]);
+    // Event 10 of 16.
+    let mut many = vec![0xC0B1, 1, 16, 1, 0, 0, 57, 1, 0];
+    many.extend((0..16).flat_map(|event| [59 + 2 * event, 1, 0]));
+    many.extend([0x0F00, 0]);
+    many.extend((0..16).flat_map(|_| [0x1000, 0]));
+    many[5] = many.len() as u16;
+    prints(&image(&many), "b\npa000B\ns\ns\ns\npc0000\ns\ns\ns\ns\n", &["10 dropped 10 11"]);
 }
 
 #[test]

@@ -48,7 +48,11 @@ static void print(const char *call, int is_step)
     case RUNTIME_CASE_WORKED: printf("worked"); break;
     case RUNTIME_CASE_STORED: printf("stored"); break;
     case RUNTIME_CASE_COMMITTED: printf("committed %s %u", kind, number); break;
-    case RUNTIME_CASE_ACCEPTED: printf("accepted"); break;
+    case RUNTIME_CASE_ACCEPTED:
+        printf("accepted");
+        if (answer[RUNTIME_ANSWER_DROPPED])
+            printf(", dropped %u %u", answer[RUNTIME_ANSWER_DROPPED_EVENT], answer[RUNTIME_ANSWER_DROPPED_DATA]);
+        break;
     case RUNTIME_CASE_REFUSED:
         printf("refused %u, place %u %u", number, answer[RUNTIME_ANSWER_PLACE], answer[RUNTIME_ANSWER_SECOND_PLACE]);
         break;
@@ -150,8 +154,10 @@ int main(void)
 
     post(0, 77);
     steps(3);
-    post(0, 78); /* the queue has one record: RUNTIME_REFUSAL_QUEUE_FULL */
-    steps(8);
+    post(0, 78); /* the queue is full: its one record is dropped */
+    steps(5);
+    post(0, 79); /* full again, and the event has begun: RUNTIME_REFUSAL_QUEUE_FULL */
+    steps(7);
     recover(); /* between the head store and the last: head moves on by one slot in all */
 
     run(1500);

@@ -71,6 +71,9 @@ class Node:
             return f"{CASES[case]} {'task' if kind == N['KIND_TASK'] else 'event'} {number}"
         if case == N["CASE_REFUSED"]:
             return f"{CASES[case]} {number}, place {place} {second}"
+        if case == N["CASE_ACCEPTED"] and self.answer[N["ANSWER_DROPPED"]]:
+            event, datum = self.answer[N["ANSWER_DROPPED_EVENT"]], self.answer[N["ANSWER_DROPPED_DATA"]]
+            return f"{CASES[case]}, dropped {event} {datum}"
         return CASES[case]
 
     def show(self, call):
@@ -139,8 +142,10 @@ def main():
 
     node.post(0, 77)
     node.steps(3)
-    node.post(0, 78)  # the queue has one record: REFUSAL_QUEUE_FULL
-    node.steps(8)
+    node.post(0, 78)  # the queue is full: its one record is dropped
+    node.steps(5)
+    node.post(0, 79)  # full again, and the event has begun: REFUSAL_QUEUE_FULL
+    node.steps(7)
     node.recover()  # between the head store and the last: head moves on by one slot in all
 
     node.run(1500)

@@ -86,8 +86,10 @@ fn main() {
 
     print("post", node.post(0, 77));
     steps(&mut node, 3);
-    print("post", node.post(0, 78)); // the queue has one record: REFUSAL_QUEUE_FULL
-    steps(&mut node, 8);
+    print("post", node.post(0, 78)); // the queue is full: its one record is dropped
+    steps(&mut node, 5);
+    print("post", node.post(0, 79)); // full again, and the event has begun: REFUSAL_QUEUE_FULL
+    steps(&mut node, 7);
     recover(&mut node); // between the head store and the last: head moves on by one slot in all
 
     let (made, end) = node.run(1500);

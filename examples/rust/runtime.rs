@@ -41,6 +41,9 @@ pub const ANSWER_KIND: usize = 1;
 pub const ANSWER_NUMBER: usize = 2;
 pub const ANSWER_PLACE: usize = 3;
 pub const ANSWER_SECOND_PLACE: usize = 4;
+pub const ANSWER_DROPPED: usize = 1; // of accepted: 1 if a record was dropped for the event, 0 if none
+pub const ANSWER_DROPPED_EVENT: usize = 2;
+pub const ANSWER_DROPPED_DATA: usize = 3;
 pub const ANSWER_STORED: usize = 5;
 
 pub const CASE_DONE: u16 = 0;
@@ -139,7 +142,7 @@ pub const DEVICE_STORES: usize = 13;
 pub const DEVICE_LOG_COUNT: usize = 14;
 pub const DEVICE_HANDLER: usize = 15;
 pub const DEVICE_BURST_LENGTH: usize = 16;
-pub const DEVICE_HANDLER_STORES: usize = 17; // made of its stores: of each event, of its data, and last of the tail
+pub const DEVICE_HANDLER_STORES: usize = 17; // made of its burst's: of each event, of its data, and last of the tail
 pub const DEVICE_BURST: usize = 18; // BURST_WORDS of them; 0 behind its last event's data
 
 pub const PLACE_NO_BODY: u16 = 0;
@@ -148,6 +151,8 @@ pub const PLACE_HALF_SAVE: u16 = 2;
 
 pub const HANDLER_AT_REST: u16 = 0;
 pub const HANDLER_STORING: u16 = 1;
+pub const HANDLER_DROPPING: u16 = 2; // about to drop the oldest record, by a store of the head
+pub const HANDLER_REPLACING: u16 = 3; // it has dropped it, and stores the event in its place
 
 // ---- The totals
 
@@ -248,6 +253,13 @@ pub enum Body {
     Event(u16),
 }
 
+/// A record of the queue: an event with its data.
+#[derive(Clone, Copy, PartialEq, Eq, Debug)]
+pub struct Record {
+    pub event: u16,
+    pub datum: u16,
+}
+
 #[derive(Clone, Copy, PartialEq, Eq, Debug)]
 pub enum Answer {
     Done,
@@ -255,7 +267,8 @@ pub enum Answer {
     Worked,
     Stored,
     Committed(Body),
-    Accepted,
+    /// With the record that was dropped for the event, if the queue was full.
+    Accepted { dropped: Option<Record> },
     Refused { number: u16, place: [u16; 2] },
     Spent,
     /// The words in the device's place stand for no device state.
@@ -269,13 +282,14 @@ impl Answer {
     fn from_words(words: &[u16]) -> Answer {
         let number = words[ANSWER_NUMBER];
         let body = if words[ANSWER_KIND] == KIND_TASK { Body::Task(number) } else { Body::Event(number) };
+        let dropped = Record { event: words[ANSWER_DROPPED_EVENT], datum: words[ANSWER_DROPPED_DATA] };
         match words[ANSWER_CASE] {
             CASE_DONE => Answer::Done,
             CASE_CHOSEN => Answer::Chosen(body),
             CASE_WORKED => Answer::Worked,
             CASE_STORED => Answer::Stored,
             CASE_COMMITTED => Answer::Committed(body),
-            CASE_ACCEPTED => Answer::Accepted,
+            CASE_ACCEPTED => Answer::Accepted { dropped: (words[ANSWER_DROPPED] == 1).then_some(dropped) },
             CASE_REFUSED => Answer::Refused { number, place: [words[ANSWER_PLACE], words[ANSWER_SECOND_PLACE]] },
             CASE_SPENT => Answer::Spent,
             CASE_NO_DEVICE => Answer::NoDevice,
@@ -302,7 +316,10 @@ impl fmt::Display for Answer {
             Answer::Worked => write!(out, "worked"),
             Answer::Stored => write!(out, "stored"),
             Answer::Committed(body) => write!(out, "committed {body}"),
-            Answer::Accepted => write!(out, "accepted"),
+            Answer::Accepted { dropped: None } => write!(out, "accepted"),
+            Answer::Accepted { dropped: Some(Record { event, datum }) } => {
+                write!(out, "accepted, dropped {event} {datum}")
+            }
             Answer::Refused { number, place: [first, second] } => {
                 write!(out, "refused {number}, place {first} {second}")
             }
@@ -399,6 +416,7 @@ impl<'a> Node<'a> {
         (Answer::from_words(&answer), (stored != NO_STORE).then_some(stored))
     }
 
+    /// To a full queue it drops the oldest record, once the handler's first step is made, unless it is refused with 21.
     pub fn post(&mut self, event: u16, datum: u16) -> Answer {
         let mut answer = [0; ANSWER_WORDS];
         unsafe {
@@ -416,8 +434,8 @@ impl<'a> Node<'a> {
         Answer::from_words(&answer)
     }
 
-    /// As a post, of count events together: they are accepted by one store, all of them or none. The words behind the last
-    /// event's data aren't looked at.
+    /// As a post, of count events together: they are accepted by one store, all of them or none. Two or more drop nothing.
+    /// The words behind the last event's data aren't looked at.
     pub fn burst(&mut self, count: u16, words: &[u16; BURST_WORDS]) -> Answer {
         let mut answer = [0; ANSWER_WORDS];
         unsafe {
@@ -461,7 +479,7 @@ impl<'a> Node<'a> {
         Answer::from_words(&answer)
     }
 
-    /// The steps made, with spent or the refusal.
+    /// The steps made, with spent or the refusal. What they told of dropped records isn't passed on.
     pub fn run(&mut self, budget: u32) -> (u32, Answer) {
         let mut answer = [0; ANSWER_WORDS];
         let steps = unsafe {

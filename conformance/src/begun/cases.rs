@@ -27,7 +27,7 @@ pub fn a_begun_task_is_taken_up(runtime: &dyn Runtime) {
     assert_eq!(bench.store[16], 1);
     // "An event accepted while a task is begun now runs after that task, cut or no cut."
     assert_eq!(bench.post(0, 7), Answer::Done);
-    assert_eq!(bench.steps(3), Answer::Accepted);
+    assert_eq!(bench.steps(3), Answer::Accepted(None));
     for steps in [0, 1, 5, 8] {
         bench.steps(steps);
         cut_and_boot(&mut bench);

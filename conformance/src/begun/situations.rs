@@ -141,7 +141,7 @@ impl Past {
             };
         }
         match answer {
-            Answer::Accepted if seen.store[PHASE] == 0 && seen.store[BEGUN] != NOTHING_BEGUN => {
+            Answer::Accepted(_) if seen.store[PHASE] == 0 && seen.store[BEGUN] != NOTHING_BEGUN => {
                 self.accepted = Some(seen.store[BEGUN]);
                 (self.cut_since, self.committed) = (false, false);
             }

@@ -127,6 +127,7 @@ fn answer_cell(answer: Answer) -> String {
         Answer::Chosen(body) => format!("chosen {}", body_cell(body)),
         Answer::Committed(body) => format!("committed {}", body_cell(body)),
         Answer::Refused(refusal) => format!("refused {}", refusal.number),
+        Answer::Accepted(_) => "accepted".into(),
         other => format!("{other:?}").to_lowercase(),
     }
 }
@@ -359,7 +360,7 @@ handler. stores: the word's index, name and new value. ph, op: phase and open
 number after the call. If power is cut then, uncut recovery takes so many steps
 and leaves this memory and this record waiting; next is the body that runs
 then. T0 is task 0, E0 event 0; post 7 posts event 0 with data 7. Words are in
-hex, other numbers in decimal. L is 1; Q is 1, in screen 7 it is 2.";
+hex, other numbers in decimal. L is 1; Q is 1, in screen 8 it is 2.";
 
 /// So many steps.
 fn steps(count: usize) -> String {
@@ -381,22 +382,24 @@ fn runs_cut() {
     table(&COUNTING, "bsssssssss", "scbsscbsssss");
     println!("\n6. Cuts among a post's three stores: after one, after two, after all");
     table(&COUNTING, "", "b7scb8sscb9ssscbs");
+    println!("\n7. A post to a full queue drops the oldest record: cuts among its four stores");
+    table(&COUNTING, "b7sss", "8scb7sss8ssscb7sss8ssss");
 }
 
 /// The blackboard's mistakes.
 fn mistakes() {
     println!("\nFive mistakes, each beside the right run. A bar stands where they differ.");
-    println!("\n7. Redoing an event's commit by adding one to head: two records go");
+    println!("\n8. Redoing an event's commit by adding one to head: two records go");
     runs_beside(&HeadPlusOne, &COUNTING, 2, ["b7sss8ssssssss", "ssscbsssss", ""]);
-    println!("\n8. Storing tail before data: a cut accepts a stale record");
+    println!("\n9. Storing tail before data: a cut accepts a stale record");
     let before = format!("b7{}8{}", steps(13), steps(13));
     runs_beside(&Mutant(Mistake::TailBeforeDatum), &COUNTING, 1, [&before, "9sscbs", &steps(9)]);
-    println!("\n9. Clearing the phase before word 9: the task runs again (screen 3's program)");
+    println!("\n10. Clearing the phase before word 9: the task runs again (screen 3's program)");
     let calls = ["bsssssssss", "ssscbsss", &steps(24)];
     runs_beside(&Mutant(Mistake::PhaseBeforeTask), &TRANSACTION, 1, calls);
-    println!("\n10. Taking the log count at recovery from lost state, not word 11");
+    println!("\n11. Taking the log count at recovery from lost state, not word 11");
     runs_beside(&Mutant(Mistake::CountFromLostState), &COUNTING, 1, ["bsssssssss", "scbsssss", ""]);
-    println!("\n11. Serving an event after a cut in an open transaction (screen 3's program)");
+    println!("\n12. Serving an event after a cut in an open transaction (screen 3's program)");
     let calls = [&format!("b{}", steps(15)), "7ssscbs", &steps(22)];
     runs_beside(&Mutant(Mistake::EventInOpenTransaction), &TRANSACTION, 1, calls);
 }

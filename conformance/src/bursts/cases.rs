@@ -45,7 +45,7 @@ pub fn the_stores_of_a_burst(runtime: &dyn Runtime) {
             assert_eq!((bench.store[14], bench.store[15], bench.totals.accepted), (0, 0, 0));
         }
         // ".. and then accepted by one tail store"; "the accepted total rises by the burst's length".
-        assert_eq!(bench.whole_step(), StepAnswer { answer: Answer::Accepted, stored: Some(15) });
+        assert_eq!(bench.whole_step(), StepAnswer { answer: Answer::Accepted(None), stored: Some(15) });
         assert_eq!((bench.store[14], bench.store[15], bench.device), (0, length, Device::ON));
         let stores = 2 * length as u32 + 1;
         assert_eq!(bench.totals, Totals { committed: 0, accepted: length as u32, stores });
@@ -58,7 +58,7 @@ pub fn a_burst_round_the_ring(runtime: &dyn Runtime) {
             let mut bench = standing_at(runtime, 4, slot);
             let before = bench.store.clone();
             assert_eq!(bench.burst(length, &WORDS), Answer::Done);
-            assert_eq!(bench.steps(2 * length as usize + 1), Answer::Accepted);
+            assert_eq!(bench.steps(2 * length as usize + 1), Answer::Accepted(None));
             let mut expected = before;
             for record in 0..length as usize {
                 let at = QUEUE + 2 * ((slot as usize + record) % 5);
@@ -78,9 +78,9 @@ pub fn a_burst_is_served_in_order(runtime: &dyn Runtime) {
     program[5] = program.len() as u16;
     let mut bench = Bench::booted(runtime, &program, 1, 5);
     assert_eq!(bench.burst(4, &[0, 1, 0, 2, 0, 3, 0, 4]), Answer::Done);
-    assert_eq!(bench.steps(9), Answer::Accepted);
+    assert_eq!(bench.steps(9), Answer::Accepted(None));
     assert_eq!(bench.post(0, 5), Answer::Done);
-    assert_eq!(bench.steps(3), Answer::Accepted);
+    assert_eq!(bench.steps(3), Answer::Accepted(None));
     // Chosen, LOAD, ADD, ADD, a SAVE of two steps, 11, 12 and 8; one copy, 14, 16 and 8.
     for expected in [1, 4, 11, 26, 57] {
         bench.steps(13);
@@ -101,7 +101,7 @@ pub fn a_cut_in_a_burst(runtime: &dyn Runtime) {
             assert_eq!(bench.totals, Totals { committed: 0, accepted: 0, stores: made as u32 });
             assert_eq!(bench.step(), Answer::Chosen(Body::Task(0)));
             for _ in 0..40 {
-                assert_ne!(bench.step(), Answer::Accepted);
+                assert!(!matches!(bench.step(), Answer::Accepted(_)));
             }
         }
         let mut bench = two_events(runtime, 4);
@@ -120,8 +120,13 @@ pub fn a_post_is_a_burst_of_one(runtime: &dyn Runtime) {
     assert_eq!(post.device, at_work(handler(1, 0)));
     assert_eq!(burst.device, post.device);
     assert_eq!((post.post(0, 9), burst.burst(1, &WORDS)), (refused(20), refused(20)));
-    assert_eq!((post.steps(3), burst.steps(3)), (Answer::Accepted, Answer::Accepted));
+    assert_eq!((post.steps(3), burst.steps(3)), (Answer::Accepted(None), Answer::Accepted(None)));
     assert_eq!((&post.store, post.totals), (&burst.store, burst.totals));
+    // A full queue: both drop, until its event has begun.
+    assert_eq!((post.post(1, 11), burst.burst(1, &WORDS)), (Answer::Done, Answer::Done));
+    assert_eq!((post.device, burst.device), (at_work(Handler::dropping((1, 11))), at_work(Handler::dropping((1, 11)))));
+    (post.device, burst.device) = (Device::ON, Device::ON);
+    assert_eq!((post.steps(1), burst.steps(1)), (Answer::Chosen(Body::Event(1)), Answer::Chosen(Body::Event(1))));
     assert_eq!((post.post(0, 9), burst.burst(1, &WORDS)), (refused(21), refused(21)));
     assert_eq!((post.post(2, 9), burst.burst(1, &[2; BURST_WORDS])), (refused(8), refused(8)));
 }
@@ -142,6 +147,7 @@ pub fn lengths_of_a_burst(runtime: &dyn Runtime) {
     lengths(&mut two_events(runtime, 6), refused(33));
     lengths(&mut Bench { device: at_work(handler(4, 3)), ..two_events(runtime, 6) }, refused(33));
     lengths(&mut damaged(runtime, 0, &[(15, 2)]), refused(33));
+    lengths(&mut full(runtime), refused(33));
     // Behind all else that a step looks at first.
     lengths(&mut Bench { device: Device::OFF, ..two_events(runtime, 6) }, refused(22));
     lengths(&mut Bench { device: Device { log_count: 4, ..Device::ON }, ..two_events(runtime, 6) }, refused(25));
@@ -153,6 +159,12 @@ pub fn lengths_of_a_burst(runtime: &dyn Runtime) {
         bench.program[index] = word;
         lengths(&mut bench, refused_at(number, place, 0));
     }
+}
+
+/// A full queue, and its event begun: nothing is dropped.
+fn full(runtime: &dyn Runtime) -> Bench<'_> {
+    let place = Place::Running { body: Body::Event(0), instruction: 0, ending: 0 };
+    Bench { device: Device { place, ..Device::ON }, ..damaged(runtime, 0, &[(15, 2), (16, 2)]) }
 }
 
 /// With these words another.
@@ -173,7 +185,8 @@ fn events<'a>(bench: impl Fn() -> Bench<'a>, shorter: Answer) {
                 let answer = if position < length { refused_at(8, position, 0) } else { shorter };
                 let mut bench = bench();
                 let room = 3 - (bench.store[15] + 4 - bench.store[14]) % 4;
-                let long = shorter == Answer::Done && position >= length && length > room;
+                let drops = room == 0 && length == 1;
+                let long = shorter == Answer::Done && position >= length && length > room && !drops;
                 let answer = if long { refused(21) } else { answer };
                 assert_eq!(bench.burst(length, &words), answer, "burst of {length}, position {position}");
             }
@@ -186,7 +199,9 @@ pub fn events_of_a_burst(runtime: &dyn Runtime) {
     events(|| two_events(runtime, 3), Answer::Done);
     // 8 before 20 and before 21.
     events(|| Bench { device: at_work(handler(2, 1)), ..two_events(runtime, 3) }, refused(20));
-    events(|| damaged(runtime, 0, &[(15, 2)]), refused(21));
+    events(|| full(runtime), refused(21));
+    // 8 before a drop.
+    events(|| damaged(runtime, 0, &[(15, 2)]), Answer::Done);
     // 22 before it.
     let mut off = Bench { device: Device::OFF, ..two_events(runtime, 3) };
     assert_eq!(off.burst(3, &with(&[(2, 2)])), refused(22));
@@ -198,7 +213,15 @@ pub fn events_of_a_burst(runtime: &dyn Runtime) {
     let mut bench = two_events(runtime, 3);
     assert_eq!(bench.burst(2, &[1, 65535, 0, 2, 65535, 65535, 2, 2]), Answer::Done);
     let words = [1, 65535, 0, 2, 0, 0, 0, 0];
-    assert_eq!(bench.device, at_work(Handler { length: 2, made: 0, words }));
+    assert_eq!(bench.device, at_work(Handler { words, ..handler(2, 0) }));
+}
+
+/// The device with the event at head begun.
+fn begun<'a, 'b>(bench: &'a mut Bench<'b>) -> &'a mut Bench<'b> {
+    bench.store[16] = 2;
+    let body = Body::Event(bench.store[QUEUE + 2 * bench.store[14] as usize]);
+    bench.device = Device { place: Place::Running { body, instruction: 0, ending: 0 }, ..Device::ON };
+    bench
 }
 
 pub fn room_for_a_burst(runtime: &dyn Runtime) {
@@ -208,9 +231,15 @@ pub fn room_for_a_burst(runtime: &dyn Runtime) {
                 for length in 1..=4 {
                     let mut bench = standing_at(runtime, queue_records, slot);
                     bench.store[15] = (slot + waiting) % (queue_records + 1);
-                    let answer = if waiting + length <= queue_records { Answer::Done } else { refused(21) };
+                    // A single one drops where the queue is full.
+                    let done = waiting + length <= queue_records || length == 1;
+                    let answer = if done { Answer::Done } else { refused(21) };
                     let text = format!("burst of {length}, {waiting} of {queue_records} wait");
                     assert_eq!(bench.burst(length, &WORDS), answer, "{text}");
+                    // A full queue with its event begun takes none.
+                    if waiting == queue_records {
+                        assert_eq!(begun(&mut bench).burst(length, &WORDS), refused(21), "{text}");
+                    }
                     if waiting < queue_records {
                         // 20 before 21.
                         bench.device = at_work(handler(1, 0));
@@ -248,7 +277,7 @@ fn meets(runtime: &dyn Runtime, room: u16, handler: Handler, unlike: bool) {
     let answer = |right: Answer| if unlike { refused(25) } else { right };
     let accepts = handler.made as u32 == 2 * handler.length as u32;
     let text = format!("{handler:?}, room {room}");
-    assert_eq!(bench().step(), answer(if accepts { Answer::Accepted } else { Answer::Stored }), "step, {text}");
+    assert_eq!(bench().step(), answer(if accepts { Answer::Accepted(None) } else { Answer::Stored }), "step, {text}");
     assert_eq!(bench().post(1, 9), answer(refused(20)), "post, {text}");
     assert_eq!(bench().burst(3, &WORDS), answer(refused(20)), "burst, {text}");
     let Bench { program, mut store, mut device, mut totals, .. } = bench();
@@ -291,7 +320,7 @@ pub fn the_accepted_total(runtime: &dyn Runtime) {
             bench.totals.accepted = u32::MAX - below;
             assert_eq!(bench.burst(length, &WORDS), Answer::Done);
             let mut run = Bench { store: bench.store.clone(), program: bench.program.clone(), ..bench };
-            assert_eq!(bench.steps(2 * length as usize + 1), Answer::Accepted);
+            assert_eq!(bench.steps(2 * length as usize + 1), Answer::Accepted(None));
             let expected = u32::MAX - below.saturating_sub(length as u32);
             assert_eq!(bench.totals.accepted, expected, "{below} below, burst of {length}");
             let Bench { program, store, device, totals, .. } = &mut run;
@@ -335,7 +364,7 @@ pub fn words_that_are_no_handler(runtime: &dyn Runtime) {
         let mut words = working;
         words[16..].fill(65535);
         words[16] = length;
-        let expected = Handler { length, made: 65535, words: [65535; BURST_WORDS] };
+        let expected = Handler { made: 65535, words: [65535; BURST_WORDS], ..Handler::new(length, &WORDS) };
         assert_eq!(Device::from_words(&words), Some(at_work(expected)));
     }
 }

@@ -13,7 +13,7 @@ fn length(random: &mut Random, room: usize, any: usize) -> u16 {
         13..=15 => (room + 1).clamp(1, MAX_BURST) as u16,
         16 => 0,
         17 => MAX_BURST as u16 + 1,
-        18 => random.pick(&[5, 6, 8, 9, 256, 257, 260, 0x8001, 65531, 65535]),
+        18 => random.pick(&[5, 6, 6, 6, 7, 7, 8, 9, 256, 257, 260, 0x8001, 65531, 65535]),
         _ => random.word(),
     }
 }

@@ -2,6 +2,7 @@
 //! mistake may change. All other mistakes leave the rules as they are.
 
 use super::{room, slots};
+use crate::drops::drops;
 use crate::mutants::Mistake;
 use crate::reference::*;
 use crate::runtime::*;
@@ -17,7 +18,7 @@ type Posted<'a> = (u16, &'a BurstWords);
 // 25, and what comes before it
 
 /// What a burst meets before 33 with the handler at rest: 1, 2, 3, 6, 7, 25, 22. A burst of none tells.
-fn met_first(program: &[u16], store: &mut [u16], device: &Device) -> Option<Refusal> {
+pub fn met_first(program: &[u16], store: &mut [u16], device: &Device) -> Option<Refusal> {
     let mut resting = Device { handler: if device.on { None } else { device.handler }, ..*device };
     match Reference.burst(program, store, &mut resting, 0, &[0; BURST_WORDS]) {
         Answer::Refused(refusal) if refusal.number != 33 => Some(refusal),
@@ -164,6 +165,8 @@ fn no_room(mistake: Mistake, store: &[u16], count: u16) -> Option<Answer> {
         Mistake::FullQueueAlone => length <= room(store),
         _ => length <= room_by(mistake, store),
     };
+    // A single post to a full queue drops.
+    let fits = fits || (length == 1 && drops(store));
     (!fits).then(|| refused(21, 0))
 }
 
@@ -190,6 +193,9 @@ pub fn burst(
     device: &mut Device,
     posted: Posted,
 ) -> Option<Answer> {
+    if device.on && device.handler.is_some_and(|handler| handler.drops()) {
+        return None;
+    }
     let refusal = match mistake {
         Mistake::HandlerUnseenAtBurst if device.on => met_first(program, store, device),
         _ => look(mistake, program, store, device),
@@ -212,12 +218,15 @@ pub fn burst(
         let other = swapped(mistake).filter(|(_, after)| *after == first).and_then(|(before, _)| met(before));
         return other.or(met(first));
     }
-    Some(begun(mistake, device, posted))
+    Some(begun(mistake, store, device, posted))
 }
 
 /// The handler is set to work.
-fn begun(mistake: Mistake, device: &mut Device, (count, words): Posted) -> Answer {
-    let handler = Handler::new(count, words);
+fn begun(mistake: Mistake, store: &[u16], device: &mut Device, (count, words): Posted) -> Answer {
+    let handler = match count == 1 && drops(store) {
+        true => Handler::dropping((words[0], words[1])),
+        false => Handler::new(count, words),
+    };
     device.handler = match mistake {
         Mistake::LengthZeroPasses if count == 0 => None,
         Mistake::LengthFiveAsFour => Some(Handler { length: count.min(4), ..handler }),
@@ -314,7 +323,7 @@ fn store_next(
         device.handler = Some(Handler { made: handler.made + 1, ..handler });
         let last = handler.made as usize + 1 == before_tail;
         let answer = match mistake {
-            Mistake::LastDatumAnswersAccepted if last && handler.length > 1 => Answer::Accepted,
+            Mistake::LastDatumAnswersAccepted if last && handler.length > 1 => Answer::Accepted(None),
             _ => Answer::Stored,
         };
         return make(store, totals, (index, word), answer);
@@ -322,7 +331,7 @@ fn store_next(
     let (tail, counted) = accepted(mistake, store, handler.length);
     totals.accepted = risen(mistake, totals.accepted, counted as u32);
     device.handler = None;
-    make(store, totals, (TAIL, tail), Answer::Accepted)
+    make(store, totals, (TAIL, tail), Answer::Accepted(None))
 }
 
 /// A tail store after each record.
@@ -337,7 +346,7 @@ fn store_record(store: &mut [u16], device: &mut Device, totals: &mut Totals, han
     }
     totals.accepted = totals.accepted.saturating_add(1);
     let moved = past(Mistake::TailAfterEachRecord, store, tail, 1) as u16;
-    make(store, totals, (TAIL, moved), Answer::Accepted)
+    make(store, totals, (TAIL, moved), Answer::Accepted(None))
 }
 
 /// The tail store before the last event's data.
@@ -348,14 +357,14 @@ pub fn tail_before_last_datum(
     handler: Handler,
 ) -> Option<StepAnswer> {
     let (length, made) = (handler.length, handler.made);
-    if length == 0 || length > MAX_BURST as u16 || made + 1 < 2 * length || made > 2 * length {
+    if handler.drops() || length == 0 || length > MAX_BURST as u16 || made + 1 < 2 * length || made > 2 * length {
         return None;
     }
     if made < 2 * length {
         let (tail, counted) = accepted(Mistake::TailBeforeDatum, store, length);
         device.handler = Some(Handler { made: made + 1, ..handler });
         totals.accepted = totals.accepted.saturating_add(counted as u32);
-        return Some(make(store, totals, (TAIL, tail), Answer::Accepted));
+        return Some(make(store, totals, (TAIL, tail), Answer::Accepted(None)));
     }
     let slot = if store[TAIL] == 0 { store[3] } else { store[TAIL] - 1 };
     let index = store[7] as usize + 2 * slot as usize + 1;
@@ -371,7 +380,7 @@ pub fn step(
     device: &mut Device,
     totals: &mut Totals,
 ) -> Option<StepAnswer> {
-    let handler = device.handler.filter(|_| device.on)?;
+    let handler = device.handler.filter(|handler| device.on && !handler.drops())?;
     if met_first(program, store, device).is_some() {
         return None;
     }

@@ -61,7 +61,8 @@ pub struct Gone {
 
 impl Gone {
     fn cut(&mut self, device: &Device) {
-        let at_work = device.handler.filter(|_| device.on).map(|handler| (handler.length, handler.made));
+        let at_work = device.handler.filter(|handler| device.on && !handler.drops());
+        let at_work = at_work.map(|handler| (handler.length, handler.made));
         self.cut_after = at_work.or(self.accepted.take());
     }
 
@@ -70,7 +71,7 @@ impl Gone {
             self.cut_after = None;
         }
         if matches!(seen.column, STEP | RUN) && seen.number == 0 {
-            let accepted = seen.handler.filter(|_| seen.answer == Some(Answer::Accepted));
+            let accepted = seen.handler.filter(|_| matches!(seen.answer, Some(Answer::Accepted(_))));
             self.accepted = accepted.map(|handler| (handler.length, 2 * handler.length + 1));
         }
     }
@@ -90,7 +91,7 @@ struct Seen<'a> {
     /// The refusal's number, or 0, and its place.
     number: u16,
     place: u16,
-    /// The handler that was at work.
+    /// The handler that was at work, unless it drops, or has dropped, a record.
     handler: Option<Handler>,
     /// What a post or a burst was given.
     count: u16,
@@ -119,7 +120,7 @@ impl<'a> Seen<'a> {
             Call::Burst { count, words } => (*count, *words),
             _ => (0, [0; BURST_WORDS]),
         };
-        let (answer, handler) = (outcome.answer(), found.device.handler);
+        let (answer, handler) = (outcome.answer(), found.device.handler.filter(|handler| !handler.drops()));
         Seen { column, found, machine, answer, steps, number, place: place.0, handler, count, words, gone }
     }
 
@@ -160,7 +161,7 @@ impl<'a> Seen<'a> {
     fn accepts(&self) -> Option<Handler> {
         let handler = self.handler.filter(|_| self.found.device.on)?;
         let left = (2 * handler.length as u32 + 1).checked_sub(handler.made as u32).filter(|left| *left > 0)?;
-        let accepted = self.answer == Some(Answer::Accepted) || (self.column == RUN && self.steps >= left);
+        let accepted = matches!(self.answer, Some(Answer::Accepted(_))) || (self.column == RUN && self.steps >= left);
         accepted.then_some(handler)
     }
 
@@ -560,7 +561,7 @@ fn strays() -> Group {
         situation("no device: at rest with a burst", ALL, |seen| {
             seen.stray()[15] == 0 && seen.stray()[18..].iter().any(|word| *word != 0)
         }),
-        situation("no device: a handler of 2 or more", ALL, |seen| seen.stray()[15] > 1),
+        situation("no device: a handler of 4 or more", ALL, |seen| seen.stray()[15] > 3),
     ];
     Group { may: |seen| seen.machine.stray.is_some(), situations }
 }

@@ -154,7 +154,7 @@ pub fn what_a_raise_posts(runtime: &dyn Runtime) {
         let mut bench = Bench::counting(runtime);
         assert_eq!(bench.raise(&TABLE, line, level), Answer::Done, "line {line}, level {level}");
         assert_eq!(bench.device, Device { handler: Some(Handler::single(0, level)), ..Device::ON });
-        assert_eq!(bench.steps(3), Answer::Accepted);
+        assert_eq!(bench.steps(3), Answer::Accepted(None));
         // Chosen, two steps of SAVE, three stores; then the copy, the head store and the last.
         bench.steps(9);
         assert_eq!(bench.memory(), [0, level]);
@@ -186,6 +186,11 @@ pub fn what_a_raise_meets_first(runtime: &dyn Runtime) {
     assert_eq!(busy.post(0, 9), Answer::Done);
     assert_eq!(all(&mut busy), with(refused(20)));
     busy.steps(3);
+    // Full: a raise drops the record, until its event has begun.
+    let resting = busy.device;
+    assert_eq!(all(&mut busy), with(Answer::Done));
+    busy.device = resting;
+    busy.steps(1);
     assert_eq!(all(&mut busy), with(refused(21)));
     for (index, word, number, place) in [(5, 27, 1, 0), (0, 0, 2, 0), (1, 33, 3, 1)] {
         let mut bench = Bench::counting(runtime);

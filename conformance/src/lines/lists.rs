@@ -213,13 +213,16 @@ fn devices() -> Vec<Call> {
     ]
 }
 
-/// Every kind of raise with every device, right and wrong programs, and right and wrong stores; one has a full queue.
+/// Every kind of raise with every device, right and wrong programs, and right and wrong stores; two have a full queue, of
+/// which one drops nothing, in an event's commit.
 fn raises_among_all() -> Vec<Vec<Call>> {
     let program = |index: usize, word: u16| vec![Call::SetProgram { index, word }];
     let programs = [vec![], vec![Call::ProgramLength(5)], program(5, 27), program(0, 0), program(1, 33), program(4, 1)];
     let store = |index: usize, word: u16| vec![Call::SetStore { index, word }];
     let control = [store(PHASE, 3), store(HEAD, 2), store(TAIL, 1), store(BEGUN, TASK_BEGUN), store(BEGUN, 3)];
-    let stores = [vec![], vec![Call::StoreLength(7)], store(0, 0)].into_iter().chain(control).collect::<Vec<_>>();
+    let commits = [store(PHASE, 2), store(TAIL, 1)].concat();
+    let others = [vec![], vec![Call::StoreLength(7)], store(0, 0), commits];
+    let stores = others.into_iter().chain(control).collect::<Vec<_>>();
     let mut all = Vec::new();
     for (words, line) in kinds_of_raise() {
         let raise = Call::Raise { table: words.into(), line, level: 77 };

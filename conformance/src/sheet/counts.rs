@@ -2,12 +2,14 @@
 
 use super::generate::{Case, Image};
 use super::{sheet_telling, Clauses, Right};
+use crate::bursts::room;
+use crate::drops::{after, record};
 use crate::reference::*;
 use crate::runtime::*;
 use crate::scenario::{Call, Machine};
 
 /// What must come up in a comparison, in the order of the table.
-pub const SITUATIONS: [&str; 62] = [
+pub const SITUATIONS: [&str; 75] = [
     "program.img missing",
     "program.img a folder",
     "program.img of an odd byte count",
@@ -56,6 +58,9 @@ pub const SITUATIONS: [&str; 62] = [
     "cut in the recovery from a cut",
     "cut before a post's first store",
     "cut between a post's stores",
+    "cut before a head store",
+    "cut after a head store",
+    "cut after a head store, before the tail's",
     "cut with a task begun, a record waiting",
     "cut with an event begun",
     "boot that takes up a body",
@@ -69,6 +74,16 @@ pub const SITUATIONS: [&str; 62] = [
     "call refused 23",
     "call refused 24",
     "call refused 26",
+    "call refused 21, an event begun",
+    "call refused 21, in an event's commit",
+    "dropped, nothing begun",
+    "dropped, a task begun",
+    "dropped in a task's commit",
+    "dropped, a transaction open",
+    "dropped, event 0",
+    "dropped, another event",
+    "dropped, an event above 9",
+    "dropped, data above 9999",
     "call number above 65535",
 ];
 
@@ -178,6 +193,7 @@ impl Counts {
     fn cut(&mut self, Machine { store, device, .. }: &Machine, recovering: bool) {
         let (phase, log) = (if device.on { store[PHASE] } else { 0 }, store[6] as usize);
         let made = device.handler.map(|handler| handler.made);
+        let work = device.handler.map(|handler| handler.work);
         let begun = device.on && store[PHASE] == 0 && store[BEGUN] == TASK_BEGUN;
         let waited_for = begun && store[OPEN] == 0 && store[HEAD] != store[TAIL];
         let copied = store[COUNT] == 0 || store[MEMORY + store[log] as usize] == store[log + 1];
@@ -189,6 +205,9 @@ impl Counts {
             ("cut in the recovery from a cut", phase != 0 && recovering),
             ("cut before a post's first store", made == Some(0)),
             ("cut between a post's stores", matches!(made, Some(1..))),
+            ("cut before a head store", work == Some(Work::Dropping)),
+            ("cut after a head store", work == Some(Work::Replacing)),
+            ("cut after a head store, before the tail's", work == Some(Work::Replacing) && made == Some(2)),
             ("cut with a task begun, a record waiting", waited_for),
             ("cut with an event begun", device.on && store[PHASE] == 0 && store[BEGUN] == EVENT_BEGUN),
             ("cut in half a SAVE", matches!(device.place, Place::HalfSave { .. })),
@@ -213,13 +232,46 @@ impl Counts {
                 self.cut(machine, *recovering);
                 *recovering = false;
             }
-            Some(Call::Post { event, .. }) => self.add(&[
-                ("post with capital digits", line.iter().any(u8::is_ascii_uppercase)),
-                ("post with small digits", line[1..].iter().any(u8::is_ascii_lowercase)),
-                ("post of an event above 9", event > 9),
-            ]),
+            Some(Call::Post { event, .. }) => {
+                self.add(&[
+                    ("post with capital digits", line.iter().any(u8::is_ascii_uppercase)),
+                    ("post with small digits", line[1..].iter().any(u8::is_ascii_lowercase)),
+                    ("post of an event above 9", event > 9),
+                ]);
+                self.post(machine, event);
+            }
+            Some(Call::Step) => self.step(machine),
             _ => {}
         }
+    }
+
+    /// A post to a full queue that drops nothing.
+    fn post(&mut self, Machine { program, store, device, .. }: &Machine, event: u16) {
+        let full = device.on && device.handler.is_none() && event < program[2] && room(store) == 0;
+        self.add(&[
+            ("call refused 21, an event begun", full && store[PHASE] == 0 && store[BEGUN] == EVENT_BEGUN),
+            ("call refused 21, in an event's commit", full && store[PHASE] == 2),
+        ]);
+    }
+
+    /// A step that accepts an event for a dropped one, which is in the slot after tail.
+    fn step(&mut self, Machine { store, device, .. }: &Machine) {
+        let last = |handler: Handler| handler.work == Work::Replacing && handler.made == 2;
+        if !device.handler.is_some_and(last) {
+            return;
+        }
+        let (event, datum) = record(store, after(store, store[TAIL]));
+        let (phase, begun) = (store[PHASE], store[BEGUN]);
+        self.add(&[
+            ("dropped, nothing begun", phase == 0 && begun == NOTHING_BEGUN),
+            ("dropped, a task begun", phase == 0 && begun == TASK_BEGUN),
+            ("dropped in a task's commit", phase == 1),
+            ("dropped, a transaction open", phase == 0 && store[OPEN] != 0),
+            ("dropped, event 0", event == 0),
+            ("dropped, another event", event != 0),
+            ("dropped, an event above 9", event > 9),
+            ("dropped, data above 9999", datum > 9999),
+        ]);
     }
 
     /// A line of the sheet: the call's number and what it is about.

@@ -2,6 +2,8 @@
 //! so it is known to be able to fail.
 
 use super::{memory, recover, Clauses, Line, Right};
+use crate::drops::{after, record};
+use crate::reference::TAIL;
 use crate::runtime::*;
 use crate::scenario::{Call, Machine};
 use std::io::{self, ErrorKind};
@@ -44,14 +46,20 @@ pub enum Mistake {
     PlaceSwapped,
     PlaceInHex,
     LineFeedBefore,
+    DroppedLeftOut,
+    DroppedSwapped,
+    DroppedInHex,
+    DroppedWithoutData,
+    DroppedAtTheHeadStore,
     // Where the sheet ends.
     HeaderMissing,
     OnAfterRefusedProgram,
     OnAfterUnread,
     EndsAtRefusedCall,
+    EndsAtDrop,
 }
 
-pub const MISTAKES: [Mistake; 36] = [
+pub const MISTAKES: [Mistake; 42] = [
     Mistake::MissingFileFails,
     Mistake::UnreadableFileFails,
     Mistake::HighByteFirst,
@@ -84,10 +92,16 @@ pub const MISTAKES: [Mistake; 36] = [
     Mistake::PlaceSwapped,
     Mistake::PlaceInHex,
     Mistake::LineFeedBefore,
+    Mistake::DroppedLeftOut,
+    Mistake::DroppedSwapped,
+    Mistake::DroppedInHex,
+    Mistake::DroppedWithoutData,
+    Mistake::DroppedAtTheHeadStore,
     Mistake::HeaderMissing,
     Mistake::OnAfterRefusedProgram,
     Mistake::OnAfterUnread,
     Mistake::EndsAtRefusedCall,
+    Mistake::EndsAtDrop,
 ];
 
 /// The right clauses with a mistake.
@@ -188,6 +202,22 @@ impl Clauses for Mutant {
         }
     }
 
+    fn dropped(&self, answer: &Answer, machine: &Machine) -> Option<Record> {
+        let right = Right.dropped(answer, machine);
+        match self.0 {
+            Mistake::DroppedLeftOut => None,
+            Mistake::DroppedSwapped => right.map(|(event, datum)| (datum, event)),
+            // The dropped record still stands in the slot after tail.
+            Mistake::DroppedAtTheHeadStore => {
+                let store = &machine.store;
+                let handler = machine.device.handler.filter(|_| *answer == Answer::Stored);
+                let dropped = handler.is_some_and(|handler| handler.work == Work::Replacing && handler.made == 0);
+                dropped.then(|| record(store, after(store, store[TAIL])))
+            }
+            _ => right,
+        }
+    }
+
     fn next(&self, number: u64, printed: Option<&Line>) -> u64 {
         let right = Right.next(number, printed);
         match (self.0, printed) {
@@ -219,6 +249,12 @@ impl Clauses for Mutant {
             (Mistake::PlaceInHex, Line::Refused { call, refusal: Refusal { number, place: (first, second) } }) => {
                 format!("{call} refused {number} {first:X} {second:X}\n")
             }
+            (Mistake::DroppedInHex, Line::Dropped { call, record: (event, datum) }) => {
+                format!("{call} dropped {event:X} {datum:04X}\n")
+            }
+            (Mistake::DroppedWithoutData, Line::Dropped { call, record: (event, _) }) => {
+                format!("{call} dropped {event}\n")
+            }
             (Mistake::LineFeedBefore, _) => format!("\n{}", right.trim_end()),
             _ => right,
         }
@@ -229,6 +265,7 @@ impl Clauses for Mutant {
             (Mistake::OnAfterRefusedProgram, Line::Refused { .. }) => false,
             (Mistake::OnAfterUnread, Line::Unread { .. }) => false,
             (Mistake::EndsAtRefusedCall, Line::Refused { .. }) => true,
+            (Mistake::EndsAtDrop, Line::Dropped { .. }) => true,
             _ => Right.ends(line),
         }
     }

@@ -52,8 +52,9 @@ pub record Cases : Type 0 where
   pub nine : cutAfter 9 0 ≡ 0 ∷ 0 ∷ 0 ∷ []
   pub ten : cutAfter 10 5 ≡ 0 ∷ 1 ∷ 0 ∷ []
   pub ten-but-one : cutAfter 10 4 ≡ 1 ∷ 1 ∷ 0 ∷ []
-  pub further : furtherPost counting (replicate 25 0) 3 ≡ Answer.Refused Refusal.QueueFull
+  pub further : furtherPost counting (replicate 25 0) 4 ≡ Answer.Refused Refusal.QueueFull
+  pub at-once : furtherPost counting (replicate 25 0) 3 ≡ Answer.Done
 
 pub cases : Cases
 unfolding storeAfterCut cutAfter furtherPost counting definitions
-cases = record { nine = refl; ten = refl; ten-but-one = refl; further = refl }
+cases = record { nine = refl; ten = refl; ten-but-one = refl; further = refl; at-once = refl }

@@ -111,9 +111,18 @@ fn post_in(program: &[u16], store: &mut [u16], steps: u32) -> Answer
     further.answer
 }
 
-// "Post and 3 steps: accepted. A further post before the event commits: 21."
+// "Post and 3 steps: accepted. A further post before the event commits: 21", now "only once the event has begun", which the fourth step does.
 pub fn further_post() -> Answer
     ensures { λ answer. ⌜ answer ≡ Answer.Refused Refusal.QueueFull ⌝ }
+{
+    let program = counting();
+    let mut store = [0; 25];
+    post_in(&program, &mut store, 4)
+}
+
+// Before that it drops the record at head.
+pub fn post_at_once() -> Answer
+    ensures { λ answer. ⌜ answer ≡ Answer.Done ⌝ }
 {
     let program = counting();
     let mut store = [0; 25];

@@ -1,22 +1,27 @@
 -- Laws of a burst as the code goes through it: event by event, and word by word. Assumes nothing.
 use Prim.Native.Nat.{ℕ, zero, suc, _+_, _-_, _*_, _≤_, _<_}
-use mathlib.Core.Bool.{Bool, true, false}
+use mathlib.Core.Bool.{Bool, true, false, not}
 use mathlib.Core.List.{List, [], _∷_}
+use mathlib.Core.Logic.{_≢_}
 use mathlib.Core.Path.{_≡_, refl, sym, ap, _∙_}
 use native.Mathlib.Omega.{arith}
-use borrow.Author.Tests.{lt-ltb, le-ltb, le-leb, lt-leb}
-use lib.Dec.{ltb, leb}
+use borrow.Author.Tests.{lt-ltb, le-ltb, le-leb, lt-leb, eq-eqb, ne-eqb}
+use lib.Dec.{ltb, leb, eqb}
 use lib.ListN.{length}
-use Rattle.model.proofs.TestLaws.{impossible, below-or, then-first, then-rest, then-skip, must-passed, must-true}
+use Rattle.model.proofs.TestLaws.{pick-true, pick-false, clash, impossible, below-or, then-first, then-rest, then-skip, must-passed, must-true}
 use Rattle.model.proofs.BurstLaws.{burst-passed, carried-length}
+use Rattle.model.proofs.Passed.{look-passed}
 use Rattle.model.proofs.RingLaws.{record-stores}
+use Rattle.model.specs.Accepted.{Shaped}
 use Rattle.model.specs.Burst.{isBurst, recordsAt, carried, recordWords, burstWords, knownEvents, eventsRule}
-use Rattle.model.specs.Device.{recordsSound, postCheck}
+use Rattle.model.specs.Device.{recordsSound, mayDrop, atRest, takes, postCheck, setToWork}
 use Rattle.model.specs.Program.{word, events}
-use Rattle.model.specs.Store.{Store, Record, slot, room}
-use Rattle.model.specs.Test.{pick, _and_, must, _then_}
+use Rattle.model.specs.Store.{Store, Record, slot, full, room}
+use Rattle.model.specs.Test.{pick, _and_, _or_, must, _then_}
 use Rattle.model.specs.declared.Checked.{Checked}
 use Rattle.model.specs.declared.Device.{Device}
+use Rattle.model.specs.declared.Handler.{Handler}
+use Rattle.model.specs.declared.Handler.the-variants.{Resting, Storing, Dropping, Replacing}
 use Rattle.model.specs.declared.Refusal.{Refusal}
 
 -- ---- 8, from position i of n records on
@@ -104,17 +109,76 @@ sound-by p v c ws n =
     let stores = record-stores (v .queueRecords) (carried ws n) (v .tail) ∙ ap (λ (k : ℕ). 2 * k + 1) many in
     rw (stores, many, leb-ltb c (2 * n))
 
+-- ---- is a handler at rest?
+
+pub rests-is : (h : Handler) → atRest h ≡ true → h ≡ Resting
+unfolding atRest
+rests-is Resting e = refl
+rests-is (Storing n c) e = clash e refl
+rests-is Dropping e = clash e refl
+rests-is (Replacing c) e = clash e refl
+
+-- one at work isn't
+pub works-not {ℓ} : {X : Type ℓ} {h : Handler} → atRest h ≡ false → h ≡ Resting → X
+unfolding atRest
+works-not e told = clash (ap atRest told) e
+
+-- ---- may a record be dropped, test by test
+
+pub not-full : (v : Store) → full v ≡ false → false ≡ mayDrop v
+unfolding mayDrop _and_
+not-full v e = sym (rw e)
+
+pub event-begun : (v : Store) → full v ≡ true → v .begun ≡ 2 → false ≡ mayDrop v
+unfolding mayDrop _and_
+event-begun v e two = sym (rw (e, eq-eqb _ _ two))
+
+pub phase-asked : (v : Store) → full v ≡ true → v .begun ≢ 2 → not (eqb (v .phase) 2) ≡ mayDrop v
+unfolding mayDrop _and_
+phase-asked v e ne = sym (rw (e, ne-eqb _ _ ne))
+
+-- ---- does the queue take so many records, and what is set to work on them
+
+module _ (v : Store) (n : ℕ) where
+  pub takes-fits : n ≤ room v → true ≡ takes v n
+  unfolding takes _or_
+  takes-fits l = sym (rw (le-leb _ _ l))
+
+  pub takes-many : room v < n → n ≢ 1 → false ≡ takes v n
+  unfolding takes _or_ _and_
+  takes-many l ne = sym (rw (lt-leb _ _ l, ne-eqb _ _ ne))
+
+  pub takes-one : room v < n → n ≡ 1 → mayDrop v ≡ takes v n
+  unfolding takes _or_ _and_
+  takes-one l one = sym (rw (lt-leb _ _ l, eq-eqb _ _ one))
+
+  pub works-storing : n ≤ room v → Storing n 0 ≡ setToWork v n
+  unfolding setToWork
+  works-storing l = sym (pick-true _ _ (le-leb _ _ l))
+
+  pub works-dropping : room v < n → Dropping ≡ setToWork v n
+  unfolding setToWork
+  works-dropping l = sym (pick-false _ _ (lt-leb _ _ l))
+
 -- ---- a post's checks, by the length of its burst
 
 pub burst-by : (ws : List ℕ) (n : ℕ) → isBurst (carried ws n) ≡ (leb 1 n and leb n 4)
 unfolding isBurst
 burst-by ws n = rw (carried-length ws 0 n)
 
-pub fits-by : (ws : List ℕ) (n m : ℕ) → leb (length (carried ws n)) m ≡ leb n m
-fits-by ws n m = rw (carried-length ws 0 n)
+pub takes-by : (v : Store) (ws : List ℕ) (n : ℕ) → takes v (length (carried ws n)) ≡ takes v n
+takes-by v ws n = ap (takes v) (carried-length ws 0 n)
 
 pub posted-few : (p s : List ℕ) (d : Device) (ws : List ℕ) (n : ℕ) → postCheck p s d (carried ws n) ≡ Checked.Accepted → n ≤ 4
 unfolding postCheck
 posted-few p s d ws n e =
     let few = burst-passed (carried ws n) (must-passed _ _ (then-first _ _ (then-rest _ _ e))) .1 in
     omega (arith, few, carried-length ws 0 n)
+
+-- and what they give bounds the reads behind them
+pub posted-ring : (p s : List ℕ) (d : Device) (rs : List Record) → postCheck p s d rs ≡ Checked.Accepted
+    → Shaped s × ((word s 14 ≤ word s 3) × (word s 15 ≤ word s 3))
+unfolding postCheck
+posted-ring p s d rs e =
+    let l = look-passed p s d (then-first _ _ e) in
+    (l .shaped .shaped, (l .control .head-in, l .control .tail-in))

@@ -16,7 +16,7 @@ ghost use Prim.Native.Nat.{_≤_};
 ghost use mathlib.Core.Path.{_≡_};
 ghost use Rattle.model.specs.Accepted.{Bootable, Shaped};
 ghost use Rattle.model.specs.Burst.{carried, single};
-ghost use Rattle.model.specs.Device.{turnedOn, out, judged, withPlace, withHandler, begunOf, takenUp, bootCheck, cut, postCheck};
+ghost use Rattle.model.specs.Device.{turnedOn, out, judged, withPlace, withHandler, begunOf, takenUp, bootCheck, cut, takes, postCheck, setToWork};
 ghost use Rattle.model.specs.Program.{firstRegisters, word};
 ghost use Rattle.model.specs.Store.{view, none};
 ghost use Rattle.device.specs.Result.{ofCall, OnAnyStore, BootPerforms, PostPerforms};
@@ -140,13 +140,40 @@ pub fn post_check(
         return found;
     };
     let handler = device.handler;
-    let Handler::Resting = handler else {
+    if !look::at_rest(handler) {
         return Checked::Refused(Refusal::HandlerBusy);
-    };
-    if queue::room(store) < length {
+    }
+    if !takes(store, length) {
         return Checked::Refused(Refusal::QueueFull);
     }
     Checked::Accepted
+}
+
+// Does the queue take so many records: is there room for them, or may a single one drop the oldest?
+fn takes(store: &[u16], length: u16) -> bool
+    requires { ⌜ Shaped (now store) ⌝ }
+    requires { ⌜ (word (now store) 14 ≤ word (now store) 3) × (word (now store) 15 ≤ word (now store) 3) ⌝ }
+    ensures { λ r. ⌜ r ≡ takes (view (now (store .entry))) length ⌝ }
+{
+    if length <= queue::room(store) {
+        return true;
+    }
+    if length != 1 {
+        return false;
+    }
+    look::may_drop(store)
+}
+
+// The handler for so many records that the queue takes: where there is no room for them, one that drops the oldest.
+pub fn set_to_work(store: &[u16], length: u16) -> Handler
+    requires { ⌜ Shaped (now store) ⌝ }
+    requires { ⌜ (word (now store) 14 ≤ word (now store) 3) × (word (now store) 15 ≤ word (now store) 3) ⌝ }
+    ensures { λ r. ⌜ r ≡ setToWork (view (now (store .entry))) length ⌝ }
+{
+    if queue::room(store) < length {
+        return Handler::Dropping;
+    }
+    Handler::Storing(length, 0)
 }
 
 // The device with another handler and its burst.
@@ -183,7 +210,7 @@ pub fn burst(
     judge(
         found,
         device,
-        with_handler(device, Handler::Storing(length, 0), kept),
+        with_handler(device, set_to_work(store, length), kept),
     )
 }
 

@@ -12,10 +12,13 @@ use model::Refusal;
 use store::contents;
 use store::queue;
 ghost use lib.ListN.{length};
+ghost use mathlib.Core.Bool.{false};
 ghost use mathlib.Core.Path.{_≡_};
 ghost use Rattle.model.specs.Accepted.{Controlled, Contents, Looked, Shaped};
 ghost use Rattle.model.specs.Burst.{carried};
-ghost use Rattle.model.specs.Device.{lastStores, mayRun, endStores, placeSound, recordsSound, handlerSound, isFresh, zeros, deviceSound, look};
+ghost use Rattle.model.specs.Device.{lastStores, mayRun, endStores, placeSound, recordsSound, mayDrop, handlerSound, atRest, isFresh, zeros, deviceSound, look};
+ghost use Prim.Native.Nat.{_≤_};
+ghost use Rattle.model.specs.Program.{word};
 ghost use Rattle.model.specs.Store.{view};
 ghost use Rattle.device.specs.Result.{deviceWith};
 
@@ -134,9 +137,57 @@ fn handler_sound(program: &[u16], store: &[u16], burst: &[u16; 8], handler: Hand
     requires { ⌜ Controlled (now program) (view (now store)) ⌝ }
     ensures { λ r. ⌜ r ≡ handlerSound (now (program .entry)) (view (now (store .entry))) (now (burst .entry)) handler ⌝ }
 {
+    if at_rest(handler) {
+        return zeros(burst);
+    }
+    work_sound(program, store, burst, handler)
+}
+
+// One at work: its burst fits, or the record at head may be dropped for it.
+fn work_sound(program: &[u16], store: &[u16], burst: &[u16; 8], handler: Handler) -> bool
+    requires { ⌜ Contents (now program) ⌝ }
+    requires { ⌜ Shaped (now store) ⌝ }
+    requires { ⌜ Controlled (now program) (view (now store)) ⌝ }
+    requires { ⌜ atRest handler ≡ false ⌝ }
+    ensures { λ r. ⌜ r ≡ handlerSound (now (program .entry)) (view (now (store .entry))) (now (burst .entry)) handler ⌝ }
+{
     match handler {
-        Handler::Resting => zeros(burst),
+        // One at rest doesn't come here.
+        Handler::Resting => false,
         Handler::Storing(length, made) => records_sound(program, store, burst, length, made),
+        Handler::Dropping => {
+            if burst[0] >= program[2] {
+                return false;
+            }
+            may_drop(store)
+        }
+        Handler::Replacing(made) => records_sound(program, store, burst, 1, made),
+    }
+}
+
+// May the record at head be dropped: of a full queue, and no event begun or being committed?
+pub fn may_drop(store: &[u16]) -> bool
+    requires { ⌜ Shaped (now store) ⌝ }
+    requires { ⌜ word (now store) 15 ≤ word (now store) 3 ⌝ }
+    ensures { λ r. ⌜ r ≡ mayDrop (view (now (store .entry))) ⌝ }
+{
+    if !queue::is_full(store) {
+        return false;
+    }
+    if store[16] == 2 {
+        return false;
+    }
+    store[8] != 2
+}
+
+pub fn at_rest(handler: Handler) -> bool
+    ensures { λ r. ⌜ r ≡ atRest handler ⌝ }
+{
+    match handler {
+        Handler::Resting => true,
+        Handler::Storing(_, _) => false,
+        Handler::Dropping => false,
+        Handler::Replacing(_) => false,
     }
 }
 
@@ -144,10 +195,12 @@ fn is_fresh(place: Place, handler: Handler) -> bool
     ensures { λ r. ⌜ r ≡ isFresh place handler ⌝ }
 {
     match place {
-        Place::Free(made) => match handler {
-            Handler::Resting => made == 0,
-            Handler::Storing(_, _) => false,
-        },
+        Place::Free(made) => {
+            if made != 0 {
+                return false;
+            }
+            at_rest(handler)
+        }
         Place::Run(_, _, _) => false,
         Place::Half(_, _) => false,
     }

@@ -9,11 +9,10 @@ use Rattle.device.specs.declared.CallResult.{CallResult}
 use Rattle.exports.specs.Exported.{hostState, wordsOf, totalsWords, TellsCall, TellsRun}
 use Rattle.model.specs.Burst.{burstWords}
 use Rattle.model.specs.Calls.{Call, Post, RunOutcome as Defined}
-use Rattle.model.specs.Device.{Outcome, judged, postCheck, post, withHandler}
-use Rattle.model.specs.Store.{Record, settled, storedWord}
+use Rattle.model.specs.Device.{Outcome, judged, postCheck, setToWork, post, withHandler}
+use Rattle.model.specs.Store.{Record, view, settled, storedWord}
 use Rattle.model.specs.declared.Checked.{Checked}
 use Rattle.model.specs.declared.Device.{Device}
-use Rattle.model.specs.declared.Handler.the-variants.{Storing}
 use Rattle.model.specs.declared.Refusal.{Refusal}
 use Rattle.runtime.specs.RunResult.{ofRun}
 use Rattle.runtime.specs.declared.RunResult.{RunResult}
@@ -31,14 +30,17 @@ told c s o r e answer device =
 
 -- a post of the records rs to the device of the words w, by what its check found
 module _ (p s w : List ℕ) (rs : List Record) {d : Device} (is : d ≡ stateOf w) {a x : List ℕ} where
-  pub told-posted : isState w ≡ true → postCheck p s d rs ≡ Checked.Accepted → a ≡ checkedWords Checked.Accepted → x ≡ withBurst w (length rs) (burstWords rs)
+  pub told-posted : isState w ≡ true → postCheck p s d rs ≡ Checked.Accepted → a ≡ checkedWords Checked.Accepted → x ≡ withBurst w (setToWork (view s) (length rs)) (burstWords rs)
       → TellsCall (Post rs) s (post p s d rs) a x s
   unfolding post judged settled storedWord checkedWords answerWords
   told-posted state found answer device =
       rw found
       (record {
         answer = answer;
-        device = device ∙ sym (set-to-work w (length rs) (burstWords rs) state) ∙ ap (λ (e : Device). deviceWords (withHandler e (Storing (length rs) 0) (burstWords rs))) (sym is);
+        device =
+            device
+            ∙ sym (set-to-work w (setToWork (view s) (length rs)) (burstWords rs) state)
+            ∙ ap (λ (e : Device). deviceWords (withHandler e (setToWork (view s) (length rs)) (burstWords rs))) (sym is);
         store = refl;
       })
 

@@ -109,7 +109,8 @@ pub extern "C" fn runtime_burst(
     match found {
         Checked::Accepted => {
             let kept = burst::words(burst, count);
-            *device = words::with_burst(device, count, kept);
+            let handler = calls::set_to_work(store, count);
+            *device = words::with_burst(device, handler, kept);
         }
         Checked::Refused(_) => words::write_device(device, state),
     }

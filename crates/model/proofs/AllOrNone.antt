@@ -12,7 +12,7 @@ use Rattle.model.proofs.Observed.{observed}
 use Rattle.model.proofs.Recovery.{waiting-is}
 use Rattle.model.proofs.SerialLaws.{some-same}
 use Rattle.model.proofs.StoreLaws.{viewAt}
-use Rattle.model.specs.AllOrNone.{ComeWhole, BurstsComeWhole}
+use Rattle.model.specs.AllOrNone.{ComeWhole, BurstsComeWhole, goneRecords}
 use Rattle.model.specs.Burst.{recordsAt}
 use Rattle.model.specs.Calls.{Call}
 use Rattle.model.specs.Demand3.{reached, Observed}
@@ -43,9 +43,12 @@ module _ (p : List ℕ) (l q : ℕ) (s : List ℕ) (f : Formatted p l q s) (cs :
       let same : seen .state ≡ kept .state = some-same (sym (seen .ran) ∙ kept .ran (length cs) (omega arith)) in
       record {
         bursts = kept .bursts;
-        served = kept .serves .served;
-        in-order = kept .serves .is ∙ ap (λ (rs : List Record). kept .serves .served ++ rs) (sym waits);
-        committed = kept .serves .events-are;
+        gone = kept .leaves .gone;
+        in-order = kept .leaves .is ∙ ap (λ (rs : List Record). goneRecords (kept .leaves .gone) ++ rs) (sym waits);
+        committed = kept .leaves .events-are;
+        state = kept .state;
+        ran = kept .ran (length cs) (omega arith);
+        dropped = kept .leaves .dropped-are ∙ sym (kept .dropped-are);
         recovered = seen .left .records ∙ ap (λ (z : Serial). z .records) same ∙ sym waits;
       }
 

@@ -1,20 +1,20 @@
 -- Laws of a burst (specs/Burst.antt): its records from words and back, and its events. Assumes nothing.
 use Prim.Native.Nat.{ℕ, zero, suc, _≤_, _<_}
-use mathlib.Core.Path.{_≡_, refl, ap, _∙_}
+use mathlib.Core.Path.{_≡_, refl, ap, _∙_, sym}
 use mathlib.Core.Bool.{Bool, true, false}
 use mathlib.Core.List.{List, [], _∷_}
 use native.Mathlib.Omega.{arith}
-use borrow.Author.Tests.{ltb-true, leb-true, eqb-true, le-leb, lt-ltb}
+use borrow.Author.Tests.{ltb-true, leb-true, eqb-true, le-leb, lt-ltb, eqb-false, eq-eqb, not-true, ne-eqb}
 use lib.Dec.{ltb}
 use lib.ListN.{length, replicate}
-use Rattle.model.proofs.TestLaws.{below-or, and-true, and-left, and-right, must-true, then-passed, then-skip}
-use Rattle.model.specs.Accepted.{Known}
+use Rattle.model.proofs.TestLaws.{below-or, and-true, and-left, and-right, must-true, then-passed, then-skip, not-false, pick-case, or-right}
+use Rattle.model.specs.Accepted.{Known, MayDrop}
 use Rattle.model.specs.Burst.{isBurst, recordsAt, carried, recordWords, noBurst, burstWords, knownEvents, eventsRule}
-use Rattle.model.specs.Device.{zeros}
+use Rattle.model.specs.Device.{zeros, mayDrop, takes, setToWork, burstLength}
 use Rattle.model.specs.Program.{word, events}
-use Rattle.model.specs.Store.{Record, slot}
+use Rattle.model.specs.Store.{Record, slot, Store}
 use Rattle.model.specs.Test.{must, _then_}
-use Rattle.model.specs.Types.{Checked, Refusal}
+use Rattle.model.specs.Types.{Checked, Refusal, Handler}
 
 -- ---- one to four
 
@@ -87,3 +87,28 @@ all-zero (x ∷ ws) (suc n) l z =
 
 pub no-burst : (ws : List ℕ) → length ws ≡ 8 → zeros ws 8 ≡ true → ws ≡ noBurst
 no-burst ws l e = all-zero ws 8 l (λ i m. zero-at ws 8 i e m)
+
+-- ---- a handler about to drop
+
+pub may-drop-is : (p : List ℕ) (v : Store) (rs : List Record) → Known p rs → mayDrop v ≡ true
+    → MayDrop p (v .queueRecords) (v .phase) (v .head) (v .tail) (v .begun) rs
+unfolding mayDrop
+may-drop-is p v rs known e =
+    let rest = and-right _ _ e in
+    record {
+      known = known;
+      full = eqb-true _ _ (and-left _ _ e);
+      event-not-begun = eqb-false _ _ (not-true _ (and-left _ _ rest));
+      not-committing = eqb-false _ _ (not-true _ (and-right _ _ rest));
+    }
+
+pub may-drop : (p : List ℕ) (v : Store) (rs : List Record) → MayDrop p (v .queueRecords) (v .phase) (v .head) (v .tail) (v .begun) rs → mayDrop v ≡ true
+unfolding mayDrop
+may-drop p v rs m =
+    and-true (eq-eqb _ _ (m .full)) (and-true (not-false (ne-eqb _ _ (m .event-not-begun))) (not-false (ne-eqb _ _ (m .not-committing))))
+
+-- the handler that a post sets to work has as many records as were posted
+pub set-to-work-length : (v : Store) (n : ℕ) → takes v n ≡ true → burstLength (setToWork v n) ≡ n
+unfolding takes setToWork burstLength
+set-to-work-length v n e =
+    pick-case (λ (h : Handler). burstLength h ≡ n) (λ _. refl) (λ no-room. sym (eqb-true _ _ (and-left _ _ (or-right _ _ no-room e))))

@@ -26,7 +26,7 @@ answer-case P (Answer.Chosen b) stop rest s g = g refl
 answer-case P Answer.Worked stop rest s g = g refl
 answer-case P Answer.Stored stop rest s g = g refl
 answer-case P (Answer.Committed b) stop rest s g = g refl
-answer-case P Answer.Accepted stop rest s g = g refl
+answer-case P (Answer.Accepted d) stop rest s g = g refl
 answer-case P (Answer.Refused r) stop rest s g = s r refl
 
 -- ---- afterCalls

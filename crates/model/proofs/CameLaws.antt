@@ -7,9 +7,9 @@ use mathlib.Core.Bool.{Bool, true, false}
 use mathlib.Core.List.{List, [], _∷_, _++_, append-assoc}
 use native.Mathlib.Omega.{arith}
 use lib.ListN.{length, length-append}
-use Rattle.model.proofs.SerialLaws.{Serves, adds}
+use Rattle.model.proofs.SerialLaws.{Leaves, adds}
 use Rattle.model.proofs.TestLaws.{pick-true, pick-false}
-use Rattle.model.specs.AllOrNone.{wayAfter, cameFrom, joined, AllBursts, committedEvent, committedEvents, eventsOf, AllOrNone}
+use Rattle.model.specs.AllOrNone.{wayAfter, cameFrom, joined, AllBursts, committedEvent, committedEvents, eventsOf, Gone, wasCommitted, wasDropped, goneRecords, committedOf, droppedOf, AllOrNone}
 use Rattle.model.specs.Burst.{isBurst}
 use Rattle.model.specs.Calls.{Call, Boot, Step, Cut, Post, Line, countBy, unlessRefused, isAccept}
 use Rattle.model.specs.Demand3.{isCompletion}
@@ -29,6 +29,25 @@ unfolding eventsOf
 events-length [] = refl
 events-length (r ∷ rs) = ap suc (events-length rs)
 
+gone-append : (xs ys : List Gone) → (goneRecords (xs ++ ys) ≡ goneRecords xs ++ goneRecords ys)
+    × (committedOf (xs ++ ys) ≡ committedOf xs ++ committedOf ys)
+    × (droppedOf (xs ++ ys) ≡ droppedOf xs ++ droppedOf ys)
+unfolding goneRecords committedOf droppedOf
+gone-append [] ys = (refl, refl, refl)
+gone-append (wasCommitted r ∷ xs) ys =
+    let (a, b, c) = gone-append xs ys in
+    (ap (λ (rs : List Record). r ∷ rs) a, ap (λ (rs : List Record). r ∷ rs) b, c)
+gone-append (wasDropped r ∷ xs) ys =
+    let (a, b, c) = gone-append xs ys in
+    (ap (λ (rs : List Record). r ∷ rs) a, b, ap (λ (rs : List Record). r ∷ rs) c)
+
+-- each of those that left was committed or dropped
+pub gone-length : (xs : List Gone) → length (goneRecords xs) ≡ length (committedOf xs) + length (droppedOf xs)
+unfolding goneRecords committedOf droppedOf
+gone-length [] = refl
+gone-length (wasCommitted r ∷ xs) = let e = gone-length xs in omega arith
+gone-length (wasDropped r ∷ xs) = let e = gone-length xs in omega arith
+
 committed-one : (a : Answer) (n : ℕ) → length (committedEvent a) + n ≡ pick (isCompletion a) (suc n) n
 unfolding committedEvent isCompletion pick
 committed-one Answer.Done n = omega arith
@@ -37,7 +56,7 @@ committed-one Answer.Worked n = omega arith
 committed-one Answer.Stored n = omega arith
 committed-one (Answer.Committed (Body.Task t)) n = omega arith
 committed-one (Answer.Committed (Body.Event e)) n = omega arith
-committed-one Answer.Accepted n = omega arith
+committed-one (Answer.Accepted d) n = omega arith
 committed-one (Answer.Refused r) n = omega arith
 
 pub committed-length : (lines : List Line) → length (committedEvents lines) ≡ countBy isCompletion lines
@@ -73,19 +92,23 @@ module _ (rs : List Record) (c : Call) (a : Answer) (lines : List Line) where
   pub came-length : {n : ℕ} → n ≡ length (joined later) → length (adds a rs) + n ≡ length (joined (pick (isAccept a) (rs ∷ later) later))
   came-length e = ap (λ (n : ℕ). length (adds a rs) + n) e ∙ sym (length-append (adds a rs) (joined later)) ∙ ap length (sym joined-line)
 
-  pub came-serves : (x w y : List Record) (es fs : List ℕ) → Serves (x ++ adds a rs) w es → Serves (w ++ joined later) y fs
-      → Serves (x ++ joined (pick (isAccept a) (rs ∷ later) later)) y (es ++ fs)
-  came-serves x w y es fs first rest =
+  pub came-leaves : (x w y : List Record) (es fs : List ℕ) (ds fewer : List Record) → Leaves (x ++ adds a rs) w es ds → Leaves (w ++ joined later) y fs fewer
+      → Leaves (x ++ joined (pick (isAccept a) (rs ∷ later) later)) y (es ++ fs) (ds ++ fewer)
+  came-leaves x w y es fs ds fewer first rest =
+      let both = gone-append (first .gone) (rest .gone) in
       record {
-        served = first .served ++ rest .served;
+        gone = first .gone ++ rest .gone;
         is =
             ap (λ (ss : List Record). x ++ ss) joined-line
             ∙ sym (append-assoc x (adds a rs) (joined later))
             ∙ ap (λ (ss : List Record). ss ++ joined later) (first .is)
-            ∙ append-assoc (first .served) w (joined later)
-            ∙ ap (λ (ss : List Record). first .served ++ ss) (rest .is)
-            ∙ sym (append-assoc (first .served) (rest .served) y);
-        events-are = events-append (first .served) (rest .served) ∙ (λ i. first .events-are i ++ rest .events-are i);
+            ∙ append-assoc (goneRecords (first .gone)) w (joined later)
+            ∙ ap (λ (ss : List Record). goneRecords (first .gone) ++ ss) (rest .is)
+            ∙ sym (append-assoc (goneRecords (first .gone)) (goneRecords (rest .gone)) y)
+            ∙ ap (λ (ss : List Record). ss ++ y) (sym (both .0));
+        events-are =
+            ap eventsOf (both .1) ∙ events-append (committedOf (first .gone)) (committedOf (rest .gone)) ∙ (λ i. first .events-are i ++ rest .events-are i);
+        dropped-are = both .2 ∙ (λ i. first .dropped-are i ++ rest .dropped-are i);
       }
 
 -- ---- of one burst: all or none
@@ -101,7 +124,7 @@ unless-stays rs new (Answer.Chosen b) = inr refl
 unless-stays rs new Answer.Worked = inr refl
 unless-stays rs new Answer.Stored = inr refl
 unless-stays rs new (Answer.Committed b) = inr refl
-unless-stays rs new Answer.Accepted = inr refl
+unless-stays rs new (Answer.Accepted d) = inr refl
 unless-stays rs new (Answer.Refused r) = inl (refl, refl)
 
 way-stays : (rs : List Record) (c : Call) (a : Answer) → isAccept a ≡ false → Stays rs (wayAfter rs c a) (wayAfter [] c a)

@@ -9,10 +9,10 @@ use native.Mathlib.Omega.{arith}
 use borrow.Author.Tests.{lt-ltb, le-ltb, le-leb, eq-eqb, ne-eqb}
 use lib.Dec.{ltb, leb, eqb}
 use lib.ListN.{length}
-use Rattle.model.proofs.Invariant.{Handles, HeldAt, StillAt, CopyingAt, ChosenAt, EndingAt, HalfSaved, BodyAt, Placed, Begins, Resumes, On}
+use Rattle.model.proofs.Invariant.{Handles, HeldAt, StillAt, CopyingAt, ChosenAt, EndingAt, HalfSaved, BodyAt, Placed, Begins, Resumes, On, HandlesAt, AtWork}
 use Rattle.model.proofs.Kept.{chosen-begins, known-waiting, first-head, first-pending, lasting-in, task-last-is, event-last-is}
 use Rattle.model.proofs.LogLaws.{addr}
-use Rattle.model.proofs.BurstLaws.{burst-passes, known-passes}
+use Rattle.model.proofs.BurstLaws.{burst-passes, known-passes, may-drop}
 use Rattle.model.proofs.RingLaws.{Between, between-is, between-first}
 use Rattle.model.proofs.TestLaws.{pick-case, pick-true, pick-false, below-or, and-true, or-true-left, or-true-right, not-false, must-true, then-passed, and-false}
 use Rattle.model.specs.Accepted.{LegalEffect, Sound}
@@ -22,9 +22,9 @@ use Rattle.model.specs.Device.{taskStores, eventStores, eligible, mayRun
 use Rattle.model.proofs.RuleLaws.{obey-kept, obey-unasked, obey-append, obey-upTo, obey-early}
 use Rattle.model.specs.Program.{tasks, events, memoryWords, instructions, transaction, bodyNumber, effectAt}
 use Rattle.model.specs.Serial.{Serial}
-use Rattle.model.specs.Store.{Store, event, slotAfter, firstWaiting, distance, room, Task, Write}
+use Rattle.model.specs.Store.{Store, event, slotAfter, firstWaiting, distance, room, Task, Write, Record}
 use Rattle.model.specs.Test.{_and_, _or_}
-use Rattle.model.specs.Types.{Body, Checked, Device, Effect, Free, Half, Handler, Place, Resting, Run, Storing}
+use Rattle.model.specs.Types.{Body, Checked, Device, Effect, Free, Half, Handler, Place, Resting, Run, Storing, Dropped, Replacing, Dropping}
 
 -- ---- what the invariant says of the control words
 
@@ -267,12 +267,19 @@ module _ (p : List ℕ) (v : Store) (d : Device) (z : Serial) (k : ℕ) (i : On 
       and-true (eq-eqb _ _ (s .phase-is))
       (and-true (may-run b x m (r .body-in)) (lt-ltb _ _ (half-in (d .count) (effectAt p (bodyNumber p b) j (d .registers)) e)))
 
-  handler-sound : (h : Handler) → Handles p (v .queue) (v .queueRecords) (v .head) (v .tail) (z .posted) (d .burst) h → handlerSound p v (d .burst) h ≡ true
-  unfolding handlerSound recordsSound room zeros _and_
-  handler-sound Resting a = ap (λ (ws : List ℕ). zeros ws 8) a
-  handler-sound (Storing n c) a =
-      let fits : length (carried (d .burst) n) ≤ v .queueRecords - distance (v .queueRecords) (v .head) (v .tail) = omega (arith, a .room) in
+  records-sound : (c : ℕ) (rs : List Record) (dropped : Dropped)
+      → AtWork p (v .queue) (v .queueRecords) (v .head) (v .tail) (z .posting) c rs dropped → recordsSound p v c rs ≡ true
+  unfolding recordsSound room
+  records-sound c rs dropped a =
+      let fits : length rs ≤ v .queueRecords - distance (v .queueRecords) (v .head) (v .tail) = omega (arith, a .room) in
       and-true (burst-passes _ (a .least) (a .most)) (and-true (known-passes p _ (a .known)) (and-true (le-leb _ _ fits) (lt-ltb _ _ (a .inside))))
+
+  handler-sound : (h : Handler) → HandlesAt p v z (d .burst) h → handlerSound p v (d .burst) h ≡ true
+  unfolding handlerSound zeros _and_
+  handler-sound Resting a = ap (λ (ws : List ℕ). zeros ws 8) a
+  handler-sound (Storing n c) a = records-sound c (carried (d .burst) n) _ a
+  handler-sound Dropping (m, ne, posted-is) = and-true (known-passes p _ (m .known)) (may-drop p v (carried (d .burst) 1) m)
+  handler-sound (Replacing c) a = records-sound c (carried (d .burst) 1) _ a
 
   pub device-sound : Sound p → deviceSound p v d ≡ true
   unfolding deviceSound

@@ -15,14 +15,14 @@ use Rattle.model.proofs.ProgramLaws.{instruction-leads}
 use Rattle.model.proofs.RingLaws.{RecordStore, record-store, tail-store, record-stores}
 use Rattle.model.proofs.Passed.{look-passed, body-passed}
 use Rattle.model.proofs.TestLaws.{pick-case, pick-true, pick-false, clash, same-or, below-or}
-use Rattle.model.specs.Accepted.{LegalEffect, MayRun, Stands, Attends, Looked}
+use Rattle.model.specs.Accepted.{LegalEffect, MayRun, Stands, Attends, Looked, AttendsTo}
 use Rattle.model.specs.Burst.{carried}
 use Rattle.model.specs.Calls.{unlessRefused, isRefusal}
-use Rattle.model.specs.Device.{Outcome, out, refuse, judged, turnedOn, withPlace, withHandler, resting, storing, recordStores, taskStores, eventStores, taskLastStores, eventLastStores, lastStores, currentTask, oldestEvent, endStores, look, bootCheck, boot, postCheck, post, handlerStep, pairSound, copyStep, recordSound, eventNext, choosing, chooseStep, saves, placeFits, bodySound, shown, saveStep, act, saveRest, placeStep, nextStep, step}
+use Rattle.model.specs.Device.{Outcome, out, refuse, judged, turnedOn, withPlace, withHandler, resting, storing, recordStores, taskStores, eventStores, taskLastStores, eventLastStores, lastStores, currentTask, oldestEvent, endStores, look, bootCheck, boot, postCheck, post, handlerStep, pairSound, copyStep, recordSound, eventNext, choosing, chooseStep, saves, placeFits, bodySound, shown, saveStep, act, saveRest, placeStep, nextStep, step, dropStep, droppedRecord}
 use Rattle.model.specs.Program.{events, memoryWords, transaction, bodyNumber, effectAt, newOpen}
 use Rattle.model.specs.Store.{Store, view, address, value, event, empty, Record, slotAfter, forward, find, logAt, queueAt, Phase, Task, Open, Count, Pending, PendingOpen, Head, Tail, Begun, Memory, Address, Value, Event, Write, none, to}
 use Rattle.model.specs.Test.{pick, _and_, must}
-use Rattle.model.specs.Types.{Answer, Body, Checked, Device, Effect, Found, Free, Half, Handler, Place, Refusal, Resting, Run, Storing}
+use Rattle.model.specs.Types.{Answer, Body, Checked, Device, Effect, Found, Free, Half, Handler, Place, Refusal, Resting, Run, Storing, Dropping, Dropped, Replacing}
 
 -- ---- checks before an outcome
 
@@ -101,6 +101,15 @@ module _ (p : List ℕ) (v : Store) (d : Device) where
       → chooseStep p v d ≡ choosing v d (oldestEvent v)
   unfolding chooseStep eventNext judged recordSound must _and_
   choose-event e f l = pick-true _ _ (rw (eq-eqb (v .openNumber) 0 e, f)) ∙ rw (lt-ltb (event v (v .head)) (events p) l)
+
+  pub drop-refused : events p ≤ event v (v .head) → dropStep p v d ≡ refuse d (Refusal.Control (queueAt (memoryWords p) (v .logPairs) + 2 * v .head))
+  unfolding dropStep judged recordSound must
+  drop-refused l = rw (le-ltb (event v (v .head)) (events p) l)
+
+  pub drop-passes : event v (v .head) < events p
+      → dropStep p v d ≡ out (to Head (slotAfter (v .queueRecords) (v .head))) (withHandler d (Replacing 0) (d .burst)) Answer.Stored
+  unfolding dropStep judged recordSound must
+  drop-passes l = rw (lt-ltb (event v (v .head)) (events p) l)
 
 -- ---- a commit's stores in phases 1 and 2, n of which are made since the commit store
 
@@ -190,14 +199,22 @@ pub record Acts (p : List ℕ) (v : Store) (d : Device) (x : Place) (b : Body) (
 abbrev pub RunsAt : List ℕ → Store → Device → Body → ℕ → ℕ → Effect → Type 0
 RunsAt p v d b j c f = Acts p v d (Run b j c) b j f
 
--- what a handler does, c of the stores of whose n records are made: a store for one of these, or the tail store
-pub data HandlerMade (p : List ℕ) (v : Store) (d : Device) (n c : ℕ) : Outcome → Type 0 where
-  record-made : {w : Write} → Attends p v (d .burst) (Storing n (c + 1)) → RecordStore (v .queueRecords) (v .tail) (carried (d .burst) n) w
-      → HandlerMade p v d n c (out w (withHandler d (Storing n (c + 1)) (d .burst)) Answer.Stored)
-  tail-made : Attends p v (d .burst) (Storing n c)
-      → HandlerMade p v d n c (out (to Tail (forward (v .queueRecords) (v .tail) (length (carried (d .burst) n)))) (resting d) Answer.Accepted)
+-- a handler that stores n records, c of whose stores are made: what it is after a store that isn't its last, and what was dropped for them
+pub data Works (v : Store) : Handler → ℕ → ℕ → Handler → Dropped → Type 0 where
+  works-storing : {n c : ℕ} → Works v (Storing n c) n c (Storing n (c + 1)) Dropped.Nothing
+  works-replacing : {c : ℕ} → Works v (Replacing c) 1 c (Replacing (c + 1)) (droppedRecord v)
 
-module _ (p : List ℕ) (v : Store) (d : Device) (n c : ℕ) (a : Attends p v (d .burst) (Storing n c)) where
+abbrev pub AttendsAt : List ℕ → Store → Device → ℕ → ℕ → Type 0
+AttendsAt p v d n c = AttendsTo p (v .queueRecords) (v .head) (v .tail) c (carried (d .burst) n)
+
+-- what it does: a store for one of its records, or the tail store
+pub data HandlerMade (p : List ℕ) (v : Store) (d : Device) (n c : ℕ) (later : Handler) (dropped : Dropped) : Outcome → Type 0 where
+  record-made : {w : Write} → AttendsAt p v d n (c + 1) → RecordStore (v .queueRecords) (v .tail) (carried (d .burst) n) w
+      → HandlerMade p v d n c later dropped (out w (withHandler d later (d .burst)) Answer.Stored)
+  tail-made : AttendsAt p v d n c
+      → HandlerMade p v d n c later dropped (out (to Tail (forward (v .queueRecords) (v .tail) (length (carried (d .burst) n)))) (resting d) (Answer.Accepted dropped))
+
+module _ (p : List ℕ) (v : Store) (d : Device) (n c : ℕ) (later : Handler) (dropped : Dropped) (a : AttendsAt p v d n c) where
   abbrev rs : List Record
   rs = carried (d .burst) n
 
@@ -207,24 +224,28 @@ module _ (p : List ℕ) (v : Store) (d : Device) (n c : ℕ) (a : Attends p v (d
   stores-are : length stores ≡ 2 * length rs + 1
   stores-are = record-stores (v .queueRecords) rs (v .tail)
 
-  goes : c < 2 * length rs → HandlerMade p v d n c (handlerStep v d n c)
+  goes : c < 2 * length rs → HandlerMade p v d n c later dropped (handlerStep v d n c later dropped)
   unfolding handlerStep
   goes l =
       rw (storing-goes stores c _ _ _ (omega (arith, stores-are)))
       (record-made (record { least = a .least; most = a .most; known = a .known; room = a .room; inside = omega (arith, stores-are) }) (record-store (v .queueRecords) rs (v .tail) c l))
 
-  ends : c ≡ 2 * length rs → HandlerMade p v d n c (handlerStep v d n c)
+  ends : c ≡ 2 * length rs → HandlerMade p v d n c later dropped (handlerStep v d n c later dropped)
   unfolding handlerStep
   ends l = rw (storing-ends stores c _ _ _ (omega (arith, stores-are)), tail-store (v .queueRecords) rs (v .tail) c l) (tail-made a)
 
-  pub handler-made : HandlerMade p v d n c (handlerStep v d n c)
+  pub handler-made : HandlerMade p v d n c later dropped (handlerStep v d n c later dropped)
   handler-made = below-or c (2 * length rs) goes (λ l. ends (omega (arith, stores-are, a .inside)))
 
 -- ---- what a step that isn't refused does
 
 pub data Made (p : List ℕ) (v : Store) (d : Device) : Outcome → Type 0 where
   -- "A handler at work makes its next store: event, data, then tail."
-  handler : {n c : ℕ} {o : Outcome} → d .handler ≡ Storing n c → HandlerMade p v d n c o → Made p v d o
+  handler : {h : Handler} {n c : ℕ} {later : Handler} {dropped : Dropped} {o : Outcome} → d .handler ≡ h → Works v h n c later dropped
+      → HandlerMade p v d n c later dropped o → Made p v d o
+  -- N7: "drops the record at head by storing head first"
+  head-dropped : d .handler ≡ Dropping → Attends p v (d .burst) Dropping → event v (v .head) < events p
+      → Made p v d (out (to Head (slotAfter (v .queueRecords) (v .head))) (withHandler d (Replacing 0) (d .burst)) Answer.Stored)
   -- "n copies, 9 from 12, 10 from 13, 8 becomes 0", in phase 2 "14 from 12, 8 becomes 0"
   commit-copy : {c : ℕ} → Commits v d c → c < v .count → address v c < memoryWords p
       → Made p v d (out (to (Memory (address v c)) (value v c)) (atPlace d (Free (c + 1))) Answer.Stored)
@@ -296,6 +317,9 @@ pub data Meets (p : List ℕ) (v : Store) (d : Device) : Refusal → Type 0 wher
 pub data Why (p s : List ℕ) (d : Device) : Refusal → Type 0 where
   looked : {r : Refusal} → look p s d ≡ Checked.Refused r → Why p s d r
   met : {r : Refusal} → Looked p s d → d .handler ≡ Resting → Meets p (view s) d r → Why p s d r
+  -- the event of the record to be dropped isn't below E
+  by-dropped : Looked p s d → d .handler ≡ Dropping → events p ≤ event (view s) (view s .head)
+      → Why p s d (Refusal.Control (queueAt (memoryWords p) (view s .logPairs) + 2 * view s .head))
 
 -- ---- every step is refused so, or does one of these
 
@@ -310,10 +334,18 @@ module _ (p s : List ℕ) (d : Device) (early : Looked p s d) where
   abbrev Is : Outcome → Type 0
   Is = StepOutcome p s d
 
-  handler-outcome : {n c : ℕ} → d .handler ≡ Storing n c → (o : Outcome) → HandlerMade p v d n c o → Is o
+  handler-outcome : {h : Handler} {n c : ℕ} {later : Handler} {dropped : Dropped} → d .handler ≡ h → Works v h n c later dropped → (o : Outcome)
+      → HandlerMade p v d n c later dropped o → Is o
   unfolding isRefusal unlessRefused
-  handler-outcome q o (record-made a s) = made early (handler q (record-made a s)) refl
-  handler-outcome q o (tail-made a) = made early (handler q (tail-made a)) refl
+  handler-outcome q w o (record-made a s) = made early (handler q w (record-made a s)) refl
+  handler-outcome q w o (tail-made a) = made early (handler q w (tail-made a)) refl
+
+  drop-outcome : d .handler ≡ Dropping → Is (dropStep p v d)
+  unfolding isRefusal unlessRefused
+  drop-outcome q =
+      below-or (event v (v .head)) (events p)
+      (λ l. rw (drop-passes p v d l) (made early (head-dropped q (subst (Attends p v (d .burst)) q (early .handler)) l) refl))
+      (λ l. rw (drop-refused p v d l) (refused (by-dropped early q l)))
 
   module _ (c : ℕ) (h : Commits v d c) where
     task-last-outcome : (i : ℕ) → c ≡ v .count + i → v .phase ≡ 1 → Is (storing (taskLastStores v) i (atPlace d (Free (c + 1))) turnedOn Answer.Stored)
@@ -423,7 +455,9 @@ module _ (p s : List ℕ) (d : Device) (early : Looked p s d) where
   next-outcome : (x : Handler) → d .handler ≡ x → Is (nextStep p v d x)
   unfolding nextStep
   next-outcome Resting q = place-outcome q (d .place) refl (early .place)
-  next-outcome (Storing n c) q = handler-outcome q _ (handler-made p v d n c (subst (Attends p v (d .burst)) q (early .handler)))
+  next-outcome (Storing n c) q = handler-outcome q works-storing _ (handler-made p v d n c _ _ (subst (Attends p v (d .burst)) q (early .handler)))
+  next-outcome Dropping q = drop-outcome q
+  next-outcome (Replacing c) q = handler-outcome q works-replacing _ (handler-made p v d 1 c _ _ (subst (Attends p v (d .burst)) q (early .handler)))
 
 pub step-outcome : (p s : List ℕ) (d : Device) → StepOutcome p s d (step p s d)
 unfolding step

@@ -8,18 +8,19 @@ use mathlib.Core.List.{List}
 use native.Mathlib.Omega.{arith}
 use borrow.Author.Tests.{eqb-true, eqb-false, lt-ltb, le-leb, eq-eqb, ne-eqb}
 use lib.Dec.{eqb}
-use Rattle.model.proofs.BurstLaws.{burst-passes, known-passes}
+use Rattle.model.proofs.BurstLaws.{burst-passes, known-passes, may-drop}
 use Rattle.model.proofs.Passed.{look-passed, early-are}
 use Rattle.model.proofs.RuleLaws.{obey-if}
 use Rattle.model.proofs.TestLaws.{pick-case, pick-true, clash, same-or, and-true, and-left, or-true-left, or-true-right, not-false, must-true, then-passed, then-first, then-rest}
-use Rattle.model.specs.Accepted.{ControlledBy, Controlled, EligibleBy, MayRun, Stands, Attends, Looked}
+use Rattle.model.specs.Accepted.{ControlledBy, Controlled, EligibleBy, MayRun, Stands, Attends, Looked, AttendsTo}
 use Rattle.model.specs.Check.{contentsRule}
 use Rattle.model.specs.Control.{obeyAll, phaseRule, taskRule, openServing, countRule, pendingTaskRule, headRule, tailRule, pendingHeadRule, pendingMoveRule, begunRule, begunEventRule, earlyRules}
 use Rattle.model.specs.Device.{withHandler, eligible, mayRun, placeSound, recordsSound, zeros, handlerSound, deviceSound, look}
 use Rattle.model.specs.Program.{tasks}
-use Rattle.model.specs.Store.{Store, view, room, storeRule}
+use Rattle.model.specs.Store.{Store, view, room, storeRule, Record}
 use Rattle.model.specs.Test.{_or_}
-use Rattle.model.specs.Types.{Body, Checked, Device, Free, Half, Handler, Place, Resting, Run, Storing}
+use Rattle.model.specs.Types.{Body, Checked, Device, Free, Half, Handler, Place, Resting, Run, Storing, Dropping, Replacing}
+use Rattle.model.specs.Burst.{carried}
 
 -- ---- 7: the control words
 
@@ -89,11 +90,17 @@ place-passes p v l (Free c) m =
 place-passes p v l (Run b j c) m = and-true (eq-eqb _ _ (m .0)) (and-true (may-pass p v b (m .1)) (lt-ltb _ _ (m .2)))
 place-passes p v l (Half b j) m = and-true (eq-eqb _ _ (m .0)) (and-true (may-pass p v b (m .1)) (lt-ltb _ _ (m .2)))
 
-handler-passes : (p : List ℕ) (v : Store) (burst : List ℕ) (h : Handler) → Attends p v burst h → handlerSound p v burst h ≡ true
-unfolding handlerSound recordsSound room
-handler-passes p v burst Resting m = m
-handler-passes p v burst (Storing n c) m =
+records-pass : (p : List ℕ) (v : Store) (c : ℕ) (rs : List Record) → AttendsTo p (v .queueRecords) (v .head) (v .tail) c rs → recordsSound p v c rs ≡ true
+unfolding recordsSound room
+records-pass p v c rs m =
     and-true (burst-passes _ (m .least) (m .most)) (and-true (known-passes p _ (m .known)) (and-true (le-leb _ _ (m .room)) (lt-ltb _ _ (m .inside))))
+
+pub handler-passes : (p : List ℕ) (v : Store) (burst : List ℕ) (h : Handler) → Attends p v burst h → handlerSound p v burst h ≡ true
+unfolding handlerSound
+handler-passes p v burst Resting m = m
+handler-passes p v burst (Storing n c) m = records-pass p v c (carried burst n) m
+handler-passes p v burst Dropping m = and-true (known-passes p _ (m .known)) (may-drop p v (carried burst 1) m)
+handler-passes p v burst (Replacing c) m = records-pass p v c (carried burst 1) m
 
 -- ---- what step and post look at
 

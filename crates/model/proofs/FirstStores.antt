@@ -17,6 +17,17 @@ First Made zero ws = Unit {0}
 First Made (suc n) [] = ⊥
 First Made (suc n) (w ∷ ws) = Made w × First Made n ws
 
+-- of each write of a list
+abbrev pub Each : (Write → Type 0) → List Write → Type 0
+Each Holds [] = Unit {0}
+Each Holds (w ∷ ws) = Holds w × Each Holds ws
+
+-- the same writes are made by another meaning of it
+pub first-as : (Made Also : Write → Type 0) (ws : List Write) → Each (λ w. Made w → Also w) ws → (n : ℕ) → First Made n ws → First Also n ws
+first-as Made Also ws h zero f = tt
+first-as Made Also [] h (suc n) f = absurd f
+first-as Made Also (w ∷ ws) (g, h) (suc n) (e, f) = (g e, first-as Made Also ws h n f)
+
 module _ (ws : List Write) (c : ℕ) (d ended : Device) (a : Answer) where
   -- a store that isn't the last, and the last
   pub storing-goes : c + 1 < length ws → storing ws c d ended a ≡ out (getD ws c none) d Answer.Stored

@@ -109,6 +109,7 @@ module _ (p : List ℕ) (sound : Sound p) (l q : ℕ) (sizes : sizesRule l q ≡
             };
         resumes = inl (record { phase-is = refl; memory-is = memory-is; task-is = refl; open-is = behind 0 }, inl (behind 6));
         is-off = refl;
+        unmarked = refl;
       })
 
   pub fresh-words : InvWords p l q s off (serialStart (given p l q)) 0

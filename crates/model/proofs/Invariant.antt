@@ -4,19 +4,19 @@
 use Prim.Native.Nat.{ℕ, _+_, _-_, _*_, _≤_, _<_, min}
 use mathlib.Core.Path.{_≡_}
 use mathlib.Core.Logic.{_⊎_, _≢_}
-use mathlib.Core.Bool.{true}
+use mathlib.Core.Bool.{Bool, true, false}
 use mathlib.Core.List.{List}
 use lib.ListN.{length}
 use Rattle.model.proofs.FirstStores.{First}
 use Rattle.model.proofs.LogLaws.{addr, overlay, Distinct}
 use Rattle.model.proofs.RingLaws.{RecordsMade}
-use Rattle.model.specs.Accepted.{Known}
+use Rattle.model.specs.Accepted.{Known, MayDrop}
 use Rattle.model.specs.Burst.{carried, noBurst}
 use Rattle.model.specs.Device.{off, recordStores, taskStores, eventStores, taskLastStores, eventLastStores, kindOf}
 use Rattle.model.specs.Program.{firstRegisters, word, tasks, events, memoryWords, instructions, transaction, bodyNumber, effectAt}
-use Rattle.model.specs.Serial.{Serial, walk}
+use Rattle.model.specs.Serial.{Serial, PostState, walk}
 use Rattle.model.specs.Store.{Store, Record, slotAfter, firstWaiting, recordsFrom, distance, Phase, Task, Open, Count, Pending, PendingOpen, Head, Tail, Begun, Memory, Address, Value, Event, Datum, Write, none, to}
-use Rattle.model.specs.Types.{Body, Device, Effect, Free, Half, Handler, Place, Resting, Run, Storing}
+use Rattle.model.specs.Types.{Body, Device, Dropped, Dropping, Effect, Free, Half, Handler, Place, Replacing, Resting, Run, Storing}
 
 -- ---- the control words, but tail, which is the handler's
 
@@ -81,19 +81,36 @@ pub record Waiting (p : List ℕ) (queue : List ℕ) (q f t : ℕ) (records : Li
   pub same : recordsFrom queue q f (distance q f t) ≡ records
   pub known : Known p records
 
--- the handler's records wait for its tail store; the first c of its stores are made behind tail
-pub record AtWork (p : List ℕ) (queue : List ℕ) (q h t : ℕ) (posted : List Record) (c : ℕ) (rs : List Record) : Type 0 where
+-- the handler's records wait for its tail store; the first c of its stores are made behind tail; what was dropped for them
+pub record AtWork (p : List ℕ) (queue : List ℕ) (q h t : ℕ) (posting : PostState) (c : ℕ) (rs : List Record) (dropped : Dropped) : Type 0 where
   pub least : 1 ≤ length rs
   pub most : length rs ≤ 4
   pub known : Known p rs
   pub room : distance q h t + length rs ≤ q
-  pub posted-is : posted ≡ rs
+  pub posted-is : posting .posted ≡ rs
+  pub dropped-is : posting .droppedFor ≡ dropped
   pub inside : c < length (recordStores q t rs)
   pub made : RecordsMade queue q t rs c
 
-abbrev pub Handles : List ℕ → List ℕ → ℕ → ℕ → ℕ → List Record → List ℕ → Handler → Type 0
-Handles p queue q h t posted burst Resting = burst ≡ noBurst
-Handles p queue q h t posted burst (Storing n c) = AtWork p queue q h t posted c (carried burst n)
+-- the record of a slot, and of the slot after tail
+abbrev pub droppedAt : List ℕ → ℕ → Dropped
+droppedAt queue x = Dropped.Record (word queue (2 * x)) (word queue (2 * x + 1))
+
+abbrev pub afterTail : List ℕ → ℕ → ℕ → Dropped
+afterTail queue q t = droppedAt queue (slotAfter q t)
+
+abbrev pub Handles : List ℕ → List ℕ → ℕ → ℕ → ℕ → ℕ → ℕ → PostState → List ℕ → Handler → Type 0
+Handles p queue q phase h t g posting burst Resting = burst ≡ noBurst
+Handles p queue q phase h t g posting burst (Storing n c) = AtWork p queue q h t posting c (carried burst n) Dropped.Nothing
+Handles p queue q phase h t g posting burst Dropping = MayDrop p q phase h t g (carried burst 1) × (h ≢ t) × (posting .posted ≡ carried burst 1)
+Handles p queue q phase h t g posting burst (Replacing c) = AtWork p queue q h t posting c (carried burst 1) (afterTail queue q t)
+
+-- "the last call .. that wasn't refused is a post that found Q records" holds exactly of a handler about to drop
+abbrev pub isDropping : Handler → Bool
+isDropping Resting = false
+isDropping (Storing n c) = false
+isDropping Dropping = true
+isDropping (Replacing c) = false
 
 -- ---- what holds of the store, whatever the device: of its head, waiting records and word 16, and of the serial run's task and open number
 
@@ -226,15 +243,21 @@ Begins v = (v .begun ≡ 0) ⊎ ((v .begun ≡ 1) ⊎ ((v .begun ≡ 2) × ((v .
 abbrev pub Resumes : List ℕ → Store → Serial → Type 0
 Resumes p v z = (StillAt v z × Begins v) ⊎ CommitAt p v z 0
 
+abbrev pub HandlesAt : List ℕ → Store → Serial → List ℕ → Handler → Type 0
+HandlesAt p v z burst handler =
+    Handles p (v .queue) (v .queueRecords) (v .phase) (v .head) (v .tail) (v .begun) (z .posting) burst handler
+
 pub record Off (p : List ℕ) (v : Store) (d : Device) (z : Serial) : Type 0 where
   pub held : HeldAt p v z
   pub resumes : Resumes p v z
   pub is-off : d ≡ off
+  pub unmarked : z .posting .foundFull ≡ false
 
 pub record On (p : List ℕ) (v : Store) (d : Device) (z : Serial) (k : ℕ) : Type 0 where
   pub held : HeldAt p v z
   pub on : d .on ≡ true
-  pub handles : Handles p (v .queue) (v .queueRecords) (v .head) (v .tail) (z .posted) (d .burst) (d .handler)
+  pub handles : HandlesAt p v z (d .burst) (d .handler)
+  pub marked : z .posting .foundFull ≡ isDropping (d .handler)
   pub count-in : d .count ≤ v .logPairs
   pub placed : Placed p v d z k (d .place)
 

@@ -12,7 +12,7 @@ use lib.Dec.{eqb}
 use lib.ListN.{length, getD, set}
 use borrow.Author.Tests.{lt-ltb, le-ltb}
 use Rattle.model.proofs.FirstStores.{First, storing-goes, storing-ends}
-use Rattle.model.proofs.Invariant.{Controls, controls, Has, Lengths, Waiting, AtWork, Handles, HeldAt, Lasting, Copying, CopyingAt, TaskCommitAt, EventCommitAt, CommitAt, ChosenAt, Running, Placed, Begins, On, Inv}
+use Rattle.model.proofs.Invariant.{Controls, controls, Has, Lengths, Waiting, AtWork, HandlesAt, isDropping, HeldAt, Lasting, Copying, CopyingAt, TaskCommitAt, EventCommitAt, CommitAt, ChosenAt, Running, Placed, Begins, On, Inv}
 use Rattle.model.proofs.LogLaws.{overlay, overlay-suc}
 use Rattle.model.proofs.RingLaws.{Between, known-between, forward-le, distance-some, distance-head, forward-distance, distance-forward, tail-apart, slot-apart, records-append, records-same, known-append, RecordStore, event-store, datum-store, record-store, tail-store, record-stores, records-made, queueAfter, slot-stays, next-made}
 use Rattle.model.proofs.StoreLaws.{apply, withPhase, withBegun, withQueue, withNext, Inside}
@@ -23,16 +23,34 @@ use Rattle.model.specs.Calls.{Call, Step}
 use Rattle.model.specs.Accepted.{Known}
 use Rattle.model.specs.Device.{Outcome, out, refuse, judged, fresh, withHandler, resting, withPlace, recordStores, handlerStep, storing, taskStores, eventStores, taskLastStores, eventLastStores, lastStores, kindOf, begunOf, pairSound, copyStep}
 use Rattle.model.specs.Program.{word, tasks, events, memoryWords}
-use Rattle.model.specs.Serial.{Serial, given, tell, withRecords, accept}
+use Rattle.model.specs.Serial.{Serial, PostState, given, noPost, withRecords, unchanged, accept, afterStored, tell}
 use Rattle.model.specs.Store.{Store, address, value, event, logAt, Record, slotAfter, forward, distance, firstWaiting, slot, Phase, Task, Open, Head, Tail, Begun, Memory, Write, none, to}
 use Rattle.model.specs.Test.{pick}
 use Rattle.model.specs.Turns.{begunAfter, InTurn}
-use Rattle.model.specs.Types.{Answer, Body, Checked, Device, Free, Half, Handler, Place, Refusal, Resting, Run, Storing}
+use Rattle.model.specs.Types.{Answer, Body, Checked, Device, Dropped, Free, Half, Handler, Place, Refusal, Resting, Run, Storing}
 
 -- a store to a word that is there
 abbrev pub InsideOf : List ℕ → Store → Write → Type 0
 InsideOf p v none = Unit {0}
 InsideOf p v (to w x) = Inside (memoryWords p) (v .logPairs) (v .queueRecords) w
+
+-- an accepting answer has what the serial run dropped for the latest post
+abbrev pub TellsDropped : Serial → Answer → Type 0
+TellsDropped z Answer.Done = Unit {0}
+TellsDropped z (Answer.Chosen b) = Unit {0}
+TellsDropped z Answer.Worked = Unit {0}
+TellsDropped z Answer.Stored = Unit {0}
+TellsDropped z (Answer.Committed b) = Unit {0}
+TellsDropped z (Answer.Accepted x) = x ≡ z .posting .droppedFor
+TellsDropped z (Answer.Refused r) = Unit {0}
+
+-- where the latest call that wasn't refused isn't a post that found Q records, all but posts and bodies leaves the serial run where it was
+pub unchanged-is : (z : Serial) → z .posting .foundFull ≡ false → unchanged z ≡ z
+unfolding unchanged withRecords noPost
+unchanged-is z e =
+    let posting = z .posting in
+    λ i. withRecords z (z .records)
+    (record { posted = posting .posted; foundFull = sym e i; droppedFor = posting .droppedFor; dropped = posting .dropped })
 
 pub record Kept (p : List ℕ) (v : Store) (z : Serial) (k : ℕ) (c : Call) (o : Outcome) : Type 0 where
   pub inside : InsideOf p v (o .write)
@@ -40,15 +58,25 @@ pub record Kept (p : List ℕ) (v : Store) (z : Serial) (k : ℕ) (c : Call) (o 
   pub tells : (fuel : ℕ) → k < fuel → tell fuel (given p (v .logPairs) (v .queueRecords)) z c (o .answer) ≡ some serial
   pub expected : Expected c (o .answer)
   pub turn : InTurn z (begunOf v) (o .answer)
+  pub told : TellsDropped z (o .answer)
   pub begins : begunOf (apply v (o .write)) ≡ begunAfter (begunOf v) (o .answer)
   pub inv : Inv p (apply v (o .write)) (o .device) serial (suc k)
 
 -- a step that stores a word and leaves the serial run where it was
-pub stored-kept : {p : List ℕ} {v : Store} {z : Serial} {k : ℕ} (w : Write) (e : Device) → InsideOf p v w → begunOf (apply v w) ≡ begunOf v
-    → Inv p (apply v w) e z (suc k) → Kept p v z k Step (out w e Answer.Stored)
-unfolding tell begunAfter
-stored-kept {z = z} w e inside same i =
-    record { inside = inside; serial = z; tells = λ fuel l. refl; expected = tt; turn = tt; begins = same; inv = i }
+pub stored-kept : {p : List ℕ} {v : Store} {z : Serial} {k : ℕ} (w : Write) (e : Device) → z .posting .foundFull ≡ false → InsideOf p v w
+    → begunOf (apply v w) ≡ begunOf v → Inv p (apply v w) e z (suc k) → Kept p v z k Step (out w e Answer.Stored)
+unfolding tell afterStored begunAfter
+stored-kept {z = z} w e unmarked inside same i =
+    record {
+      inside = inside;
+      serial = z;
+      tells = λ fuel l. pick-false _ _ unmarked ∙ ap some (unchanged-is z unmarked);
+      expected = tt;
+      turn = tt;
+      told = tt;
+      begins = same;
+      inv = i;
+    }
 
 -- ---- the body that is begun, by the store
 
@@ -107,6 +135,7 @@ inv-later p v d z k (inr i) =
       held = i .held;
       on = i .on;
       handles = i .handles;
+      marked = i .marked;
       count-in = i .count-in;
       placed = placed-later p v d z k (d .place) (i .placed);
     })
@@ -115,7 +144,7 @@ inv-later p v d z k (inr i) =
 pub refused-kept : (p : List ℕ) (v : Store) (d : Device) (z : Serial) (k : ℕ) (c : Call) (r : Refusal) → Expected c (Answer.Refused r) → Inv p v d z k → Kept p v z k c (refuse d r)
 unfolding tell apply begunAfter
 refused-kept p v d z k c r e i =
-    record { inside = tt; serial = z; tells = λ fuel l. refl; expected = e; turn = tt; begins = refl; inv = inv-later p v d z k i }
+    record { inside = tt; serial = z; tells = λ fuel l. refl; expected = e; turn = tt; told = tt; begins = refl; inv = inv-later p v d z k i }
 
 -- ---- where the waiting records start
 
@@ -135,10 +164,10 @@ known-waiting {p = p} {queue = queue} {q = q} {f = f} {t = t} w x l b =
 
 -- as many records as fit behind tail by head fit by the first waiting one, too
 module _ (p : List ℕ) (v : Store) (d : Device) (z : Serial) (k : ℕ) (i : On p v d z k) where
-  abbrev Room : ℕ → Type 0
+  abbrev pub Room : ℕ → Type 0
   Room n = distance (v .queueRecords) (v .head) (v .tail) + n ≤ v .queueRecords → distance (v .queueRecords) (firstWaiting v) (v .tail) + n ≤ v .queueRecords
 
-  room-first : (n : ℕ) → Room n
+  pub room-first : (n : ℕ) → Room n
   room-first n = by-place (d .place) (i .placed)
     where
       by-head : (y : ℕ) → v .phase ≡ y → eqb y 2 ≡ false → Room n
@@ -159,24 +188,32 @@ module _ (p : List ℕ) (v : Store) (d : Device) (z : Serial) (k : ℕ) (i : On 
       by-place (Half b j) ((s, r), e) = by-head 0 (s .phase-is) refl
 
 -- the serial run adds what was posted, if it is something
-accept-some : (z : Serial) (posted rs : List Record) → posted ≡ rs → 1 ≤ length rs → accept z posted ≡ some (withRecords z rs)
+accept-some : (z : Serial) (posted rs : List Record) → posted ≡ rs → 1 ≤ length rs
+    → accept z posted ≡ some (withRecords z (z .records ++ rs) (noPost (z .posting)))
 unfolding accept
 accept-some z posted [] e l = absurd (omega arith)
 accept-some z posted (r ∷ rs) e l = ap (accept z) e
 
--- ---- the handler: only the queue and its tail change
+-- ---- a handler at rest
 
--- other records and another latest post
-abbrev pub queued : Serial → List Record → List Record → Serial
-queued z rs x = record { memory = z .memory; task = z .task; openNumber = z .openNumber; records = rs; posted = x }
+pub unmarked-of : {p : List ℕ} {v : Store} {d : Device} {z : Serial} {k : ℕ} → On p v d z k → d .handler ≡ Resting → z .posting .foundFull ≡ false
+unmarked-of i rest = i .marked ∙ ap isDropping rest
+
+-- it has no burst, whatever the store and the serial run
+pub rests-on : {p : List ℕ} {v : Store} {d : Device} {z : Serial} {k : ℕ} → On p v d z k → d .handler ≡ Resting → (u : Store) (y : Serial)
+    → HandlesAt p u y (d .burst) (d .handler)
+rests-on {p = p} {v = v} {d = d} {z = z} i rest u y =
+    subst (HandlesAt p u y (d .burst)) (sym rest) (subst (HandlesAt p v z (d .burst)) rest (i .handles))
+
+-- ---- the handler: only the queue and its tail change
 
 module _ (p : List ℕ) (v : Store) (d : Device) (z : Serial) (k : ℕ) (queue : List ℕ) (t : ℕ) where
   abbrev pub ChosenStays : Type 0
   ChosenStays = (b : Body) (x : ℕ) → ChosenAt v x b → ChosenAt (withQueue v queue t) x b
 
-  pub placed-queue : (h : Handler) (burst : List ℕ) (rs : List Record) (y : List Record) → ChosenStays → (v .head ≢ v .tail → v .head ≢ t) → (x : Place)
-      → Placed p v d z k x → Placed p (withQueue v queue t) (withHandler d h burst) (queued z rs y) (suc k) x
-  unfolding withHandler taskStores eventStores taskLastStores eventLastStores
+  pub placed-queue : (h : Handler) (burst : List ℕ) (rs : List Record) (y : PostState) → ChosenStays → (v .head ≢ v .tail → v .head ≢ t) → (x : Place)
+      → Placed p v d z k x → Placed p (withQueue v queue t) (withHandler d h burst) (withRecords z rs y) (suc k) x
+  unfolding withHandler withRecords taskStores eventStores taskLastStores eventLastStores
   placed-queue h burst rs y f g (Free c) (inl s) = inl s
   placed-queue h burst rs y f g (Free c) (inr (m, inl s)) = inr (m, inl s)
   placed-queue h burst rs y f g (Free c) (inr (m, inr s)) =
@@ -204,8 +241,8 @@ module _ (p : List ℕ) (v : Store) (d : Device) (z : Serial) (k : ℕ) (queue :
   begun-queue f (Half b j) ((s, (x, m, r)), e) = begun-chosen (withQueue v queue t) (s .phase-is) x b (f b x m) ∙ sym (begun-chosen v (s .phase-is) x b m)
 
 -- the stores of a handler at work on the records rs, c of which are made
-module _ (p : List ℕ) (v : Store) (lengths : Lengths p v) (d : Device) (z : Serial) (k : ℕ) (i : On p v d z k) (rs : List Record) (c : ℕ)
-    (a : AtWork p (v .queue) (v .queueRecords) (v .head) (v .tail) (z .posted) c rs) where
+module _ (p : List ℕ) (v : Store) (lengths : Lengths p v) (d : Device) (z : Serial) (k : ℕ) (i : On p v d z k) (rs : List Record) (c : ℕ) (dropped : Dropped)
+    (a : AtWork p (v .queue) (v .queueRecords) (v .head) (v .tail) (z .posting) c rs dropped) (unmarked : z .posting .foundFull ≡ false) where
   -- a slot that its stores go to isn't head's, if a record waits there, nor a waiting one
   head-apart : v .head ≢ v .tail → (n : ℕ) → n < length rs → v .head ≢ forward (v .queueRecords) (v .tail) n
   unfolding forward
@@ -262,19 +299,20 @@ module _ (p : List ℕ) (v : Store) (lengths : Lengths p v) (d : Device) (z : Se
           known = q .known;
         }
 
-    pub record-kept : (h : Handler) → Handles p queue′ (v .queueRecords) (v .head) (v .tail) (z .posted) (d .burst) h
+    pub record-kept : (h : Handler) → HandlesAt p (withQueue v queue′ (v .tail)) z (d .burst) h → isDropping h ≡ false
         → Kept p v z k Step (out w (withHandler d h (d .burst)) Answer.Stored)
-    unfolding withHandler firstWaiting
-    record-kept h hs =
-        stored-kept w (withHandler d h (d .burst)) store-inside (rw store-is (begun-queue p v d z k queue′ (v .tail) chosen-stays (d .place) (i .placed)))
+    unfolding withHandler withRecords firstWaiting
+    record-kept h hs plain =
+        stored-kept w (withHandler d h (d .burst)) unmarked store-inside (rw store-is (begun-queue p v d z k queue′ (v .tail) chosen-stays (d .place) (i .placed)))
         (rw store-is
         (inr
         (record {
           held = record { tasked = i .held .tasked; head-in = i .held .head-in; begun-in = i .held .begun-in; waits = waits-stay };
           on = i .on;
           handles = hs;
+          marked = unmarked ∙ sym plain;
           count-in = i .count-in;
-          placed = placed-queue p v d z k queue′ (v .tail) h (d .burst) (z .records) (z .posted) chosen-stays (λ ne. ne) (d .place) (i .placed);
+          placed = placed-queue p v d z k queue′ (v .tail) h (d .burst) (z .records) (z .posting) chosen-stays (λ ne. ne) (d .place) (i .placed);
         })))
 
   -- ---- the last, after which the records wait
@@ -287,7 +325,10 @@ module _ (p : List ℕ) (v : Store) (lengths : Lengths p v) (d : Device) (z : Se
     tail-free : v .head ≢ tail′
     tail-free = tail-apart (v .queueRecords) (v .head) (v .tail) (length rs) (i .held .head-in) (i .held .waits .tail-in) (a .room) (omega (arith, a .least))
 
-    held-longer : HeldAt p (withQueue v (v .queue) tail′) (withRecords z rs)
+    abbrev longer : Serial
+    longer = withRecords z (z .records ++ rs) (noPost (z .posting))
+
+    held-longer : HeldAt p (withQueue v (v .queue) tail′) longer
     unfolding firstWaiting withRecords
     held-longer =
         let q = i .held .waits in
@@ -315,33 +356,37 @@ module _ (p : List ℕ) (v : Store) (lengths : Lengths p v) (d : Device) (z : Se
     chosen-tail (Body.Task n) y m = m
     chosen-tail (Body.Event n) y ((o, (ne, m)), kind) = ((o, (tail-free, m)), kind)
 
-    tail-stored : Inv p (withQueue v (v .queue) tail′) (resting d) (withRecords z rs) (suc k)
-    unfolding withHandler withRecords
+    tail-stored : Inv p (withQueue v (v .queue) tail′) (resting d) longer (suc k)
+    unfolding withHandler withRecords noPost
     tail-stored =
         inr
         (record {
           held = held-longer;
           on = i .on;
           handles = refl;
+          marked = refl;
           count-in = i .count-in;
-          placed = placed-queue p v d z k (v .queue) tail′ Resting noBurst (z .records ++ rs) (z .posted) chosen-tail (λ _. tail-free) (d .place) (i .placed);
+          placed = placed-queue p v d z k (v .queue) tail′ Resting noBurst (z .records ++ rs) (noPost (z .posting)) chosen-tail (λ _. tail-free) (d .place) (i .placed);
         })
 
-    pub tail-kept : Kept p v z k Step (out (to Tail tail′) (resting d) Answer.Accepted)
+    pub tail-kept : Kept p v z k Step (out (to Tail tail′) (resting d) (Answer.Accepted dropped))
     unfolding apply tell begunAfter
     tail-kept =
         record {
           inside = tt;
-          serial = withRecords z rs;
-          tells = λ fuel l. accept-some z (z .posted) rs (a .posted-is) (a .least);
+          serial = longer;
+          tells = λ fuel l. accept-some z (z .posting .posted) rs (a .posted-is) (a .least);
           expected = tt;
           turn = tt;
+          told = sym (a .dropped-is);
           begins = begun-queue p v d z k (v .queue) tail′ chosen-tail (d .place) (i .placed);
           inv = tail-stored;
         }
 
-module _ (p : List ℕ) (v : Store) (lengths : Lengths p v) (d : Device) (z : Serial) (k : ℕ) (i : On p v d z k) (n c : ℕ)
-    (a : AtWork p (v .queue) (v .queueRecords) (v .head) (v .tail) (z .posted) c (carried (d .burst) n)) where
+-- a handler at work on n records; after a store that isn't its last it is `later`, and what was dropped for them is what `dropped` finds in the queue
+module _ (p : List ℕ) (v : Store) (lengths : Lengths p v) (d : Device) (z : Serial) (k : ℕ) (i : On p v d z k) (n c : ℕ) (later : Handler)
+    (dropped : List ℕ → Dropped) (a : AtWork p (v .queue) (v .queueRecords) (v .head) (v .tail) (z .posting) c (carried (d .burst) n) (dropped (v .queue)))
+    (not-now : isDropping (d .handler) ≡ false) (not-later : isDropping later ≡ false) where
   abbrev rs : List Record
   rs = carried (d .burst) n
 
@@ -351,34 +396,48 @@ module _ (p : List ℕ) (v : Store) (lengths : Lengths p v) (d : Device) (z : Se
   abbrev many : ℕ
   many = 2 * length rs
 
+  abbrev AtWorkWith : List ℕ → Type 0
+  AtWorkWith queue = AtWork p queue (v .queueRecords) (v .head) (v .tail) (z .posting) (c + 1) rs (dropped queue)
+
+  -- it goes on, and its records' stores leave what was dropped where it is
+  abbrev GoesOn : Type 0
+  GoesOn = (queue : List ℕ) → AtWorkWith queue → HandlesAt p (withQueue v queue (v .tail)) z (d .burst) later
+
+  abbrev DroppedStays : Type 0
+  DroppedStays = (w : Write) → RecordStore (v .queueRecords) (v .tail) rs w → dropped (queueAfter (v .queue) w) ≡ dropped (v .queue)
+
   stores-are : length stores ≡ many + 1
   stores-are = record-stores (v .queueRecords) rs (v .tail)
 
-  ends : c ≡ many → Kept p v z k Step (handlerStep v d n c)
+  ends : c ≡ many → Kept p v z k Step (handlerStep v d n c later (dropped (v .queue)))
   unfolding handlerStep
   ends last =
       rw (storing-ends stores c _ _ _ (omega (arith, stores-are)), tail-store (v .queueRecords) rs (v .tail) c last)
-      (tail-kept p v lengths d z k i rs c a last)
+      (tail-kept p v lengths d z k i rs c (dropped (v .queue)) a (i .marked ∙ not-now) last)
 
-  goes : c < many → Kept p v z k Step (handlerStep v d n c)
+  goes : GoesOn → DroppedStays → c < many → Kept p v z k Step (handlerStep v d n c later (dropped (v .queue)))
   unfolding handlerStep
-  goes before =
+  goes on stays before =
+      let w = getD stores c none in
+      let s = record-store (v .queueRecords) rs (v .tail) c before in
       rw (storing-goes stores c _ _ _ (omega (arith, stores-are)))
-      (record-kept p v lengths d z k i rs c a (getD stores c none) (record-store (v .queueRecords) rs (v .tail) c before) (Storing n (c + 1))
+      (record-kept p v lengths d z k i rs c (dropped (v .queue)) a (i .marked ∙ not-now) w s later
+      (on (queueAfter (v .queue) w)
       (record {
         least = a .least;
         most = a .most;
         known = a .known;
         room = a .room;
         posted-is = a .posted-is;
+        dropped-is = a .dropped-is ∙ sym (stays w s);
         inside = omega (arith, stores-are);
         made =
             rw (add-one c)
             (next-made (v .queue) (v .queueRecords) (lengths .queue-length) rs (v .tail) c (i .held .waits .tail-in) (omega (arith, a .room)) before (a .made));
-      }))
+      })) not-later)
 
-  pub handler-kept : Kept p v z k Step (handlerStep v d n c)
-  handler-kept = below-or c many goes (λ l. ends (omega (arith, stores-are, a .inside)))
+  pub handler-kept : GoesOn → DroppedStays → Kept p v z k Step (handlerStep v d n c later (dropped (v .queue)))
+  handler-kept on stays = below-or c many (goes on stays) (λ l. ends (omega (arith, stores-are, a .inside)))
 
 -- ---- a commit's stores in phases 1 and 2
 
@@ -420,8 +479,7 @@ module _ (p : List ℕ) (v : Store) (d : Device) (rest : d .handler ≡ Resting)
   goes-on : (u : Store) → HeldAt p u z → u .logPairs ≡ v .logPairs → CommitAt p u z (c + 1) → Inv p u further z (suc k)
   unfolding withPlace
   goes-on u held pairs commit =
-      let no-burst = subst (Handles p (v .queue) (v .queueRecords) (v .head) (v .tail) (z .posted) (d .burst)) rest (i .handles) in
-      inr (record { held = held; on = i .on; handles = rw rest no-burst; count-in = omega (arith, i .count-in); placed = inr commit })
+      inr (record { held = held; on = i .on; handles = rests-on i rest u z; marked = i .marked; count-in = omega (arith, i .count-in); placed = inr commit })
 
   copy-is : c < v .count → copyStep p v d c ≡ out (to (Memory (address v c)) (value v c)) further Answer.Stored
   unfolding copyStep pairSound judged
@@ -457,7 +515,7 @@ module _ (p : List ℕ) (v : Store) (d : Device) (rest : d .handler ≡ Resting)
   unfolding apply firstWaiting taskLastStores eventLastStores begunOf
   copy-kept t h =
       rw (copy-is h)
-      (stored-kept (to (Memory (address v c)) (value v c)) further (m .addresses c h) refl
+      (stored-kept (to (Memory (address v c)) (value v c)) further (unmarked-of i rest) (m .addresses c h) refl
       (goes-on (apply v (to (Memory (address v c)) (value v c))) (i .held) refl (
         copied-one h,
         ⊎-elim (λ s. inl (task-on s (copies-left (omega arith) (omega arith)))) (λ s. inr (event-on s (copies-left (omega arith) (omega arith)))) t,
@@ -493,7 +551,7 @@ module _ (p : List ℕ) (v : Store) (d : Device) (rest : d .handler ≡ Resting)
     unfolding taskLastStores firstWaiting
     task-stored w y o g j inside is below kind at more made =
         let held = i .held in
-        stored-kept w further inside
+        stored-kept w further (unmarked-of i rest) inside
         (rw is (begun-committing (next y o g) 1 (s .phase-is) refl ∙ sym (begun-committing v 1 (s .phase-is) refl)))
         (rw is
         (goes-on (next y o g) (record { tasked = held .tasked; head-in = held .head-in; begun-in = kind; waits = held .waits }) refl (
@@ -511,7 +569,7 @@ module _ (p : List ℕ) (v : Store) (d : Device) (rest : d .handler ≡ Resting)
     task-ended : v .task ≡ v .pending → v .openNumber ≡ v .pendingOpen → v .begun ≡ 0 → Kept p v z k Step (out (to Phase 0) (fresh true) Answer.Stored)
     unfolding apply fresh firstWaiting pick
     task-ended task open′ begun =
-        stored-kept (to Phase 0) (fresh true) tt (begun-nothing (withPhase v 0) begun ∙ sym (begun-nothing v begun))
+        stored-kept (to Phase 0) (fresh true) (unmarked-of i rest) tt (begun-nothing (withPhase v 0) begun ∙ sym (begun-nothing v begun))
         (inr
         (record {
           held =
@@ -523,6 +581,7 @@ module _ (p : List ℕ) (v : Store) (d : Device) (rest : d .handler ≡ Resting)
               };
           on = refl;
           handles = refl;
+          marked = unmarked-of i rest;
           count-in = omega arith;
           placed =
               inl (
@@ -557,7 +616,7 @@ module _ (p : List ℕ) (v : Store) (d : Device) (rest : d .handler ≡ Resting)
         let u = apply v (to Head (v .pending)) in
         let waits : Waiting p (v .queue) (v .queueRecords) (firstWaiting u) (v .tail) (z .records) =
         rw (first-pending u (s .phase-is)) (rw (first-pending v (s .phase-is)) at (i .held .waits)) in
-        stored-kept (to Head (v .pending)) further tt (begun-committing u 2 (s .phase-is) refl ∙ sym (begun-committing v 2 (s .phase-is) refl))
+        stored-kept (to Head (v .pending)) further (unmarked-of i rest) tt (begun-committing u 2 (s .phase-is) refl ∙ sym (begun-committing v 2 (s .phase-is) refl))
         (goes-on u (record { tasked = i .held .tasked; head-in = rw (first-pending v (s .phase-is)) at (i .held .waits .first-in); begun-in = i .held .begun-in; waits = waits }) refl (
           copied-further h,
           inr
@@ -576,7 +635,7 @@ module _ (p : List ℕ) (v : Store) (d : Device) (rest : d .handler ≡ Resting)
     begun-cleared at head =
         let u = apply v (to Begun 0) in
         let held = i .held in
-        stored-kept (to Begun 0) further tt (begun-committing u 2 (s .phase-is) refl ∙ sym (begun-committing v 2 (s .phase-is) refl))
+        stored-kept (to Begun 0) further (unmarked-of i rest) tt (begun-committing u 2 (s .phase-is) refl ∙ sym (begun-committing v 2 (s .phase-is) refl))
         (goes-on u (record { tasked = held .tasked; head-in = held .head-in; begun-in = omega arith; waits = held .waits }) refl (
           copied-further h,
           inr
@@ -593,7 +652,7 @@ module _ (p : List ℕ) (v : Store) (d : Device) (rest : d .handler ≡ Resting)
     event-ended : v .head ≡ v .pending → v .begun ≡ 0 → Kept p v z k Step (out (to Phase 0) (fresh true) Answer.Stored)
     unfolding apply fresh firstWaiting pick
     event-ended head begun =
-        stored-kept (to Phase 0) (fresh true) tt (begun-nothing (withPhase v 0) begun ∙ sym (begun-nothing v begun))
+        stored-kept (to Phase 0) (fresh true) (unmarked-of i rest) tt (begun-nothing (withPhase v 0) begun ∙ sym (begun-nothing v begun))
         (inr
         (record {
           held =
@@ -605,6 +664,7 @@ module _ (p : List ℕ) (v : Store) (d : Device) (rest : d .handler ≡ Resting)
               };
           on = refl;
           handles = refl;
+          marked = unmarked-of i rest;
           count-in = omega arith;
           placed = inl (record { phase-is = refl; memory-is = memory-whole h; task-is = s .task-is; open-is = s .open-is }, (refl, begun));
         }))

@@ -3,6 +3,7 @@ use Prim.Native.Nat.{ℕ, zero, suc, _+_, _-_, _*_, _≤_, _<_, min}
 use mathlib.Core.Path.{_≡_, refl, sym, ap, subst, _∙_}
 use mathlib.Core.Logic.{_⊎_, inl, inr, _≢_}
 use mathlib.Core.Bool.{Bool, true, false, not}
+use mathlib.Core.Option.{some}
 use mathlib.Core.List.{List, [], _∷_}
 use native.Mathlib.Nat.{zero-add, add-suc, suc-add}
 use native.Mathlib.Numerals.{add-one}
@@ -11,8 +12,8 @@ use borrow.Author.Tests.{lt-ltb, eqb-true, eqb-false, eq-eqb, ltb-true, not-true
 use lib.Dec.{eqb}
 use lib.ListN.{length, set}
 use lib.Seq.{getD-set-other, getD-set-same}
-use Rattle.model.proofs.Invariant.{Lengths, Waiting, Handles, HeldAt, StillAt, Copying, ChosenAt, Running, EndingAt, HalfSaved, On, Inv}
-use Rattle.model.proofs.Kept.{Kept, refused-kept, stored-kept, begun-nothing, begun-committing, begun-chosen, copies-left, running-later, known-waiting, first-head, first-pending}
+use Rattle.model.proofs.Invariant.{Lengths, Waiting, Handles, HeldAt, StillAt, Copying, ChosenAt, Running, EndingAt, HalfSaved, On, Inv, HandlesAt, isDropping}
+use Rattle.model.proofs.Kept.{Kept, refused-kept, stored-kept, begun-nothing, begun-committing, begun-chosen, copies-left, running-later, known-waiting, first-head, first-pending, unmarked-of, unchanged-is, rests-on}
 use Rattle.model.proofs.LogLaws.{addr, overlay, overlay-zero, overlay-other, overlay-elsewhere, overlay-pair, overlay-overwrite, overlay-append, Distinct, find-pair, find-nothing}
 use Rattle.model.proofs.RingLaws.{slot-after-le, distance-none, between-first, records-head}
 use Rattle.model.proofs.StoreLaws.{apply, withPhase, withBegun, withData, withCommit, Inside}
@@ -23,11 +24,11 @@ use Rattle.model.specs.Calls.{Step}
 use Rattle.model.specs.Demand3.{isIn, mayMeet}
 use Rattle.model.specs.Device.{Outcome, out, judged, fresh, withPlace, storing, taskStores, eventStores, taskLastStores, eventLastStores, kindOf, currentTask, oldestEvent, begunOf, dataFor, started, recordSound, eventNext, choosing, chooseStep, shown, saveStep, act, saveRest}
 use Rattle.model.specs.Program.{firstRegisters, word, tasks, events, memoryWords, instructions, transaction, bodyNumber, effectAt, newOpen}
-use Rattle.model.specs.Serial.{Serial, went, advance, walk, walkBody, afterTask, afterEvent, serveOldest, runBody, tell}
+use Rattle.model.specs.Serial.{Serial, went, advance, walk, walkBody, afterTask, afterEvent, serveOldest, runBody, tell, noPost, afterStored}
 use Rattle.model.specs.Store.{Store, event, datum, Record, slotAfter, empty, firstWaiting, slot, recordsFrom, distance, find, Word, Phase, Count, Pending, PendingOpen, Address, Value, none, to}
 use Rattle.model.specs.Test.{pick, _and_, _or_}
 use Rattle.model.specs.Turns.{begunAfter, oldestOr, nextBody}
-use Rattle.model.specs.Types.{Answer, Body, Checked, Device, Effect, Found, Half, Refusal, Run}
+use Rattle.model.specs.Types.{Answer, Body, Checked, Device, Effect, Found, Half, Refusal, Run, Resting}
 
 -- no store of a body's end is made
 ending-none : (p : List ℕ) (v : Store) (d : Device) (b : Body) (i j : ℕ) (f : Effect) → LegalEffect p i j f → EndingAt p v d b 0 f
@@ -41,7 +42,7 @@ ending-none p v d b i j Effect.EndEvent h = (omega arith, tt)
 ending-none p v d b i j Effect.Unknown h = absurd h
 
 module _ (p : List ℕ) (sound : Sound p) (v : Store) (lengths : Lengths p v) (d : Device) (z : Serial) (k : ℕ)
-    (i : On p v d z k) (still : StillAt v z) where
+    (i : On p v d z k) (at-rest : d .handler ≡ Resting) (still : StillAt v z) where
   -- a body goes on at instruction j
   runs : (log : List ℕ) (b : Body) (x j : ℕ) (r : List ℕ) (l : ℕ)
       → ChosenAt v x b
@@ -55,6 +56,7 @@ module _ (p : List ℕ) (sound : Sound p) (v : Store) (lengths : Lengths p v) (d
         held = i .held;
         on = i .on;
         handles = i .handles;
+        marked = i .marked;
         count-in = s;
         placed = (
           (still, (x, chosen, h)),
@@ -66,14 +68,15 @@ module _ (p : List ℕ) (sound : Sound p) (v : Store) (lengths : Lengths p v) (d
 
 module _ (p : List ℕ) (sound : Sound p) (v : Store) (d : Device) (z : Serial) (k : ℕ) (held : HeldAt p v z) (still : StillAt v z) where
   -- at its first instruction, register 0 with x, where the device is on
-  pub begins : d .on ≡ true → Handles p (v .queue) (v .queueRecords) (v .head) (v .tail) (z .posted) (d .burst) (d .handler) → (b : Body) (x : ℕ)
+  pub begins : d .on ≡ true → HandlesAt p v z (d .burst) (d .handler) → z .posting .foundFull ≡ isDropping (d .handler) → (b : Body) (x : ℕ)
       → ChosenAt v x b → bodyNumber p b < tasks p + events p → On p v (withPlace d (firstRegisters x) (Run b 0 0) 0) z (suc k)
   unfolding withPlace
-  begins on handles b x chosen h =
+  begins on handles marked b x chosen h =
       record {
         held = held;
         on = on;
         handles = handles;
+        marked = marked;
         count-in = omega arith;
         placed = (
           (
@@ -147,7 +150,7 @@ module _ (p : List ℕ) (sound : Sound p) (v : Store) (d : Device) (z : Serial) 
       go false o b n f = same ∙ sym (pick-false _ _ (ap (λ (x : ℕ). eqb x 0) (sym (still .open-is)) ∙ o))
 
 -- "Choosing stores it and still answers chosen"
-module _ (p : List ℕ) (sound : Sound p) (v : Store) (d : Device) (z : Serial) (k : ℕ) (i : On p v d z k) (still : StillAt v z) (nothing : v .begun ≡ 0) where
+module _ (p : List ℕ) (sound : Sound p) (v : Store) (d : Device) (z : Serial) (k : ℕ) (i : On p v d z k) (at-rest : d .handler ≡ Resting) (still : StillAt v z) (nothing : v .begun ≡ 0) where
   choosing-kept : (b : Body) (x : ℕ) → dataFor v b ≡ x → ChosenAt (withBegun v (kindOf b)) x b → bodyNumber p b < tasks p + events p → kindOf b ≤ 2
       → b ≡ nextBody z → Kept p v z k Step (choosing v d b)
   unfolding choosing started tell apply begunAfter firstWaiting
@@ -157,15 +160,16 @@ module _ (p : List ℕ) (sound : Sound p) (v : Store) (d : Device) (z : Serial) 
       record {
         inside = tt;
         serial = z;
-        tells = λ fuel l. refl;
+        tells = λ fuel l. ap some (unchanged-is z (unmarked-of i at-rest));
         expected = tt;
         turn = (begun-nothing v nothing, turn);
+        told = tt;
         begins = begun-chosen u (still .phase-is) x b chosen;
         inv =
             inr
             (rw is
             (begins p sound u d z k (record { tasked = held .tasked; head-in = held .head-in; begun-in = kind; waits = held .waits }) still
-            (i .on) (i .handles) b x chosen h));
+            (i .on) (rests-on i at-rest u z) (i .marked) b x chosen h));
       }
 
   pub choose-kept : Kept p v z k Step (chooseStep p v d)
@@ -202,7 +206,7 @@ shown-is v l y apart h = go (find (v .log) l y) refl
     go Found.Nothing e = sym (overlay-elsewhere (v .memory) (v .log) l y (find-nothing (v .log) l y e))
 
 module _ (p : List ℕ) (sound : Sound p) (v : Store) (lengths : Lengths p v) (d : Device) (z : Serial) (k : ℕ)
-    (i : On p v d z k) (still : StillAt v z) (b : Body) (j x : ℕ)
+    (i : On p v d z k) (at-rest : d .handler ≡ Resting) (still : StillAt v z) (b : Body) (j x : ℕ)
     (chosen : ChosenAt v x b)
     (h : Running p (v .memory) (v .log) (z .memory) k b x j (d .registers) (d .count)) where
   abbrev n : ℕ
@@ -226,7 +230,7 @@ module _ (p : List ℕ) (sound : Sound p) (v : Store) (lengths : Lengths p v) (d
       → ((g : ℕ) → advance p j (d .registers) seen (λ c s o. walk g p n c s o) f ≡ walk g p n a r (overlay (v .memory) log l))
       → Inv p (withData v (v .memory) log (v .queue)) (withPlace d r (Run b a 0) l) z (suc k)
   goes-on f e log a r l place addresses apart count same =
-      runs p sound v lengths d z k i still log b x a r l chosen
+      runs p sound v lengths d z k i at-rest still log b x a r l chosen
       (record {
         body-in = h .body-in;
         place-in = place;
@@ -246,9 +250,10 @@ module _ (p : List ℕ) (sound : Sound p) (v : Store) (lengths : Lengths p v) (d
       record {
         inside = tt;
         serial = z;
-        tells = λ fuel l. refl;
+        tells = λ fuel l. ap some (unchanged-is z (unmarked-of i at-rest));
         expected = tt;
         turn = tt;
+        told = tt;
         begins = refl;
         inv = goes-on f e (v .log) a r (d .count) place (h .addresses) (h .distinct) (i .count-in) same;
       }
@@ -262,12 +267,13 @@ module _ (p : List ℕ) (sound : Sound p) (v : Store) (lengths : Lengths p v) (d
       let l = d .count in
       let log = set (v .log) (2 * l) y in
       let keeps : (m : ℕ) → m < l → addr log m ≡ addr (v .log) m = λ m s. getD-set-other (v .log) (2 * l) (2 * m) y 0 (omega arith) in
-      stored-kept (to (Address l) y) _ room refl
+      stored-kept (to (Address l) y) _ (unmarked-of i at-rest) room refl
       (inr
       (record {
         held = i .held;
         on = i .on;
         handles = i .handles;
+        marked = i .marked;
         count-in = i .count-in;
         placed = (
           (
@@ -302,7 +308,7 @@ module _ (p : List ℕ) (sound : Sound p) (v : Store) (lengths : Lengths p v) (d
   save-kept y w e place below (Found.Pair a) q =
       let pair = find-pair (v .log) (d .count) y a q in
       let keeps : (m : ℕ) → addr (set (v .log) (2 * a + 1) w) m ≡ addr (v .log) m = λ m. getD-set-other (v .log) (2 * a + 1) (2 * m) w 0 (omega arith) in
-      stored-kept (to (Value a) w) _ (omega (arith, pair .0, i .count-in)) refl
+      stored-kept (to (Value a) w) _ (unmarked-of i at-rest) (omega (arith, pair .0, i .count-in)) refl
       (goes-on (Effect.Save y w) e (set (v .log) (2 * a + 1) w) (j + 1) (d .registers) (d .count) place
       (λ m l. rw (keeps m) (h .addresses m l))
       (record { apart = λ m o l s. rw (keeps m, keeps o) (h .distinct .apart m o l s) }) (i .count-in)
@@ -316,7 +322,7 @@ module _ (p : List ℕ) (sound : Sound p) (v : Store) (lengths : Lengths p v) (d
       (λ s. refused-kept p v d z k Step Refusal.LogFull refl (inr i))
 
   pub rest-kept : (f : Effect) → effectAt p n j (d .registers) ≡ f → LegalEffect p n j f → HalfSaved p (v .log) (v .logPairs) (d .count) f → Kept p v z k Step (saveRest d b j f)
-  unfolding saveRest tell apply advance begunAfter begunOf
+  unfolding saveRest tell afterStored apply advance begunAfter begunOf
   rest-kept (Effect.Compute a y) e leads t = absurd t
   rest-kept (Effect.Jump a) e leads t = absurd t
   rest-kept (Effect.Load a y) e leads t = absurd t
@@ -327,9 +333,10 @@ module _ (p : List ℕ) (sound : Sound p) (v : Store) (lengths : Lengths p v) (d
       record {
         inside = room;
         serial = z;
-        tells = λ fuel s. refl;
+        tells = λ fuel s. pick-false _ _ (unmarked-of i at-rest) ∙ ap some (unchanged-is z (unmarked-of i at-rest));
         expected = tt;
         turn = tt;
+        told = tt;
         begins = refl;
         inv =
             goes-on (Effect.Save y w) e log (j + 1) (d .registers) (l + 1) leads
@@ -367,7 +374,7 @@ module _ (p : List ℕ) (sound : Sound p) (v : Store) (lengths : Lengths p v) (d
       → Kept p v z k Step (out (to w y) (withPlace d (d .registers) (Run b j c) (d .count)) Answer.Stored)
   unfolding withPlace
   staged w y c a o m s q f e t =
-      stored-kept (to w y) _ s (rw q (begun-chosen (withCommit v a o m) (still .phase-is) x b chosen ∙ sym (begun-chosen v (still .phase-is) x b chosen)))
+      stored-kept (to w y) _ (unmarked-of i at-rest) s (rw q (begun-chosen (withCommit v a o m) (still .phase-is) x b chosen ∙ sym (begun-chosen v (still .phase-is) x b chosen)))
       (rw q
       (inr
       (record {
@@ -380,6 +387,7 @@ module _ (p : List ℕ) (sound : Sound p) (v : Store) (lengths : Lengths p v) (d
             };
         on = i .on;
         handles = i .handles;
+        marked = i .marked;
         count-in = i .count-in;
         placed = ((still, (x, chosen, running-later h)), rw e t);
       })))
@@ -402,18 +410,18 @@ new-open-in p x a =
     pick-case (λ (o : ℕ). (o ≡ 0) ⊎ (o ≡ transaction p a)) (λ e. inr (eqb-true _ _ e)) (λ e. inl refl)
 
 task-commits : (p : List ℕ) (sound : Sound p) (v : Store) (lengths : Lengths p v) (d : Device) (z : Serial) (k : ℕ)
-    (i : On p v d z k) (still : StillAt v z) (t j x : ℕ)
+    (i : On p v d z k) (at-rest : d .handler ≡ Resting) (still : StillAt v z) (t j x : ℕ)
     (chosen : ChosenAt v x (Body.Task t))
     (h : Running p (v .memory) (v .log) (z .memory) k (Body.Task t) x j (d .registers) (d .count)) (a : ℕ)
     → effectAt p t j (d .registers) ≡ Effect.EndTask a → a < tasks p → v .count ≡ d .count → v .pending ≡ a
     → v .pendingOpen ≡ newOpen (transaction p t) (transaction p a)
     → Kept p v z k Step (out (to Phase 1) (fresh true) (Answer.Committed (Body.Task t)))
-unfolding tell apply fresh runBody afterTask walkBody bodyNumber advance taskLastStores begunAfter
-task-commits p sound v lengths d z k i still t j x chosen h a e below count pending pendingOpen =
+unfolding tell apply fresh runBody afterTask noPost walkBody bodyNumber advance taskLastStores begunAfter
+task-commits p sound v lengths d z k i at-rest still t j x chosen h a e below count pending pendingOpen =
     let is : t ≡ z .task = chosen .0 .0 ∙ still .task-is in
     let w = overlay (v .memory) (v .log) (d .count) in
     let ends : (fuel : ℕ) → k < fuel → walk fuel p t 0 (firstRegisters 0) (z .memory) ≡ went a w =
-    λ fuel l. ap (λ (y : ℕ). walk fuel p t 0 (firstRegisters y) (z .memory)) (sym (chosen .0 .1)) ∙ walk-ends p sound v lengths d z k i still (Body.Task t) j x chosen h (Effect.EndTask a) e fuel l in
+    λ fuel l. ap (λ (y : ℕ). walk fuel p t 0 (firstRegisters y) (z .memory)) (sym (chosen .0 .1)) ∙ walk-ends p sound v lengths d z k i at-rest still (Body.Task t) j x chosen h (Effect.EndTask a) e fuel l in
     record {
       inside = tt;
       serial =
@@ -422,11 +430,12 @@ task-commits p sound v lengths d z k i still t j x chosen h a e below count pend
             task = a;
             openNumber = newOpen (transaction p (z .task)) (transaction p a);
             records = z .records;
-            posted = z .posted;
+            posting = noPost (z .posting);
           };
       tells = λ fuel l. pick-true _ _ (eq-eqb _ _ is) ∙ ap (afterTask p z) (ends fuel l);
       expected = tt;
       turn = begun-chosen v (still .phase-is) x (Body.Task t) chosen;
+      told = tt;
       begins = begun-committing (withPhase v 1) 1 refl refl;
       inv =
           inr
@@ -438,14 +447,15 @@ task-commits p sound v lengths d z k i still t j x chosen h a e below count pend
                   begun-in = i .held .begun-in;
                   waits =
                       rw (first-head (apply v (to Phase 1)) 1 refl refl)
-                      (waits-head p sound v lengths d z k i still (Body.Task t) j x chosen h);
+                      (waits-head p sound v lengths d z k i at-rest still (Body.Task t) j x chosen h);
                 };
             on = refl;
             handles = refl;
+            marked = refl;
             count-in = omega arith;
             placed =
                 inr (
-                  none-copied p sound v lengths d z k i still (Body.Task t) j x chosen h count,
+                  none-copied p sound v lengths d z k i at-rest still (Body.Task t) j x chosen h count,
                   inl
                       (record {
                         phase-is = refl;
@@ -460,15 +470,15 @@ task-commits p sound v lengths d z k i still t j x chosen h a e below count pend
 
 -- "8 becomes 2"
 event-commits : (p : List ℕ) (sound : Sound p) (v : Store) (lengths : Lengths p v) (d : Device) (z : Serial) (k : ℕ)
-    (i : On p v d z k) (still : StillAt v z) (e j x : ℕ)
+    (i : On p v d z k) (at-rest : d .handler ≡ Resting) (still : StillAt v z) (e j x : ℕ)
     (chosen : ChosenAt v x (Body.Event e))
     (h : Running p (v .memory) (v .log) (z .memory) k (Body.Event e) x j (d .registers) (d .count))
     → effectAt p (tasks p + e) j (d .registers) ≡ Effect.EndEvent → v .count ≡ d .count → v .pending ≡ slotAfter (v .queueRecords) (v .head)
     → Kept p v z k Step (out (to Phase 2) (fresh true) (Answer.Committed (Body.Event e)))
-unfolding tell apply fresh runBody serveOldest afterEvent walkBody bodyNumber advance slot eventLastStores begunAfter
-event-commits p sound v lengths d z k i still e j x chosen h ends count pending =
+unfolding tell apply fresh runBody serveOldest afterEvent noPost walkBody bodyNumber advance slot eventLastStores begunAfter
+event-commits p sound v lengths d z k i at-rest still e j x chosen h ends count pending =
     let q = v .queueRecords in
-    let waits = waits-head p sound v lengths d z k i still (Body.Event e) j x chosen h in
+    let waits = waits-head p sound v lengths d z k i at-rest still (Body.Event e) j x chosen h in
     let w = overlay (v .memory) (v .log) (d .count) in
     let some-record = chosen .0 .1 .0 in
     let rest = recordsFrom (v .queue) q (slotAfter q (v .head)) (distance q (slotAfter q (v .head)) (v .tail)) in
@@ -476,16 +486,17 @@ event-commits p sound v lengths d z k i still e j x chosen h ends count pending 
     sym (waits .same) ∙ records-head (v .queue) q (v .head) (v .tail) (i .held .head-in) (waits .tail-in) some-record in
     record {
       inside = tt;
-      serial = record { memory = w; task = z .task; openNumber = z .openNumber; records = rest; posted = z .posted };
+      serial = record { memory = w; task = z .task; openNumber = z .openNumber; records = rest; posting = noPost (z .posting) };
       tells =
           λ fuel l.
           ap (serveOldest fuel p z e) records-are
           ∙ pick-true _ _ (and-true (eq-eqb _ _ (chosen .0 .1 .1 .0)) (eq-eqb _ _ (sym (still .open-is) ∙ chosen .0 .0)))
           ∙ ap (afterEvent z rest)
           (ap (λ (y : ℕ). walk fuel p (tasks p + e) 0 (firstRegisters y) (z .memory)) (chosen .0 .1 .1 .1)
-          ∙ walk-ends p sound v lengths d z k i still (Body.Event e) j x chosen h Effect.EndEvent ends fuel l);
+          ∙ walk-ends p sound v lengths d z k i at-rest still (Body.Event e) j x chosen h Effect.EndEvent ends fuel l);
       expected = tt;
       turn = begun-chosen v (still .phase-is) x (Body.Event e) chosen;
+      told = tt;
       begins = begun-committing (withPhase v 2) 2 refl refl;
       inv =
           inr
@@ -506,10 +517,11 @@ event-commits p sound v lengths d z k i still e j x chosen h ends count pending 
                 };
             on = refl;
             handles = refl;
+            marked = refl;
             count-in = omega arith;
             placed =
                 inr (
-                  none-copied p sound v lengths d z k i still (Body.Event e) j x chosen h count,
+                  none-copied p sound v lengths d z k i at-rest still (Body.Event e) j x chosen h count,
                   inr
                       (record {
                         phase-is = refl;
@@ -525,33 +537,33 @@ event-commits p sound v lengths d z k i still e j x chosen h ends count pending 
 
 -- GO stands in a task, DONE in an event
 task-last : (p : List ℕ) (sound : Sound p) (v : Store) (lengths : Lengths p v) (d : Device) (z : Serial) (k : ℕ)
-    (i : On p v d z k) (still : StillAt v z) (b : Body) (j x : ℕ)
+    (i : On p v d z k) (at-rest : d .handler ≡ Resting) (still : StillAt v z) (b : Body) (j x : ℕ)
     (chosen : ChosenAt v x b)
     (h : Running p (v .memory) (v .log) (z .memory) k b x j (d .registers) (d .count)) (a : ℕ)
     → effectAt p (bodyNumber p b) j (d .registers) ≡ Effect.EndTask a → LegalEffect p (bodyNumber p b) j (Effect.EndTask a) → v .count ≡ d .count → v .pending ≡ a
     → v .pendingOpen ≡ newOpen (transaction p (bodyNumber p b)) (transaction p a)
     → Kept p v z k Step (out (to Phase 1) (fresh true) (Answer.Committed b))
 unfolding bodyNumber
-task-last p sound v lengths d z k i still (Body.Task t) j x chosen h a e leads count pending pendingOpen =
-    task-commits p sound v lengths d z k i still t j x chosen h a e (leads .0) count pending pendingOpen
-task-last p sound v lengths d z k i still (Body.Event n) j x chosen h a e leads count pending pendingOpen =
+task-last p sound v lengths d z k i at-rest still (Body.Task t) j x chosen h a e leads count pending pendingOpen =
+    task-commits p sound v lengths d z k i at-rest still t j x chosen h a e (leads .0) count pending pendingOpen
+task-last p sound v lengths d z k i at-rest still (Body.Event n) j x chosen h a e leads count pending pendingOpen =
     absurd (omega (arith, leads .1))
 
 event-last : (p : List ℕ) (sound : Sound p) (v : Store) (lengths : Lengths p v) (d : Device) (z : Serial) (k : ℕ)
-    (i : On p v d z k) (still : StillAt v z) (b : Body) (j x : ℕ)
+    (i : On p v d z k) (at-rest : d .handler ≡ Resting) (still : StillAt v z) (b : Body) (j x : ℕ)
     (chosen : ChosenAt v x b)
     (h : Running p (v .memory) (v .log) (z .memory) k b x j (d .registers) (d .count))
     → effectAt p (bodyNumber p b) j (d .registers) ≡ Effect.EndEvent → LegalEffect p (bodyNumber p b) j Effect.EndEvent → v .count ≡ d .count
     → v .pending ≡ slotAfter (v .queueRecords) (v .head)
     → Kept p v z k Step (out (to Phase 2) (fresh true) (Answer.Committed b))
 unfolding bodyNumber
-event-last p sound v lengths d z k i still (Body.Task t) j x chosen h e leads count pending =
+event-last p sound v lengths d z k i at-rest still (Body.Task t) j x chosen h e leads count pending =
     absurd (omega (arith, leads, chosen .0 .0, still .task-is, i .held .tasked .task-in))
-event-last p sound v lengths d z k i still (Body.Event n) j x chosen h e leads count pending =
-    event-commits p sound v lengths d z k i still n j x chosen h e count pending
+event-last p sound v lengths d z k i at-rest still (Body.Event n) j x chosen h e leads count pending =
+    event-commits p sound v lengths d z k i at-rest still n j x chosen h e count pending
 
 module _ (p : List ℕ) (sound : Sound p) (v : Store) (lengths : Lengths p v) (d : Device) (z : Serial) (k : ℕ)
-    (i : On p v d z k) (still : StillAt v z) (b : Body) (j x : ℕ)
+    (i : On p v d z k) (at-rest : d .handler ≡ Resting) (still : StillAt v z) (b : Body) (j x : ℕ)
     (chosen : ChosenAt v x b)
     (h : Running p (v .memory) (v .log) (z .memory) k b x j (d .registers) (d .count)) where
   task-end-kept : (a : ℕ) → effectAt p (bodyNumber p b) j (d .registers) ≡ Effect.EndTask a → LegalEffect p (bodyNumber p b) j (Effect.EndTask a) → (c : ℕ)
@@ -559,16 +571,16 @@ module _ (p : List ℕ) (sound : Sound p) (v : Store) (lengths : Lengths p v) (d
       → Kept p v z k Step (storing (taskStores p (bodyNumber p b) a (d .count)) c (withPlace d (d .registers) (Run b j (c + 1)) (d .count)) (fresh true) (Answer.Committed b))
   unfolding storing pick taskStores eventStores apply
   task-end-kept a e leads zero (l, _) =
-      staged p sound v lengths d z k i still b j x chosen h Count (d .count) 1 (d .count) (v .pending) (v .pendingOpen) tt refl (Effect.EndTask a) e
+      staged p sound v lengths d z k i at-rest still b j x chosen h Count (d .count) 1 (d .count) (v .pending) (v .pendingOpen) tt refl (Effect.EndTask a) e
       (omega arith, (refl, tt))
   task-end-kept a e leads (suc zero) (l, (count, _)) =
-      staged p sound v lengths d z k i still b j x chosen h Pending a 2 (v .count) a (v .pendingOpen) tt refl (Effect.EndTask a) e
+      staged p sound v lengths d z k i at-rest still b j x chosen h Pending a 2 (v .count) a (v .pendingOpen) tt refl (Effect.EndTask a) e
       (omega arith, (count, (refl, tt)))
   task-end-kept a e leads (suc (suc zero)) (l, (count, (pending, _))) =
-      staged p sound v lengths d z k i still b j x chosen h PendingOpen _ 3 (v .count) (v .pending) _ tt refl (Effect.EndTask a) e
+      staged p sound v lengths d z k i at-rest still b j x chosen h PendingOpen _ 3 (v .count) (v .pending) _ tt refl (Effect.EndTask a) e
       (omega arith, (count, (pending, (refl, tt))))
   task-end-kept a e leads (suc (suc (suc zero))) (l, (count, (pending, (open′, _)))) =
-      task-last p sound v lengths d z k i still b j x chosen h a e leads count pending open′
+      task-last p sound v lengths d z k i at-rest still b j x chosen h a e leads count pending open′
   task-end-kept a e leads (suc (suc (suc (suc c)))) (l, made) = absurd (omega arith)
 
   event-end-kept : effectAt p (bodyNumber p b) j (d .registers) ≡ Effect.EndEvent → LegalEffect p (bodyNumber p b) j Effect.EndEvent → (c : ℕ)
@@ -576,27 +588,27 @@ module _ (p : List ℕ) (sound : Sound p) (v : Store) (lengths : Lengths p v) (d
       → Kept p v z k Step (storing (eventStores v (d .count)) c (withPlace d (d .registers) (Run b j (c + 1)) (d .count)) (fresh true) (Answer.Committed b))
   unfolding storing pick taskStores eventStores apply
   event-end-kept e leads zero (l, _) =
-      staged p sound v lengths d z k i still b j x chosen h Count (d .count) 1 (d .count) (v .pending) (v .pendingOpen) tt refl Effect.EndEvent e
+      staged p sound v lengths d z k i at-rest still b j x chosen h Count (d .count) 1 (d .count) (v .pending) (v .pendingOpen) tt refl Effect.EndEvent e
       (omega arith, (refl, tt))
   event-end-kept e leads (suc zero) (l, (count, _)) =
-      staged p sound v lengths d z k i still b j x chosen h Pending (slotAfter (v .queueRecords) (v .head)) 2 (v .count) (slotAfter (v .queueRecords) (v .head)) (v .pendingOpen) tt refl Effect.EndEvent e
+      staged p sound v lengths d z k i at-rest still b j x chosen h Pending (slotAfter (v .queueRecords) (v .head)) 2 (v .count) (slotAfter (v .queueRecords) (v .head)) (v .pendingOpen) tt refl Effect.EndEvent e
       (omega arith, (count, (refl, tt)))
-  event-end-kept e leads (suc (suc zero)) (l, (count, (pending, _))) = event-last p sound v lengths d z k i still b j x chosen h e leads count pending
+  event-end-kept e leads (suc (suc zero)) (l, (count, (pending, _))) = event-last p sound v lengths d z k i at-rest still b j x chosen h e leads count pending
   event-end-kept e leads (suc (suc (suc c))) (l, made) = absurd (omega arith)
 
   pub act-kept : (c : ℕ) (f : Effect) → effectAt p (bodyNumber p b) j (d .registers) ≡ f → LegalEffect p (bodyNumber p b) j f → EndingAt p v d b c f → Kept p v z k Step (act p v d b j c f)
   unfolding act advance refusal isIn mayMeet _or_
-  act-kept c (Effect.Compute a y) e leads t = works p sound v lengths d z k i still b j x chosen h (Effect.Compute a y) e (j + 1) (set (d .registers) a y) (leads .1) (λ g. refl)
-  act-kept c (Effect.Jump a) e leads t = works p sound v lengths d z k i still b j x chosen h (Effect.Jump a) e a (d .registers) leads (λ g. refl)
+  act-kept c (Effect.Compute a y) e leads t = works p sound v lengths d z k i at-rest still b j x chosen h (Effect.Compute a y) e (j + 1) (set (d .registers) a y) (leads .1) (λ g. refl)
+  act-kept c (Effect.Jump a) e leads t = works p sound v lengths d z k i at-rest still b j x chosen h (Effect.Jump a) e a (d .registers) leads (λ g. refl)
   act-kept c (Effect.Load a y) e leads t =
       pick-case (λ (o : Outcome). Kept p v z k Step o)
       (λ s.
       let below : y < length (v .memory) = omega (arith, ltb-true y (memoryWords p) s, lengths .memory-length) in
-      works p sound v lengths d z k i still b j x chosen h (Effect.Load a y) e (j + 1) _ (leads .1)
+      works p sound v lengths d z k i at-rest still b j x chosen h (Effect.Load a y) e (j + 1) _ (leads .1)
       (λ g. pick-true _ _ s ∙ ap (λ (m : ℕ). walk g p (bodyNumber p b) (j + 1) (set (d .registers) a m) (overlay (v .memory) (v .log) (d .count))) (sym (shown-is v (d .count) y (h .distinct) below))))
       (λ s. refused-kept p v d z k Step Refusal.Address refl (inr i))
   act-kept c (Effect.Save y w) e leads t =
-      pick-case (λ (o : Outcome). Kept p v z k Step o) (λ s. save-kept p sound v lengths d z k i still b j x chosen h y w e leads (ltb-true _ _ s) (find (v .log) (d .count) y) refl)
+      pick-case (λ (o : Outcome). Kept p v z k Step o) (λ s. save-kept p sound v lengths d z k i at-rest still b j x chosen h y w e leads (ltb-true _ _ s) (find (v .log) (d .count) y) refl)
       (λ s. refused-kept p v d z k Step Refusal.Address refl (inr i))
   act-kept c (Effect.EndTask a) e leads t = task-end-kept a e leads c t
   act-kept c Effect.EndEvent e leads t = event-end-kept e leads c t

@@ -7,12 +7,13 @@ use mathlib.Core.Bool.{Bool, true, false, not}
 use mathlib.Core.List.{List}
 use mathlib.Core.Option.{some}
 use borrow.Author.Tests.{leb-true}
+use native.Mathlib.Omega.{arith}
 use lib.Dec.{leb}
 use lib.ListN.{length}
 use Rattle.model.proofs.BurstLaws.{burst-passed, EventsFound, all-known, bad-event, events-found}
 use Rattle.model.proofs.Checks.{rules-obeyed, early-obeyed, device-sound}
 use Rattle.model.proofs.Invariant.{Lengths, On, Inv}
-use Rattle.model.proofs.Kept.{Kept, refused-kept, InsideOf}
+use Rattle.model.proofs.Kept.{Kept, refused-kept, InsideOf, TellsDropped}
 use Rattle.model.proofs.KeptCalls.{held-of, resumes-of, turned-off-kept, turned-on-kept, next-kept, posted-kept}
 use Rattle.model.proofs.StoreLaws.{viewAt, apply, Sized, view-is, view-settled, settled-sized, lengths-are, rule-kept}
 use Rattle.model.proofs.TestLaws.{clash, must-true, then-skip}
@@ -22,13 +23,14 @@ use Rattle.model.specs.Burst.{isBurst, burstWords, eventsRule}
 use Rattle.model.specs.Calls.{Call, Boot, Step, Cut, Post, call}
 use Rattle.model.specs.Demand3.{isIn, mayMeet, Expected}
 use Rattle.model.specs.Control.{obeyAll, rules, earlyRules}
-use Rattle.model.specs.Device.{Outcome, out, refuse, judged, fresh, withHandler, atRest, zeros, isFresh, deviceSound, look, begunOf, takenUp, bootCheck, boot, cut, postCheck, post, nextStep, step}
+use Rattle.model.specs.Device.{Outcome, out, refuse, judged, fresh, withHandler, atRest, zeros, isFresh, deviceSound, look, begunOf, takenUp, bootCheck, boot, cut, postCheck, post, nextStep, step, setToWork, takes}
 use Rattle.model.specs.Program.{memoryWords}
 use Rattle.model.specs.Serial.{Serial, given, tell, afterDone}
 use Rattle.model.specs.Store.{Store, Record, view, Write, none, to, settled, room, storeRule}
 use Rattle.model.specs.Turns.{begunAfter, InTurn}
 use Rattle.model.specs.Test.{pick, _and_, _or_, must, _then_}
 use Rattle.model.specs.Types.{Answer, Checked, Device, Refusal, Storing}
+use Rattle.model.proofs.Passed.{store-passed}
 
 -- the invariant of a store of l log pairs and q queue records
 pub record InvWords (p : List ℕ) (l q : ℕ) (s : List ℕ) (d : Device) (z : Serial) (k : ℕ) : Type 0 where
@@ -41,6 +43,7 @@ pub record KeptWords (p : List ℕ) (l q : ℕ) (s : List ℕ) (z : Serial) (k :
   pub tells : (fuel : ℕ) → k < fuel → tell fuel (given p l q) z c (o .answer) ≡ some serial
   pub expected : Expected c (o .answer)
   pub turn : InTurn z (begunOf (view s)) (o .answer)
+  pub told : TellsDropped z (o .answer)
   pub begins : begunOf (view (settled s (o .write))) ≡ begunAfter (begunOf (view s)) (o .answer)
   pub inv : InvWords p l q (settled s (o .write)) (o .device) serial (suc k)
   pub parts : viewAt (memoryWords p) l q (settled s (o .write)) ≡ apply (viewAt (memoryWords p) l q s) (o .write)
@@ -82,6 +85,7 @@ module _ (p : List ℕ) (sound : Sound p) (l q : ℕ) (s : List ℕ) (d : Device
         tells = h .tells;
         expected = h .expected;
         turn = rw view-at (h .turn);
+        told = h .told;
         begins =
             ap begunOf (view-is (memoryWords p) l q (settled s (o .write)) (inv .sized) ∙ parts)
             ∙ h .begins
@@ -96,7 +100,7 @@ module _ (p : List ℕ) (sound : Sound p) (l q : ℕ) (s : List ℕ) (d : Device
   -- ---- the checks come down to the last
 
   sound-device : deviceSound p (view s) d ≡ true
-  unfolding deviceSound zeros isFresh fresh pick _and_
+  unfolding deviceSound zeros isFresh atRest fresh pick _and_
   sound-device = by-power (i .inv)
     where
       by-power : Inv p v d z k → deviceSound p (view s) d ≡ true
@@ -164,13 +168,16 @@ module _ (p : List ℕ) (sound : Sound p) (l q : ℕ) (s : List ℕ) (d : Device
       by-found (all-known known e) = rw e (h known)
       by-found (bad-event j e) = rw e (refused-words (Post rs) (Refusal.NoEvent j) refl)
 
+  some-slot : 1 ≤ q
+  some-slot = omega (arith, store-passed p s (sound .rows .contents) (i .contents) .shaped .sizes .some-records, i .sized .records-is)
+
   post-kept : (rs : List Record) → KeptWords p l q s z k (Post rs) (post p s d rs)
   unfolding post postCheck refusal isIn mayMeet _or_
   post-kept rs =
-      let o = out none (withHandler d (Storing (length rs) 0) (burstWords rs)) Answer.Done in
+      let o = out none (withHandler d (setToWork (view s) (length rs)) (burstWords rs)) Answer.Done in
       let sized = isBurst rs in
       let rests = atRest (d .handler) in
-      let free = leb (length rs) (room (view s)) in
+      let free = takes (view s) (length rs) in
       rw (judged-then (look p s d) (must sized Refusal.BurstLength then eventsRule p 0 rs then must rests Refusal.HandlerBusy then must free Refusal.QueueFull) d o)
       (judged-words (Post rs) (d .on) Refusal.PowerOff _ (look p s d) look-is refl
       (λ on.
@@ -185,9 +192,9 @@ module _ (p : List ℕ) (sound : Sound p) (l q : ℕ) (s : List ℕ) (d : Device
       (λ rest.
       judged-words (Post rs) free Refusal.QueueFull _ _ refl refl
       (λ fits.
-      let fit : length rs ≤ room v = leb-true _ _ (ap (λ (u : Store). leb (length rs) (room u)) (sym view-at) ∙ fits) in
+      let fit : takes v (length rs) ≡ true = ap (λ (u : Store). takes u (length rs)) (sym view-at) ∙ fits in
       let (least, most) = burst-passed rs few in
-      to-words (Post rs) o (posted-kept p v d z k (when-on on) rs least most known fit))))))))))
+      rw view-at (to-words (Post rs) _ (posted-kept p v d z k (when-on on) rs least most known some-slot fit)))))))))))
 
   pub call-kept : (c : Call) → KeptWords p l q s z k c (call p s d c)
   unfolding call

@@ -9,6 +9,7 @@ pub mod StoreLaws
 pub mod Invariant
 pub mod Kept
 pub mod KeptBody
+pub mod KeptDrop
 pub mod Checks
 pub mod KeptCalls
 pub mod KeptWords

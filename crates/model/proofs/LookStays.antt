@@ -11,22 +11,22 @@ use borrow.Author.Tests.{eqb-true, not-true}
 use lib.Dec.{eqb}
 use lib.ListN.{length, set}
 use lib.Seq.{getD-set-other}
-use Rattle.model.proofs.DeviceLaws.{atPlace, task-lasts, event-lasts, least-last, Commits, Made, record-made, tail-made, handler, commit-copy, commit-task, commit-open, commit-head, commit-begun, commit-phase, chosen-event, chosen-task, computed, jumped, loaded, overwritten, half-saved, saved, go-count, go-pending, go-open, go-phase, done-count, done-pending, done-phase, StepOutcome, refused, made, step-outcome}
+use Rattle.model.proofs.DeviceLaws.{atPlace, task-lasts, event-lasts, least-last, Commits, Made, record-made, tail-made, handler, commit-copy, commit-task, commit-open, commit-head, commit-begun, commit-phase, chosen-event, chosen-task, computed, jumped, loaded, overwritten, half-saved, saved, go-count, go-pending, go-open, go-phase, done-count, done-pending, done-phase, StepOutcome, refused, made, step-outcome, head-dropped, works-storing, works-replacing, Works, AttendsAt}
 use Rattle.model.proofs.Early.{control-still, Fit, early-fit, look-passes}
 use Rattle.model.proofs.Passed.{sized}
 use Rattle.model.proofs.Kept.{InsideOf}
 use Rattle.model.proofs.LogLaws.{find-pair}
-use Rattle.model.proofs.RingLaws.{forward-le, tail-apart, event-store, datum-store, slot-in}
+use Rattle.model.proofs.RingLaws.{forward-le, tail-apart, event-store, datum-store, slot-in, slot-after-apart, distance-head, distance-le, slot-after-le}
 use Rattle.model.proofs.StoreLaws.{withPhase, withBegun, withNext, withCommit, withQueue, withData, apply, view-after, rule-kept}
 use Rattle.model.proofs.TestLaws.{clash, and-left, and-right, then-first, then-rest}
-use Rattle.model.specs.Burst.{carried}
-use Rattle.model.specs.Device.{Outcome, fresh, withPlace, withHandler, resting, taskLastStores, eventLastStores, lastStores, kindOf, started, endStores, zeros, look, choosing, step}
+use Rattle.model.specs.Burst.{carried, recordsAt}
+use Rattle.model.specs.Device.{Outcome, fresh, withPlace, withHandler, resting, taskLastStores, eventLastStores, lastStores, kindOf, started, endStores, zeros, look, choosing, step, recordStores}
 use Rattle.model.specs.Accepted.{ControlledBy, EligibleBy, MayRunBy, MayRun, StandsBy, Stands, Attends, Looked}
 use Rattle.model.specs.Program.{tasks, memoryWords, word}
 use Rattle.model.specs.Store.{Store, view, slotAfter, forward, distance, Phase, Write, none, to, index, settled, storedWord}
 use Rattle.model.specs.Calls.{isRefusal, unlessRefused, isCommit}
 use Rattle.model.specs.Test.{pick, _and_}
-use Rattle.model.specs.Types.{Answer, Body, Checked, Device, Free, Half, Handler, Place, Resting, Run}
+use Rattle.model.specs.Types.{Answer, Body, Checked, Device, Free, Half, Handler, Place, Resting, Run, Dropped, Dropping, Replacing}
 use Rattle.model.specs.Claims.{soundAfter, LookStays}
 
 some-end : (b : Body) → 0 < endStores b
@@ -159,17 +159,17 @@ module _ (p : List ℕ) (v : Store) (d : Device) (fit : Fit p v d) where
       }
 
   -- a body is chosen
-  chosen-fits : (b : Body) → v .phase ≡ 0 → EligibleBy p (v .task) (v .openNumber) (v .head) (v .tail) b → kindOf b ≤ 2
+  chosen-fits : (b : Body) → d .handler ≡ Resting → v .phase ≡ 0 → EligibleBy p (v .task) (v .openNumber) (v .head) (v .tail) b → kindOf b ≤ 2
       → (kindOf b ≡ 2 → (v .head ≢ v .tail) × (v .openNumber ≡ 0)) → Fit p (withBegun v (kindOf b)) (started v d b)
   unfolding started withPlace
-  chosen-fits b z may kind event =
+  chosen-fits b rests z may kind event =
       let c = fit .control in
       record {
         control = control-still p _ _ _ _ _ _ _ _ _ _ z (c .task-in) (c .head-in) (c .tail-in) kind event;
         on = fit .on;
         count-in = omega arith;
         place = (z, (may, refl), some-end b);
-        handler = fit .handler;
+        handler = rw rests (no-burst rests);
       }
 
   -- GO's and DONE's stores before the commit store, to words 11 to 13
@@ -186,45 +186,81 @@ module _ (p : List ℕ) (v : Store) (d : Device) (fit : Fit p v d) where
         handler = fit .handler;
       }
 
+  -- head moves on, past the record that is dropped
+  may-head : (b : Body) (h : ℕ) → v .begun ≢ 2 → MayRun p v b → MayRunBy p (v .task) (v .openNumber) h (v .tail) (v .begun) b
+  unfolding kindOf
+  may-head (Body.Task t) h no-event m = m
+  may-head (Body.Event e) h no-event m = absurd (no-event (m .1))
+
+  stands-head : (h n c : ℕ) → v .begun ≢ 2 → (y : Place) → StandsBy p (v .logPairs) (v .phase) (v .task) (v .openNumber) (v .count) (v .head) (v .tail) (v .begun) c n y
+      → StandsBy p (v .logPairs) (v .phase) (v .task) (v .openNumber) (v .count) h (v .tail) (v .begun) c n y
+  stands-head h n c no-event (Free i) m = m
+  stands-head h n c no-event (Run b j i) m = (m .0, may-head b h no-event (m .1), m .2)
+  stands-head h n c no-event (Half b j) m = (m .0, may-head b h no-event (m .1), m .2)
+
+  dropped-fits : 1 ≤ v .queueRecords → Attends p v (d .burst) Dropping
+      → Fit p (withNext v (v .task) (v .openNumber) (slotAfter (v .queueRecords) (v .head))) (withHandler d (Replacing 0) (d .burst))
+  unfolding withHandler lastStores taskLastStores eventLastStores recordsAt recordStores
+  dropped-fits some-slot m =
+      let c = fit .control in
+      let q = v .queueRecords in
+      let some-record : v .head ≢ v .tail = λ e. slot-after-apart q (v .tail) some-slot (m .full ∙ e) in
+      let fewer = distance-head q (v .head) (v .tail) (c .head-in) (c .tail-in) some-record in
+      let most = distance-le q (v .head) (v .tail) (c .head-in) (c .tail-in) in
+      record {
+        control =
+            control-other (v .task) (v .openNumber) (slotAfter q (v .head)) (v .tail) (c .task-in) (slot-after-le q (v .head) (c .head-in)) (c .tail-in)
+            (λ two. absurd (m .not-committing two)) (c .open-none) (λ z two. absurd (m .event-not-begun two));
+        on = fit .on;
+        count-in = fit .count-in;
+        place = stands-head (slotAfter q (v .head)) (d .count) (length (lastStores v)) (m .event-not-begun) (d .place) (fit .place);
+        handler = record { least = omega arith; most = omega arith; known = m .known; room = omega (arith, fewer, most); inside = omega arith };
+      }
+
   -- ---- each case
+
+  later-attends : {h : Handler} {n c : ℕ} {later : Handler} {dropped : Dropped} → Works v h n c later dropped → AttendsAt p v d n (c + 1) → Attends p v (d .burst) later
+  later-attends works-storing a = a
+  later-attends works-replacing a = a
 
   -- a store of the phase isn't the commit store, and word 16 is 0
   abbrev Keeps : Outcome → Type 0
   Keeps o = ((x : ℕ) → o .write ≡ to Phase x → (isCommit (o .answer) ≡ false) × (v .begun ≡ 0)) → InsideOf p v (o .write) × Fit p (apply v (o .write)) (o .device)
 
-  keeps : (o : Outcome) → Made p v d o → Keeps o
+  keeps : 1 ≤ v .queueRecords → (o : Outcome) → Made p v d o → Keeps o
   unfolding apply choosing kindOf endStores isCommit
-  keeps o (handler q (record-made a (event-store n r l m))) _ = (slot-in (v .head) n (fit .control .tail-in) (a .room) l, handled-fits _ _ a)
-  keeps o (handler q (record-made a (datum-store n r l m))) _ = (slot-in (v .head) n (fit .control .tail-in) (a .room) l, handled-fits _ _ a)
-  keeps o (handler {n = n} q (tail-made a)) _ =
+  keeps some-slot o (handler q w (record-made a (event-store n r l m))) _ = (slot-in (v .head) n (fit .control .tail-in) (a .room) l, handled-fits _ _ (later-attends w a))
+  keeps some-slot o (handler q w (record-made a (datum-store n r l m))) _ = (slot-in (v .head) n (fit .control .tail-in) (a .room) l, handled-fits _ _ (later-attends w a))
+  keeps some-slot o (handler {n = n} q w (tail-made a)) _ =
       (tt, tail-fits (length (carried (d .burst) n)) (a .least) (omega (arith, a .room, a .least)))
-  keeps o (commit-copy {c = c} h l m) _ =
+  keeps some-slot o (head-dropped q a l) _ = (tt, dropped-fits some-slot a)
+  keeps some-slot o (commit-copy {c = c} h l m) _ =
       (m, withPlace-fits _ _ _ (d .registers) (Free (c + 1)) (d .count) (fit .count-in) (λ z. absurd (h .phase z), λ _. omega (arith, least-last v)))
-  keeps o (commit-task h one e) _ =
+  keeps some-slot o (commit-task h one e) _ =
       (tt, last-fits h _ _ _ (fit .control .pending-task one) (fit .control .head-in) (fit .control .pending-is) (fit .control .open-none) (omega (arith, task-lasts v one)))
-  keeps o (commit-open h one e) _ =
+  keeps some-slot o (commit-open h one e) _ =
       (tt, last-fits h _ _ _ (fit .control .task-in) (fit .control .head-in) (fit .control .pending-is) (λ two. absurd (omega (arith, one, two))) (omega (arith, task-lasts v one)))
-  keeps o (commit-head h two e) _ =
+  keeps some-slot o (commit-head h two e) _ =
       (tt, last-fits h _ _ _ (fit .control .task-in) (fit .control .pending-head two) (λ _. inl refl) (fit .control .open-none) (omega (arith, event-lasts v (omega arith))))
-  keeps o (commit-begun h e) _ = (tt, cleared-fits h (omega arith))
-  keeps o (commit-phase h e) ends = (tt, over-fits (ends 0 refl .1))
-  keeps o (chosen-event h none-open some l) _ = (tt, chosen-fits _ (h .phase) (l, none-open, some) (omega arith) (λ _. (some, none-open)))
-  keeps o (chosen-task h n) _ = (tt, chosen-fits _ (h .phase) refl (omega arith) (λ two. absurd (omega (arith, two))))
-  keeps o (computed h) _ = (tt, runs-fits _ _ _ _ _ _ _ (fit .count-in) (h .stands .0) (h .stands .1))
-  keeps o (jumped h) _ = (tt, runs-fits _ _ _ _ _ _ _ (fit .count-in) (h .stands .0) (h .stands .1))
-  keeps o (loaded h l) _ = (tt, runs-fits _ _ _ _ _ _ _ (fit .count-in) (h .stands .0) (h .stands .1))
-  keeps o (overwritten h l e) _ =
+  keeps some-slot o (commit-begun h e) _ = (tt, cleared-fits h (omega arith))
+  keeps some-slot o (commit-phase h e) ends = (tt, over-fits (ends 0 refl .1))
+  keeps some-slot o (chosen-event h none-open some l) _ = (tt, chosen-fits _ (h .rests) (h .phase) (l, none-open, some) (omega arith) (λ _. (some, none-open)))
+  keeps some-slot o (chosen-task h n) _ = (tt, chosen-fits _ (h .rests) (h .phase) refl (omega arith) (λ two. absurd (omega (arith, two))))
+  keeps some-slot o (computed h) _ = (tt, runs-fits _ _ _ _ _ _ _ (fit .count-in) (h .stands .0) (h .stands .1))
+  keeps some-slot o (jumped h) _ = (tt, runs-fits _ _ _ _ _ _ _ (fit .count-in) (h .stands .0) (h .stands .1))
+  keeps some-slot o (loaded h l) _ = (tt, runs-fits _ _ _ _ _ _ _ (fit .count-in) (h .stands .0) (h .stands .1))
+  keeps some-slot o (overwritten h l e) _ =
       (omega (arith, find-pair _ _ _ _ e .0, fit .count-in), runs-fits _ _ _ _ _ _ _ (fit .count-in) (h .stands .0) (h .stands .1))
-  keeps o (half-saved {b = b} {j = j} h l e k) _ =
+  keeps some-slot o (half-saved {b = b} {j = j} h l e k) _ =
       (k, withPlace-fits _ _ _ (d .registers) (Half b j) (d .count) (fit .count-in) (h .stands .0, h .stands .1, k))
-  keeps o (saved h) _ = (h .stands .2, runs-fits _ _ _ _ _ _ _ (omega (arith, h .stands .2)) (h .stands .0) (h .stands .1))
-  keeps o (go-count h) _ = (tt, noted-fits _ _ _ _ _ 1 (h .stands .0) (h .stands .1) (omega arith))
-  keeps o (go-pending h) _ = (tt, noted-fits _ _ _ _ _ 2 (h .stands .0) (h .stands .1) (omega arith))
-  keeps o (go-open h) _ = (tt, noted-fits _ _ _ _ _ 3 (h .stands .0) (h .stands .1) (omega arith))
-  keeps o (go-phase h) ends = clash refl (ends 1 refl .0)
-  keeps o (done-count h) _ = (tt, noted-fits _ _ _ _ _ 1 (h .stands .0) (h .stands .1) (omega arith))
-  keeps o (done-pending h) _ = (tt, noted-fits _ _ _ _ _ 2 (h .stands .0) (h .stands .1) (omega arith))
-  keeps o (done-phase h) ends = clash refl (ends 2 refl .0)
+  keeps some-slot o (saved h) _ = (h .stands .2, runs-fits _ _ _ _ _ _ _ (omega (arith, h .stands .2)) (h .stands .0) (h .stands .1))
+  keeps some-slot o (go-count h) _ = (tt, noted-fits _ _ _ _ _ 1 (h .stands .0) (h .stands .1) (omega arith))
+  keeps some-slot o (go-pending h) _ = (tt, noted-fits _ _ _ _ _ 2 (h .stands .0) (h .stands .1) (omega arith))
+  keeps some-slot o (go-open h) _ = (tt, noted-fits _ _ _ _ _ 3 (h .stands .0) (h .stands .1) (omega arith))
+  keeps some-slot o (go-phase h) ends = clash refl (ends 1 refl .0)
+  keeps some-slot o (done-count h) _ = (tt, noted-fits _ _ _ _ _ 1 (h .stands .0) (h .stands .1) (omega arith))
+  keeps some-slot o (done-pending h) _ = (tt, noted-fits _ _ _ _ _ 2 (h .stands .0) (h .stands .1) (omega arith))
+  keeps some-slot o (done-phase h) ends = clash refl (ends 2 refl .0)
 
 -- ---- what `soundAfter` says
 
@@ -251,7 +287,7 @@ module _ (p s : List ℕ) (d : Device) where
   unfolding isRefusal unlessRefused
   stays o (refused w) n e = clash refl n
   stays o (made early m u) n e =
-      let k = keeps p (view s) d (early-fit early) o m (λ x is. phase-stored s (o .answer) (o .write) x is e) in
+      let k = keeps p (view s) d (early-fit early) (early .shaped .shaped .sizes .some-records) o m (λ x is. phase-stored s (o .answer) (o .write) x is e) in
       look-after early (o .write) (o .device) (k .0) (k .1)
 
 pub look-stays : LookStays

@@ -10,23 +10,23 @@ use native.Mathlib.Nat.{le-refl}
 use native.Mathlib.Omega.{arith}
 use borrow.Author.Tests.{ltb-false, le-leb, le-ltb, lt-ltb, eq-eqb, ne-eqb, not-true, not-false}
 use lib.Dec.{eqb}
-use Rattle.model.proofs.DeviceLaws.{BodyIn, running, half-way, by-record, by-pair, by-body, Why, looked, met, boot-why, post-why, why}
+use Rattle.model.proofs.DeviceLaws.{BodyIn, running, half-way, by-record, by-pair, by-body, Why, looked, met, boot-why, post-why, why, by-dropped}
 use Rattle.model.proofs.Kept.{first-head}
 use Rattle.model.proofs.Lowest.{first-is-lowest}
 use Rattle.model.proofs.Numbers.{Low, low-contents, low-store, low-inside, low-used, low-check, low-body}
-use Rattle.model.proofs.RingLaws.{between-self}
+use Rattle.model.proofs.RingLaws.{between-self, slot-after-apart}
 use Rattle.model.proofs.TestLaws.{pick-true, pick-false, clash, same-or, and-true, or-true-left, or-true-right, Refuses, refuses-accepted, refuses-must, refuses-then, must-passed, then-first, then-rest, impossible}
-use Rattle.model.specs.Accepted.{MayRun, Looked}
+use Rattle.model.specs.Accepted.{MayRun, Looked, MayDrop, Attends}
 use Rattle.model.specs.Answer.{refusal}
-use Rattle.model.specs.Burst.{eventsRule}
+use Rattle.model.specs.Burst.{eventsRule, carried}
 use Rattle.model.specs.Calls.{Boot, Step, Cut, Post, call}
-use Rattle.model.specs.Claims.{LowestBroken, NoneBroken, runningRule, usedRule, inOrder, FirstLowest, PlaceIsLowest, NamesLowest}
+use Rattle.model.specs.Claims.{LowestBroken, NoneBroken, runningRule, usedRules, placeRule, inOrder, FirstLowest, PlaceIsLowest, NamesLowest}
 use Rattle.model.specs.Control.{Rule, broken, obey, obeyAll, inPhase, phaseRule, openRule, countRule, headRule, tailRule, addressRule, startKept, between, recordRule, rules, earlyRules}
 use Rattle.model.specs.Device.{look, bootCheck, cut, postCheck, recordSound, headSound, openSound, bodySound}
 use Rattle.model.specs.Program.{events, memoryWords, bodyNumber}
 use Rattle.model.specs.Store.{Store, Record, view, address, event, firstWaiting}
 use Rattle.model.specs.Test.{_or_, must}
-use Rattle.model.specs.Types.{Body, Checked, Device, Effect, Place, Refusal}
+use Rattle.model.specs.Types.{Body, Checked, Device, Effect, Place, Refusal, Resting, Dropping}
 
 -- ---- refusals whose place, in 7, is the lowest of rs
 
@@ -65,17 +65,18 @@ lowest-alone b r h = refuses-must b _ (λ e w f. alone r (h e) (cc))
 -- ---- the rules of what a step uses
 
 module _ (p : List ℕ) (v : Store) where
-  -- the record at head, with the queue not empty in phase 0
-  record-broken : v .phase ≡ 0 → v .head ≤ v .queueRecords → v .tail ≤ v .queueRecords → v .head ≢ v .tail → events p ≤ event v (v .head)
+  -- the record at head, with the queue not empty in phases 0 and 1
+  record-broken : v .phase ≤ 1 → v .head ≤ v .queueRecords → v .tail ≤ v .queueRecords → v .head ≢ v .tail → events p ≤ event v (v .head)
       → broken (recordRule p v (v .head)) ≡ true
   unfolding recordRule phaseRule headRule tailRule startKept
   record-broken z h t ne l =
       let two : v .phase ≤ 2 = omega arith in
+      let other : eqb (v .phase) 2 ≡ false = ne-eqb (v .phase) 2 (omega arith) in
       let waits : between (firstWaiting v) (v .tail) (v .head) ≡ true =
-      ap (λ (x : ℕ). between x (v .tail) (v .head)) (first-head v 0 z refl) ∙ between-self (v .head) (v .tail) ne in
+      ap (λ (x : ℕ). between x (v .tail) (v .head)) (first-head v (v .phase) refl other) ∙ between-self (v .head) (v .tail) ne in
       and-true
       (and-true (le-leb _ _ two)
-      (and-true (le-leb _ _ h) (and-true (le-leb _ _ t) (and-true (or-true-left _ _ (ap (λ (x : ℕ). not (eqb x 2)) z)) waits))))
+      (and-true (le-leb _ _ h) (and-true (le-leb _ _ t) (and-true (or-true-left _ _ (ap not other)) waits))))
       (ap not (le-ltb _ _ l))
 
   -- a pair that is copied
@@ -87,8 +88,8 @@ module _ (p : List ℕ) (v : Store) where
       same-or (v .phase) 1 (λ e. or-true-left _ _ (eq-eqb _ _ e)) (λ ne. or-true-right _ _ (eq-eqb (v .phase) 2 (omega arith))) in
       and-true (and-true phase (and-true (le-leb _ _ l) (lt-ltb _ _ h))) (ap not (le-ltb _ _ m))
 
-  used-body : {x : Place} {b : Body} → BodyIn x b → usedRule p v x ≡ runningRule p v b
-  unfolding usedRule
+  used-body : {x : Place} {b : Body} → BodyIn x b → placeRule p v x ≡ runningRule p v b
+  unfolding placeRule
   used-body running = refl
   used-body half-way = refl
 
@@ -133,16 +134,21 @@ module _ (p s : List ℕ) (d : Device) where
     none-early = none-broken early (then-first _ _ (then-rest _ _ (then-rest _ _ (looked-at .passed))))
 
     -- the step's own rule, behind the early ones
-    behind : {w : ℕ} (r : Rule) → usedRule p v (d .place) ≡ r → LowestBroken (r ∷ []) w → FirstLowest (inOrder p v d Step) w
+    behind : {w : ℕ} (rs : List Rule) → usedRules p v (d .place) (d .handler) ≡ rs → LowestBroken rs w → FirstLowest (inOrder p v d Step) w
     unfolding inOrder FirstLowest
-    behind {w} r q h = inr (none-early, inl (subst (λ (x : Rule). LowestBroken (x ∷ []) w) (sym q) h))
+    behind {w} rs q h = inr (none-early, inl (subst (λ (used : List Rule). LowestBroken used w) (sym q) h))
+
+    -- that of its place, with the handler at rest
+    at-place : {w : ℕ} (r : Rule) → d .handler ≡ Resting → placeRule p v (d .place) ≡ r → LowestBroken (r ∷ []) w → FirstLowest (inOrder p v d Step) w
+    unfolding usedRules
+    at-place r rests q h = behind (r ∷ []) (ap (usedRules p v (d .place)) rests ∙ ap (λ (x : Rule). x ∷ []) q) h
 
     lowest-head : v .phase ≡ 0 → (b : Body) → MayRun p v b → Lowest (runningRule p v b ∷ []) (headSound p v b)
     unfolding headSound recordSound recordRule runningRule
     lowest-head z (Body.Task t) m = refuses-accepted
     lowest-head z (Body.Event e) m =
         let c = looked-at .control in
-        lowest-alone _ (recordRule p v (v .head)) (λ q. record-broken p v z (c .head-in) (c .tail-in) (m .0 .2) (ltb-false _ _ q))
+        lowest-alone _ (recordRule p v (v .head)) (λ q. record-broken p v (omega (arith, z)) (c .head-in) (c .tail-in) (m .0 .2) (ltb-false _ _ q))
 
     lowest-open : (b : Body) → Lowest (runningRule p v b ∷ []) (openSound p v b)
     unfolding openSound obey runningRule
@@ -159,18 +165,25 @@ module _ (p s : List ℕ) (d : Device) where
         (refuses-then _ _ (lowest-low rs _ (low-body p (bodyNumber p b) j _ f)) (refuses-then _ _ (lowest-open b) (lowest-other rs _ _ refl)))))
 
   lowest-step : (w : ℕ) → Why p s d (Refusal.Control w) → FirstLowest (inOrder p v d Step) w
-  unfolding inOrder FirstLowest usedRule recordRule addressRule
+  unfolding inOrder FirstLowest placeRule usedRules recordRule addressRule
   lowest-step w (looked e) = inl (lowest-look .with-such _ e w refl)
   lowest-step w (met at rests (by-record h o ne l)) =
       let c = at .control in
-      behind at (recordRule p v (v .head)) (ap (usedRule p v) (h .place) ∙ pick-true _ _ (eq-eqb _ _ (h .phase)))
-      (alone (recordRule p v (v .head)) (record-broken p v (h .phase) (c .head-in) (c .tail-in) ne l) refl)
+      at-place at (recordRule p v (v .head)) rests (ap (placeRule p v) (h .place) ∙ pick-true _ _ (eq-eqb _ _ (h .phase)))
+      (alone (recordRule p v (v .head)) (record-broken p v (omega (arith, h .phase)) (c .head-in) (c .tail-in) ne l) refl)
   lowest-step w (met at rests (by-pair {c = i} h l m)) =
       let c = at .control in
-      behind at (addressRule p v i) (ap (usedRule p v) (h .place) ∙ pick-false _ _ (ne-eqb _ _ (h .phase)))
+      at-place at (addressRule p v i) rests (ap (placeRule p v) (h .place) ∙ pick-false _ _ (ne-eqb _ _ (h .phase)))
       (alone (addressRule p v i) (address-broken p v i (h .phase) (c .phase-in) (c .count-in (h .phase)) l m) refl)
   lowest-step w (met at rests (by-body x b j f q at-body z m e)) =
-      behind at (runningRule p v b) (ap (usedRule p v) q ∙ used-body p v at-body) (lowest-body at z x b j f m .with-such _ e w refl)
+      at-place at (runningRule p v b) rests (ap (placeRule p v) q ∙ used-body p v at-body) (lowest-body at z x b j f m .with-such _ e w refl)
+  lowest-step w (by-dropped at q l) =
+      let c = at .control in
+      let may : MayDrop p (v .queueRecords) (v .phase) (v .head) (v .tail) (v .begun) (carried (d .burst) 1) = subst (Attends p v (d .burst)) q (at .handler) in
+      let some-record : v .head ≢ v .tail =
+      λ e. slot-after-apart (v .queueRecords) (v .tail) (at .shaped .shaped .sizes .some-records) (may .full ∙ e) in
+      behind at (recordRule p v (v .head) ∷ []) (ap (usedRules p v (d .place)) q)
+      (alone (recordRule p v (v .head)) (record-broken p v (omega (arith, c .phase-in, may .not-committing)) (c .head-in) (c .tail-in) some-record l) refl)
 
 pub place-is-lowest : PlaceIsLowest
 unfolding call cut inOrder FirstLowest

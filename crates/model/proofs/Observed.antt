@@ -67,6 +67,7 @@ module _ (p : List ℕ) (l q : ℕ) (s : List ℕ) (e : formatCheck p l q s ≡ 
           ends = rw leaves (by-calls .ended);
           left = rw leaves (d .recovers n (omega arith) .left);
           balance = rw (d .waits) (d .balance);
+          dropped = d .dropped;
           oldest = oldest-waits;
         }
 

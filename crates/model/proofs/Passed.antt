@@ -10,19 +10,19 @@ use borrow.Author.Tests.{ltb-true, leb-true, eqb-true, eqb-false, eq-eqb, ne-eqb
 use lib.Dec.{ltb}
 use lib.ListN.{length}
 use Rattle.model.proofs.ProgramLaws.{_&_, by-opcode, Fits, check-passed, contents-passed, row-passed, instruction-leads}
-use Rattle.model.proofs.BurstLaws.{burst-passed, known-passed}
+use Rattle.model.proofs.BurstLaws.{burst-passed, known-passed, may-drop-is}
 use Rattle.model.proofs.RuleLaws.{obeyed, obey-early}
 use Rattle.model.proofs.StoreLaws.{Sized}
 use Rattle.model.proofs.TestLaws.{pick-true, pick-false, same-or, and-true, and-left, and-right, or-true-left, or-true-right, must-passed, must-then, then-first, then-rest, clash}
-use Rattle.model.specs.Accepted.{Contents, Registers, Legal, Sizes, ShapedFor, Controlled, Bootable, EligibleBy, MayRun, Stands, Attends, Looked, BodyIs}
+use Rattle.model.specs.Accepted.{Contents, Registers, Legal, Sizes, ShapedFor, Controlled, Bootable, EligibleBy, MayRun, Stands, Attends, Looked, BodyIs, AttendsTo}
 use Rattle.model.specs.Burst.{carried}
 use Rattle.model.specs.Check.{fieldsFit, instructionRule}
 use Rattle.model.specs.Control.{obeyAll, phaseRule, taskRule, openServing, countRule, pendingTaskRule, headRule, tailRule, pendingHeadRule, pendingMoveRule, begunRule, begunEventRule, earlyRules, Rule, upTo, openRule, pendingOpenRule, addressRule, recordRule, controlRules, rules, earlyOf}
 use Rattle.model.specs.Device.{eligible, mayRun, placeSound, recordsSound, handlerSound, deviceSound, look, bootCheck, bodySound}
 use Rattle.model.specs.Program.{word, tasks, memoryWords, instructions, bodyNumber, opcode, fieldA, fieldB, code, operand, bounds, decode}
-use Rattle.model.specs.Store.{Store, view, room, logAt, queueAt, storeLength, storeRule, sizesRule}
+use Rattle.model.specs.Store.{Store, view, room, logAt, queueAt, storeLength, storeRule, sizesRule, Record}
 use Rattle.model.specs.Test.{_and_, _or_, pick}
-use Rattle.model.specs.Types.{Body, Checked, Device, Effect, Free, Half, Handler, Instruction, Place, Resting, Run, Storing}
+use Rattle.model.specs.Types.{Body, Checked, Device, Effect, Free, Half, Handler, Instruction, Place, Resting, Run, Storing, Replacing, Dropping}
 
 -- ---- an instruction
 
@@ -208,20 +208,27 @@ stands p v l (Half b j) e =
     let f = and-right _ _ e in
     (eqb-true _ _ (and-left _ _ e), may-run p v b (and-left _ _ f), ltb-true _ _ (and-right _ _ f))
 
-attends : (p : List ℕ) (v : Store) (burst : List ℕ) (h : Handler) → handlerSound p v burst h ≡ true → Attends p v burst h
-unfolding handlerSound recordsSound room
-attends p v burst Resting e = e
-attends p v burst (Storing n c) e =
-    let (least, most) = burst-passed (carried burst n) (and-left _ _ e) in
+attends-to : (p : List ℕ) (v : Store) (c : ℕ) (rs : List Record) → recordsSound p v c rs ≡ true
+    → AttendsTo p (v .queueRecords) (v .head) (v .tail) c rs
+unfolding recordsSound room
+attends-to p v c rs e =
+    let (least, most) = burst-passed rs (and-left _ _ e) in
     let f = and-right _ _ e in
     let g = and-right _ _ f in
     record {
       least = least;
       most = most;
-      known = known-passed p (carried burst n) (and-left _ _ f);
+      known = known-passed p rs (and-left _ _ f);
       room = leb-true _ _ (and-left _ _ g);
       inside = ltb-true _ _ (and-right _ _ g);
     }
+
+attends : (p : List ℕ) (v : Store) (burst : List ℕ) (h : Handler) → handlerSound p v burst h ≡ true → Attends p v burst h
+unfolding handlerSound
+attends p v burst Resting e = e
+attends p v burst (Storing n c) e = attends-to p v c (carried burst n) e
+attends p v burst Dropping e = may-drop-is p v (carried burst 1) (known-passed p (carried burst 1) (and-left _ _ e)) (and-right _ _ e)
+attends p v burst (Replacing c) e = attends-to p v c (carried burst 1) e
 
 -- ---- what step and post look at
 

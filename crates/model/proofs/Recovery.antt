@@ -12,9 +12,9 @@ use borrow.Author.Tests.{ne-eqb}
 use lib.Dec.{eqb}
 use lib.ListN.{length}
 use Rattle.model.proofs.Invariant.{StillAt, CommitAt, Placed, Resumes, On, Inv}
-use Rattle.model.proofs.Kept.{begun-committing, lasting-in, task-last-is, event-last-is, Remaining, LeavesStores, leaves-stores}
+use Rattle.model.proofs.Kept.{begun-committing, lasting-in, task-last-is, event-last-is, Remaining, LeavesStores, leaves-stores, unmarked-of, unchanged-is}
 use Rattle.model.proofs.KeptWords.{InvWords, KeptWords, when-on, step-kept, view-at, look-is, boot-is}
-use Rattle.model.proofs.KeptCalls.{held-of, resumes-of, off-inv, on-inv}
+use Rattle.model.proofs.KeptCalls.{held-of, resumes-of, off-inv, on-inv, held-still, posts-nothing, resumes-still}
 use Rattle.model.proofs.StoreLaws.{viewAt}
 use Rattle.model.proofs.TestLaws.{pick-true, pick-false, must-true}
 use Rattle.model.specs.Accepted.{Sound}
@@ -22,7 +22,7 @@ use Rattle.model.specs.Calls.{Step, unlessRefused, recovered, refused, f
 use Rattle.model.specs.Demand3.{Left, recoverySteps, Recovers}
 use Rattle.model.specs.Device.{Outcome, out, judged, fresh, off, turnedOn, taskLastStores, eventLastStores, lastStores, begunOf, takenUp, boot, cut, copyStep, placeStep, nextStep, step}
 use Rattle.model.specs.Program.{memoryWords}
-use Rattle.model.specs.Serial.{Serial, given, tell}
+use Rattle.model.specs.Serial.{Serial, given, tell, unchanged, withRecords, afterStored}
 use Rattle.model.specs.Store.{Store, view, Write, none, settled, waiting}
 use Rattle.model.specs.Test.{must}
 use Rattle.model.specs.Types.{Answer, Checked, Device, Free, Resting}
@@ -94,11 +94,12 @@ module _ (p : List ℕ) (sound : Sound p) (l q : ℕ) (s : List ℕ) (d : Device
   some-left c r (inr n) = ne-eqb _ _ (n .0)
 
   -- a step that stored leaves the serial run where it was
-  stored-same : (h : KeptWords p l q s z k Step (step p s d)) → step p s d .answer ≡ Answer.Stored → h .serial ≡ z
-  unfolding tell
-  stored-same h e =
+  stored-same : (h : KeptWords p l q s z k Step (step p s d)) → d .on ≡ true → d .handler ≡ Resting → step p s d .answer ≡ Answer.Stored → h .serial ≡ z
+  unfolding tell afterStored
+  stored-same h on rest e =
+      let unmarked = unmarked-of (when-on p sound l q s d z k i on) rest in
       let t : tell (suc k) (given p l q) z Step Answer.Stored ≡ some (h .serial) = rw e at (h .tells (suc k) (omega arith)) in
-      let u : some z ≡ some (h .serial) = t in
+      let same : some z ≡ some (h .serial) = sym (pick-false _ _ unmarked ∙ ap some (unchanged-is z unmarked)) ∙ t in
       cc
 
 -- ---- recovery
@@ -134,7 +135,7 @@ finishes p sound l q (suc r) zero n s d z k c i on rest at m h = absurd (not-suc
 finishes p sound l q (suc r) (suc fuel) n s d z k c i on rest at m h =
     let t = next-leaves p sound l q s d z k i c r on rest at m in
     let w = step-kept p sound l q s d z k i in
-    let same = stored-same p sound l q s d z k i w (t .answer-is) in
+    let same = stored-same p sound l q s d z k i w on rest (t .answer-is) in
     let rest′ =
     finishes p sound l q r fuel (n + 1) (settled s (step p s d .write)) (step p s d .device) z (suc k) (t .place) (rw same at (w .inv)) (t .on) (t .rests)
     (t .place-is) (subst (λ (u : Store). Remaining u (t .place) r) (sym (w .parts)) (t .remaining)) (omega arith) in
@@ -182,20 +183,32 @@ module _ (p : List ℕ) (sound : Sound p) (l q : ℕ) (s : List ℕ) (d : Device
   boot-answers : boot p s off ≡ out none booted Answer.Done
   unfolding boot judged fresh must
   boot-answers =
-      let off-words : InvWords p l q s off z (suc k) = record { sized = i .sized; contents = i .contents; inv = off-inv p now d z k (i .inv) } in
-      ap (λ (x : Checked). judged x off (out none (takenUp (view s) (begunOf (view s))) Answer.Done)) (boot-is p sound l q s off z (suc k) off-words)
+      let off-words : InvWords p l q s off (unchanged z) (suc k) = record { sized = i .sized; contents = i .contents; inv = off-inv p now d z k (i .inv) } in
+      ap (λ (x : Checked). judged x off (out none (takenUp (view s) (begunOf (view s))) Answer.Done)) (boot-is p sound l q s off (unchanged z) (suc k) off-words)
       ∙ ap (λ (v : Store). out none (takenUp v (begunOf v)) Answer.Done) (view-at p sound l q s d z k i)
+
+  -- a cut leaves the serial run's memory, task, open number and records
+  left-alone : (v : Store) → Left v (unchanged z) → Left v z
+  unfolding unchanged withRecords
+  left-alone v h = record { memory = h .memory; task = h .task; openNumber = h .openNumber; records = h .records }
 
   -- in phases 1 and 2 no body is taken up
   commit-finishes : (fuel : ℕ) → recoverySteps now ≤ fuel → CommitAt p now z 0 → begunOf now ≡ Option.none → Finishes p s booted z fuel 0 (recoverySteps now)
   unfolding takenUp fresh
   commit-finishes fuel h commit none-begun =
       let is : turnedOn ≡ booted = ap (takenUp now) (sym none-begun) in
-      let words : InvWords p l q s booted z (suc k) =
-      record { sized = i .sized; contents = i .contents; inv = inr (on-inv p now d z k sound (held-of (i .inv)) (inr commit)) } in
+      let resumes = resumes-still p now d z k (inr commit) in
+      let words : InvWords p l q s booted (unchanged z) (suc k) =
+      record {
+        sized = i .sized;
+        contents = i .contents;
+        inv = inr (on-inv p now d (unchanged z) k sound (held-still p now d z k (held-of (i .inv))) (posts-nothing p now d z k) resumes);
+      } in
+      let f =
+      finishes p sound l q (recoverySteps now) fuel 0 s turnedOn (unchanged z) (suc k) 0
+      (subst (λ (e : Device). InvWords p l q s e (unchanged z) (suc k)) (sym is) words) refl refl refl (steps-remain p now (unchanged z) resumes) h in
       subst (λ (e : Device). Finishes p s e z fuel 0 (recoverySteps now)) is
-      (finishes p sound l q (recoverySteps now) fuel 0 s turnedOn z (suc k) 0 (subst (λ (e : Device). InvWords p l q s e z (suc k)) (sym is) words) refl refl refl
-      (steps-remain p now z (inr commit)) h)
+      (record { store = f .store; ends = f .ends; left = left-alone (view (f .store)) (f .left) })
 
   boot-finishes : (fuel : ℕ) → recoverySteps now ≤ fuel → Resumes p now z → Finishes p s booted z fuel 0 (recoverySteps now)
   boot-finishes fuel h (inl (still, g)) =

@@ -10,25 +10,25 @@ use native.Mathlib.Omega.{arith}
 use lib.Dec.{leb, eqb}
 use borrow.Author.Tests.{ne-eqb}
 use lib.ListN.{length}
-use Rattle.model.proofs.DeviceLaws.{judged-case, step-refused, step-goes, step-acts, load-refused, save-refused, save-full, HandlerMade, record-made, tail-made, handler-made, Acts, RunsAt, Meets, by-record, by-pair, by-body, load-above, save-above, log-full, Why, looked, met, why}
+use Rattle.model.proofs.DeviceLaws.{judged-case, step-refused, step-goes, step-acts, load-refused, save-refused, save-full, HandlerMade, record-made, tail-made, handler-made, Acts, RunsAt, Meets, by-record, by-pair, by-body, load-above, save-above, log-full, Why, looked, met, why, Made, StepOutcome, made, refused, step-outcome, handler, head-dropped, works-storing, works-replacing, by-dropped, commit-copy, commit-task, commit-open, commit-head, commit-begun, commit-phase, chosen-event, chosen-task, computed, jumped, loaded, overwritten, half-saved, saved, go-count, go-pending, go-open, go-phase, done-count, done-pending, done-phase, Works}
 use Rattle.model.proofs.Early.{look-rests}
 use Rattle.model.proofs.Passed.{look-passed, sized}
 use Rattle.model.proofs.LookStays.{look-stays}
 use Rattle.model.proofs.Numbers.{Low, low-contents, low-store, low-inside, low-used, low-body}
 use Rattle.model.proofs.RingLaws.{distance-some, slot-apart, RecordStore, event-store, datum-store, slot-in, queueAfter, slot-stays}
-use Rattle.model.proofs.StoreLaws.{apply, withQueue, Inside, view-after}
-use Rattle.model.proofs.TestLaws.{pick-false, clash, impossible, must-passed, then-rest, Refuses, refuses-accepted, refuses-must, refuses-then}
+use Rattle.model.proofs.StoreLaws.{apply, withQueue, Inside, view-after, withNext}
+use Rattle.model.proofs.TestLaws.{pick-false, clash, impossible, must-passed, then-rest, Refuses, refuses-accepted, refuses-must, refuses-then, pick-case}
 use Rattle.model.specs.Accepted.{Looked, MayRun, Attends}
 use Rattle.model.specs.Answer.{refusal}
 use Rattle.model.specs.Burst.{carried, noBurst}
 use Rattle.model.specs.Calls.{Call, Boot, Step, Cut, Post, call, afterCalls, unlessRefused, isRefusal}
 use Rattle.model.specs.Claims.{Stays, address, logFull, uncut, RefusalStays, soundAfter}
 use Rattle.model.specs.Control.{Rule, obey, obeyAll, openRule, taskRule}
-use Rattle.model.specs.Device.{Outcome, out, refuse, withHandler, resting, zeros, look, boot, bootCheck, post, postCheck, recordSound, headSound, headIs, openSound, bodySound, act, nextStep, step}
+use Rattle.model.specs.Device.{Outcome, out, refuse, withHandler, resting, zeros, look, boot, bootCheck, post, postCheck, recordSound, headSound, headIs, openSound, bodySound, act, nextStep, step, kindOf, setToWork}
 use Rattle.model.specs.Program.{word, memoryWords, bodyNumber}
-use Rattle.model.specs.Store.{Store, view, event, Record, distance, slot, Word, Event, Datum, Tail, Write, to, queueAt, index, settled, storedWord, forward}
+use Rattle.model.specs.Store.{Store, view, event, Record, distance, slot, Word, Event, Datum, Tail, Write, to, queueAt, index, settled, storedWord, forward, Head}
 use Rattle.model.specs.Test.{pick, _and_, _or_, must}
-use Rattle.model.specs.Types.{Answer, Body, Checked, Device, Effect, Handler, Place, Refusal, Resting, Run, Stored, Storing}
+use Rattle.model.specs.Types.{Answer, Body, Checked, Device, Effect, Handler, Place, Refusal, Resting, Run, Stored, Storing, Dropping, Replacing, Dropped}
 
 -- ---- 23 and 24 come from an instruction alone
 
@@ -84,21 +84,25 @@ other-body p v x b j f =
     (refuses-then _ _ (other-low _ (low-used p (bodyNumber p b)))
     (refuses-then _ _ (other-low _ (low-body p (bodyNumber p b) j _ f)) (refuses-then _ _ (other-open p v b) (other-must _ _ refl)))))
 
--- ---- the same refusal where the queue and tail are other ones, but for the record at head
+-- ---- the same refusal where the queue, head and tail are other ones, but for the record at head of an event that is begun
 
-module _ (p : List ℕ) (v : Store) (queue : List ℕ) (t : ℕ) (same : v .head ≢ v .tail → word queue (2 * v .head) ≡ event v (v .head)) where
+abbrev withRing : Store → List ℕ → ℕ → ℕ → Store
+withRing v queue h t = withQueue (withNext v (v .task) (v .openNumber) h) queue t
+
+module _ (p : List ℕ) (v : Store) (queue : List ℕ) (h t : ℕ)
+    (same : v .begun ≡ 2 → v .head ≢ v .tail → (h ≡ v .head) × (word queue (2 * v .head) ≡ event v (v .head))) where
   -- what a body's checks read of the queue is the record at head, if it is an event
-  body-same : (x : Place) (b : Body) (j : ℕ) (f : Effect) → MayRun p v b → bodySound p (withQueue v queue t) x b j f ≡ bodySound p v x b j f
-  unfolding bodySound headSound recordSound openSound headIs openRule taskRule
+  body-same : (x : Place) (b : Body) (j : ℕ) (f : Effect) → MayRun p v b → bodySound p (withRing v queue h t) x b j f ≡ bodySound p v x b j f
+  unfolding bodySound headSound recordSound openSound headIs openRule taskRule kindOf
   body-same x (Body.Task n) j f m = refl
-  body-same x (Body.Event n) j f m = rw (same (m .0 .2))
+  body-same x (Body.Event n) j f m = let (head, record′) = same (m .1) (m .0 .2) in rw (head, record′)
 
-  module _ (s : List ℕ) (d : Device) (rests : d .handler ≡ Resting) (looks : look p s d ≡ Checked.Accepted) (parts : view s ≡ withQueue v queue t) where
-    acts-again : {b : Body} {j c : ℕ} {f : Effect} {r : Refusal} → RunsAt p v d b j c f → act p (withQueue v queue t) d b j c f ≡ refuse d r
+  module _ (s : List ℕ) (d : Device) (rests : d .handler ≡ Resting) (looks : look p s d ≡ Checked.Accepted) (parts : view s ≡ withRing v queue h t) where
+    acts-again : {b : Body} {j c : ℕ} {f : Effect} {r : Refusal} → RunsAt p v d b j c f → act p (withRing v queue h t) d b j c f ≡ refuse d r
         → step p s d .answer ≡ Answer.Refused r
-    acts-again {b} {j} {c} {f} h e =
+    acts-again {b} {j} {c} {f} a e =
         ap (λ (o : Outcome). o .answer)
-        (step-acts p s d looks rests b j c f (h .place) (h .does) (rw parts (body-same (Run b j c) b j f (h .stands .1) ∙ h .sound))
+        (step-acts p s d looks rests b j c f (a .place) (a .does) (rw parts (body-same (Run b j c) b j f (a .stands .1) ∙ a .sound))
         ∙ ap (λ (u : Store). act p u d b j c f) parts
         ∙ e)
 
@@ -137,11 +141,13 @@ pub record Stuck (p s : List ℕ) (d : Device) (r : Refusal) : Type 0 where
 -- why such a step is refused
 stuck-why : (p s : List ℕ) (d : Device) (r : Refusal) → Stays r → step p s d .answer ≡ Answer.Refused r
     → Looked p s d × (d .handler ≡ Resting) × Meets p (view s) d r
-stuck-why p s d r w e = by-why (why p s d r e .0)
+unfolding late refusal _or_
+stuck-why p s d r w e = by-why (why p s d r e .0) refl
   where
-    by-why : Why p s d r → Looked p s d × (d .handler ≡ Resting) × Meets p (view s) d r
-    by-why (looked f) = absurd (other-look p s d .with-such r f w)
-    by-why (met early rests m) = (early, rests, m)
+    by-why : {q : Refusal} → Why p s d q → q ≡ r → Looked p s d × (d .handler ≡ Resting) × Meets p (view s) d r
+    by-why (looked f) same = absurd (other-look p s d .with-such r (f ∙ ap Checked.Refused same) w)
+    by-why (met early rests m) same = (early, rests, subst (Meets p (view s) d) same m)
+    by-why (by-dropped early q l) same = clash (ap late same ∙ stays-late r w) refl
 
 -- so it is refused with any words of zeros beside a handler at rest
 any-zeros : (p s : List ℕ) (d : Device) (burst : List ℕ) (r : Refusal) → Stays r → zeros burst 8 ≡ true → step p s d .answer ≡ Answer.Refused r
@@ -149,7 +155,7 @@ any-zeros : (p s : List ℕ) (d : Device) (burst : List ℕ) (r : Refusal) → S
 unfolding withHandler
 any-zeros p s d burst r w none e =
     let (early, rests, m) = stuck-why p s d r w e in
-    again p (view s) (view s .queue) (view s .tail) (λ _. refl) s (withHandler d Resting burst) refl (look-rests p s d burst none (early .passed)) refl r w
+    again p (view s) (view s .queue) (view s .head) (view s .tail) (λ _ _. (refl, refl)) s (withHandler d Resting burst) refl (look-rests p s d burst none (early .passed)) refl r w
     (meets-rests p (view s) d burst r w m)
 
 -- it begins so
@@ -179,19 +185,19 @@ module _ (p s : List ℕ) (d : Device) (r : Refusal) (w : Stays r) (k : Stuck p 
   meets = let (early, rests, m) = stuck-why p s (resting d) r w (k .met) in (early, m)
 
   -- a store by the handler, which is at rest behind it without a burst
-  stored : (x : Word) (y : ℕ) (h : Handler) (burst : List ℕ) (a : Answer) (queue : List ℕ) (t : ℕ) → step p s d ≡ out (to x y) (withHandler d h burst) a
+  stored : (x : Word) (y : ℕ) (h : Handler) (burst : List ℕ) (a : Answer) (queue : List ℕ) (h′ t : ℕ) → step p s d ≡ out (to x y) (withHandler d h burst) a
       → isRefusal a ≡ false → soundAfter (storedWord s (to x y)) a (settled s (to x y)) ≡ true
-      → Inside (memoryWords p) (v .logPairs) (v .queueRecords) x → apply v (to x y) ≡ withQueue v queue t
-      → (v .head ≢ v .tail → word queue (2 * v .head) ≡ event v (v .head)) → (h ≡ Resting → zeros burst 8 ≡ true) → StuckAfter (out (to x y) (withHandler d h burst) a)
+      → Inside (memoryWords p) (v .logPairs) (v .queueRecords) x → apply v (to x y) ≡ withRing v queue h′ t
+      → (v .begun ≡ 2 → v .head ≢ v .tail → (h′ ≡ v .head) × (word queue (2 * v .head) ≡ event v (v .head))) → (h ≡ Resting → zeros burst 8 ≡ true) → StuckAfter (out (to x y) (withHandler d h burst) a)
   unfolding withHandler zeros _and_
-  stored x y h burst a queue t is unrefused sound inside parts same none =
+  stored x y h burst a queue h′ t is unrefused sound inside parts same none =
       let s′ = settled s (to x y) in
       let looks = look-stays p s d (ap (λ (o : Outcome). isRefusal (o .answer)) is ∙ unrefused)
       (ap (λ (o : Outcome). soundAfter (storedWord s (o .write)) (o .answer) (settled s (o .write))) is ∙ sound) in
       record {
         no-burst = none;
         met =
-            again p v queue t same s′ (resting d) refl
+            again p v queue h′ t same s′ (resting d) refl
             (look-rests p s′ (withHandler d h burst) noBurst refl (subst (λ (o : Outcome). look p (settled s (o .write)) (o .device) ≡ Checked.Accepted) is looks))
             (view-after (memoryWords p) (v .logPairs) (v .queueRecords) s (sized (meets .0 .shaped)) x y inside ∙ parts) r w (meets .1);
       }
@@ -217,31 +223,71 @@ module _ (p s : List ℕ) (d : Device) (r : Refusal) (w : Stays r) (k : Stuck p 
   unfolding soundAfter storedWord index
   datum-sound u y words = pick-false _ _ (ne-eqb (queueAt (word s 1) (word s 2) + (2 * u + 1)) 8 (omega arith))
 
-  tail-sound : (y : ℕ) (words : List ℕ) → soundAfter (storedWord s (to Tail y)) Answer.Accepted words ≡ true
+  tail-sound : (dropped : Dropped) (y : ℕ) (words : List ℕ) → soundAfter (storedWord s (to Tail y)) (Answer.Accepted dropped) words ≡ true
   unfolding soundAfter storedWord index pick
-  tail-sound y words = refl
+  tail-sound dropped y words = refl
 
-  stuck-handler : {n c : ℕ} (o : Outcome) → HandlerMade p v d n c o → step p s d ≡ o → StuckAfter o
+  head-sound : (y : ℕ) (words : List ℕ) → soundAfter (storedWord s (to Head y)) Answer.Stored words ≡ true
+  unfolding soundAfter storedWord index pick
+  head-sound y words = refl
+
+  -- one that goes on isn't at rest
+  not-resting : {h : Handler} {n c : ℕ} {later : Handler} {dropped : Dropped} → Works v h n c later dropped → later ≡ Resting → zeros (d .burst) 8 ≡ true
+  not-resting works-storing e = impossible (cc)
+  not-resting works-replacing e = impossible (cc)
+
+  stuck-made : (o : Outcome) → Made p v d o → (d .handler ≡ Resting → ⊥) → step p s d ≡ o → StuckAfter o
   unfolding apply queueAfter isRefusal unlessRefused zeros _and_
-  stuck-handler {n = n} {c = c} o (record-made a (event-store i y l m)) is =
-      stored (Event _) (y .event) (Storing n (c + 1)) (d .burst) Answer.Stored _ (v .tail) is refl (event-sound _ _ _) (slot-in (v .head) i (meets .0 .control .tail-in) (a .room) l) refl
-      (head-stays (carried (d .burst) n) _ (event-store i y l m) (a .room)) (λ e. impossible (cc))
-  stuck-handler {n = n} {c = c} o (record-made a (datum-store i y l m)) is =
-      stored (Datum _) (y .datum) (Storing n (c + 1)) (d .burst) Answer.Stored _ (v .tail) is refl (datum-sound _ _ _) (slot-in (v .head) i (meets .0 .control .tail-in) (a .room) l) refl
-      (head-stays (carried (d .burst) n) _ (datum-store i y l m) (a .room)) (λ e. impossible (cc))
-  stuck-handler o (tail-made a) is = stored Tail _ Resting noBurst Answer.Accepted (v .queue) _ is refl (tail-sound _ _) tt refl (λ _. refl) (λ _. refl)
+  stuck-made o (handler {n = n} {later = later} q g (record-made a (event-store i y l m))) busy is =
+      stored (Event _) (y .event) later (d .burst) Answer.Stored _ (v .head) (v .tail) is refl (event-sound _ _ _)
+      (slot-in (v .head) i (meets .0 .control .tail-in) (a .room) l) refl
+      (λ _ ne. (refl, head-stays (carried (d .burst) n) _ (event-store i y l m) (a .room) ne)) (not-resting g)
+  stuck-made o (handler {n = n} {later = later} q g (record-made a (datum-store i y l m))) busy is =
+      stored (Datum _) (y .datum) later (d .burst) Answer.Stored _ (v .head) (v .tail) is refl (datum-sound _ _ _)
+      (slot-in (v .head) i (meets .0 .control .tail-in) (a .room) l) refl
+      (λ _ ne. (refl, head-stays (carried (d .burst) n) _ (datum-store i y l m) (a .room) ne)) (not-resting g)
+  stuck-made o (handler {dropped = dropped} q g (tail-made a)) busy is =
+      stored Tail _ Resting noBurst (Answer.Accepted dropped) (v .queue) (v .head) _ is refl (tail-sound dropped _ _) tt refl (λ _ _. (refl, refl)) (λ _. refl)
+  stuck-made o (head-dropped q a l) busy is =
+      stored Head _ (Replacing 0) (d .burst) Answer.Stored (v .queue) _ (v .tail) is refl (head-sound _ _) tt refl (λ two _. absurd (a .event-not-begun two))
+      (λ e. impossible (cc))
+  stuck-made o (commit-copy h l m) busy is = absurd (busy (h .rests))
+  stuck-made o (commit-task h one e) busy is = absurd (busy (h .rests))
+  stuck-made o (commit-open h one e) busy is = absurd (busy (h .rests))
+  stuck-made o (commit-head h two e) busy is = absurd (busy (h .rests))
+  stuck-made o (commit-begun h e) busy is = absurd (busy (h .rests))
+  stuck-made o (commit-phase h e) busy is = absurd (busy (h .rests))
+  stuck-made o (chosen-event h e ne l) busy is = absurd (busy (h .rests))
+  stuck-made o (chosen-task h e) busy is = absurd (busy (h .rests))
+  stuck-made o (computed h) busy is = absurd (busy (h .rests))
+  stuck-made o (jumped h) busy is = absurd (busy (h .rests))
+  stuck-made o (loaded h l) busy is = absurd (busy (h .rests))
+  stuck-made o (overwritten h l e) busy is = absurd (busy (h .rests))
+  stuck-made o (half-saved h l e m) busy is = absurd (busy (h .rests))
+  stuck-made o (saved h) busy is = absurd (busy (h .rests))
+  stuck-made o (go-count h) busy is = absurd (busy (h .rests))
+  stuck-made o (go-pending h) busy is = absurd (busy (h .rests))
+  stuck-made o (go-open h) busy is = absurd (busy (h .rests))
+  stuck-made o (go-phase h) busy is = absurd (busy (h .rests))
+  stuck-made o (done-count h) busy is = absurd (busy (h .rests))
+  stuck-made o (done-pending h) busy is = absurd (busy (h .rests))
+  stuck-made o (done-phase h) busy is = absurd (busy (h .rests))
+
+  stuck-busy : (d .handler ≡ Resting → ⊥) → (o : Outcome) → StepOutcome p s d o → step p s d ≡ o → StuckAfter o
+  unfolding settled
+  stuck-busy busy o (refused f) is = k
+  stuck-busy busy o (made early m e) is = stuck-made o m busy is
 
   stuck-step : (h : Handler) → d .handler ≡ h → StuckAfter (step p s d)
-  unfolding settled nextStep
+  unfolding settled
   stuck-step Resting q = subst StuckAfter (sym (why p s d r (stuck-rests p s d r w k q) .1)) k
-  stuck-step (Storing n c) q = by-look (look p s d) refl
-    where
-      by-look : (k : Checked) → look p s d ≡ k → StuckAfter (step p s d)
-      by-look Checked.Accepted ok =
-          let is = step-goes p s d ok ∙ ap (nextStep p v d) q in
-          let attends = look-passed p s d ok .handler in
-          subst StuckAfter (sym is) (stuck-handler _ (handler-made p v d n c (subst (Attends p v (d .burst)) q attends)) is)
-      by-look (Checked.Refused f) not-ok = subst StuckAfter (sym (step-refused p s d not-ok)) k
+  stuck-step (Storing n c) q = stuck-busy (λ e. impossible (cc)) (step p s d) (step-outcome p s d) refl
+  stuck-step Dropping q = stuck-busy (λ e. impossible (cc)) (step p s d) (step-outcome p s d) refl
+  stuck-step (Replacing c) q = stuck-busy (λ e. impossible (cc)) (step p s d) (step-outcome p s d) refl
+
+  at-work : (u : Store) (n : ℕ) → setToWork u n ≡ Resting → ⊥
+  unfolding setToWork
+  at-work u n = pick-case (λ (h : Handler). h ≡ Resting → ⊥) (λ _ e. impossible (cc)) (λ _ e. impossible (cc))
 
   stuck-call : (c : Call) → uncut (c ∷ []) ≡ true → StuckAfter (call p s d c)
   unfolding call boot bootCheck post settled withHandler uncut
@@ -250,7 +296,8 @@ module _ (p s : List ℕ) (d : Device) (r : Refusal) (w : Stays r) (k : Stuck p 
       (λ ok. clash (must-passed (not (d .on)) Refusal.PowerOn (then-rest _ _ (then-rest _ _ (then-rest _ _ ok)))) (ap not (meets .0 .on)))
   stuck-call Step e = stuck-step (d .handler) refl
   stuck-call Cut e = clash e refl
-  stuck-call (Post rs) e = judged-case StuckAfter (postCheck p s d rs) (λ f _. k) (λ _. record { met = k .met; no-burst = λ e. impossible (cc) })
+  stuck-call (Post rs) e =
+      judged-case StuckAfter (postCheck p s d rs) (λ f _. k) (λ _. record { met = k .met; no-burst = λ e. absurd (at-work (view s) (length rs) e) })
 
 uncut-first : (c : Call) (cs : List Call) → uncut (c ∷ cs) ≡ true → (uncut (c ∷ []) ≡ true) × (uncut cs ≡ true)
 unfolding uncut

@@ -31,6 +31,13 @@ pub slot-after-is : (q x : ℕ) → SlotAfter q x (slotAfter q x)
 unfolding slotAfter
 slot-after-is q x = pick-case (λ (y : ℕ). SlotAfter q x y) (λ e. inl (eqb-true _ _ e, refl)) (λ e. inr (eqb-false _ _ e, refl))
 
+pub slot-after-apart : (q x : ℕ) → 1 ≤ q → slotAfter q x ≢ x
+slot-after-apart q x l = go (slotAfter q x) (slot-after-is q x)
+  where
+    go : (y : ℕ) → SlotAfter q x y → y ≢ x
+    go y (inl f) = omega arith
+    go y (inr f) = omega arith
+
 pub slot-after-le : (q x : ℕ) → x ≤ q → slotAfter q x ≤ q
 slot-after-le q x l = go (slotAfter q x) (slot-after-is q x)
   where
@@ -191,6 +198,11 @@ unfolding recordsFrom
 records-head queue q h t l m ne = rw (distance-head q h t l m ne)
 
 -- the same records from another queue
+pub records-length : (queue : List ℕ) (q h n : ℕ) → length (recordsFrom queue q h n) ≡ n
+unfolding recordsFrom
+records-length queue q h zero = refl
+records-length queue q h (suc n) = ap suc (records-length queue q (slotAfter q h) n)
+
 pub records-same : (queue other : List ℕ) (q n h : ℕ) → ((j : ℕ) → j < n → slot other (forward q h j) ≡ slot queue (forward q h j))
     → recordsFrom other q h n ≡ recordsFrom queue q h n
 unfolding recordsFrom forward

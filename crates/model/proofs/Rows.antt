@@ -1,7 +1,7 @@
 -- The worked rows: one theorem, whose tables the checker computes from the definitions. Assumes nothing.
 use mathlib.Core.Path.{refl}
 use Rattle.model.proofs.Definitions.{definitions}
-use Rattle.model.specs.CallRows.{outcomes, placesOfWords, rooms, schedules, storesAfter, openNumbers, memories, waitingRecords, countings, runRows, recoveries, numbers, summary, serialRuns, begunBodies, bursts, nextBodies, counts, tests}
+use Rattle.model.specs.CallRows.{outcomes, placesOfWords, rooms, schedules, storesAfter, openNumbers, memories, waitingRecords, countings, runRows, recoveries, numbers, summary, drops, serialRuns, begunBodies, bursts, nextBodies, counts, tests}
 use Rattle.model.specs.ProgramRows.{meanings, fields, ifAccepted, acceptedOf, opcodes, programs, formats, formattedStores}
 use Rattle.model.specs.Rows.{Rows}
 use Rattle.model.specs.Sample.{computed, expected, sample, controls}
@@ -9,7 +9,7 @@ use Rattle.model.specs.Starred.{counting}
 use Rattle.model.specs.StateRows.{contents, brokenWords, controlWords, orders, states, uses}
 
 pub rows : Rows
-unfolding definitions counting computed expected sample controls meanings fields ifAccepted acceptedOf opcodes programs formats formattedStores contents brokenWords controlWords orders states uses outcomes placesOfWords rooms schedules storesAfter openNumbers memories waitingRecords countings runRows recoveries numbers summary serialRuns begunBodies bursts nextBodies counts tests
+unfolding definitions counting computed expected sample controls meanings fields ifAccepted acceptedOf opcodes programs formats formattedStores contents brokenWords controlWords orders states uses outcomes placesOfWords rooms schedules storesAfter openNumbers memories waitingRecords countings runRows recoveries numbers summary drops serialRuns begunBodies bursts nextBodies counts tests
 rows =
     record {
       instructions-do = refl;

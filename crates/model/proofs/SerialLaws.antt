@@ -12,12 +12,12 @@ use native.Mathlib.Omega.{arith}
 use borrow.Author.Tests.{eqb-true}
 use lib.Dec.{ltb, eqb}
 use lib.ListN.{set}
-use Rattle.model.proofs.TestLaws.{below-or, and-left, and-right, impossible}
+use Rattle.model.proofs.TestLaws.{below-or, and-left, and-right, impossible, pick-case}
 use Rattle.model.specs.Calls.{Call, Boot, Step, Cut, Post, Line, isAccept}
-use Rattle.model.specs.AllOrNone.{committedEvent, eventsOf}
+use Rattle.model.specs.AllOrNone.{committedEvent, eventsOf, Gone, wasCommitted, wasDropped, goneRecords, committedOf, droppedOf}
 use Rattle.model.specs.Demand3.{RunsTask, RunsEvent, RunsBody, SerialDetermined, committedTask, committedTasks, namedAtEnd, namedBy, fromState, namedTasks, TasksFollow}
 use Rattle.model.specs.Program.{firstRegisters, word, memoryWords, instructions, bodyNumber, effectAt}
-use Rattle.model.specs.Serial.{Serial, Formatting, Walked, went, served, lost, advance, walk, walkBody, afterTask, afterEvent, serveOldest, runBody, afterDone, withRecords, accept, tell, andThen, serialFrom, serial, serialStart}
+use Rattle.model.specs.Serial.{Serial, Formatting, Walked, went, served, lost, advance, walk, walkBody, afterTask, afterEvent, serveOldest, runBody, afterDone, withRecords, accept, tell, andThen, serialFrom, serial, serialStart, afterStored, dropOldest, unchanged, afterPost, noPost}
 use Rattle.model.specs.Store.{Record}
 use Rattle.model.specs.Test.{pick, _and_}
 use Rattle.model.specs.Types.{Answer, Body, Effect}
@@ -69,77 +69,115 @@ runs-body fuel p z y (Body.Event e) f = by-oldest (z .records) refl f
 
 -- ---- the records: those that wait and those that are added, before; those served and those that wait, after
 
-done-records : (z : Serial) (c : Call) → afterDone z c .records ≡ z .records
-unfolding afterDone
-done-records z Boot = refl
-done-records z Step = refl
-done-records z Cut = refl
-done-records z (Post rs) = refl
+done-records : (q : ℕ) (z : Serial) (c : Call) → (afterDone q z c .records ≡ z .records) × (afterDone q z c .posting .dropped ≡ z .posting .dropped)
+unfolding afterDone afterPost unchanged withRecords noPost
+done-records q z Boot = (refl, refl)
+done-records q z Step = (refl, refl)
+done-records q z Cut = (refl, refl)
+done-records q z (Post rs) = (refl, refl)
 
-task-records : (p : List ℕ) (z y : Serial) (w : Walked) → afterTask p z w ≡ some y → y .records ≡ z .records
-unfolding afterTask
-task-records p z y (went k m) e = ap (λ (x : Serial). x .records) (sym (some-same e))
+task-records : (p : List ℕ) (z y : Serial) (w : Walked) → afterTask p z w ≡ some y → (y .records ≡ z .records) × (y .posting .dropped ≡ z .posting .dropped)
+unfolding afterTask noPost
+task-records p z y (went k m) e = (ap (λ (x : Serial). x .records) (sym (some-same e)), ap (λ (x : Serial). x .posting .dropped) (sym (some-same e)))
 task-records p z y (served m) e = not-some e
 task-records p z y lost e = not-some e
 
-event-records : (z y : Serial) (rest : List Record) (w : Walked) → afterEvent z rest w ≡ some y → y .records ≡ rest
-unfolding afterEvent
+event-records : (z y : Serial) (rest : List Record) (w : Walked) → afterEvent z rest w ≡ some y
+    → (y .records ≡ rest) × (y .posting .dropped ≡ z .posting .dropped)
+unfolding afterEvent noPost
 event-records z y rest (went k m) e = not-some e
-event-records z y rest (served m) e = ap (λ (x : Serial). x .records) (sym (some-same e))
+event-records z y rest (served m) e = (ap (λ (x : Serial). x .records) (sym (some-same e)), ap (λ (x : Serial). x .posting .dropped) (sym (some-same e)))
 event-records z y rest lost e = not-some e
 
--- so many were served, with these events
-pub record Serves (before after : List Record) (es : List ℕ) : Type 0 where
-  pub served : List Record
-  pub is : before ≡ served ++ after
-  pub events-are : eventsOf served ≡ es
+-- the records that left: of those committed these events, and those dropped are these
+pub record Leaves (before after : List Record) (es : List ℕ) (ds : List Record) : Type 0 where
+  pub gone : List Gone
+  pub is : before ≡ goneRecords gone ++ after
+  pub events-are : eventsOf (committedOf gone) ≡ es
+  pub dropped-are : droppedOf gone ≡ ds
 
-none-served : (z y : Serial) → some z ≡ some y → Serves (z .records) (y .records) []
-unfolding eventsOf
-none-served z y e = record { served = []; is = ap (λ (x : Serial). x .records) (some-same e); events-are = refl }
+-- of a call: with all that were dropped before it and after it
+pub record CallLeaves (z y : Serial) (before : List Record) (es : List ℕ) : Type 0 where
+  pub lost : List Record
+  pub leaves : Leaves before (y .records) es lost
+  pub dropped-are : y .posting .dropped ≡ z .posting .dropped ++ lost
 
-body-serves : (fuel : ℕ) (p : List ℕ) (z y : Serial) (b : Body) → runBody fuel p z b ≡ some y
-    → Serves (z .records) (y .records) (committedEvent (Answer.Committed b))
-unfolding runBody serveOldest committedEvent eventsOf
-body-serves fuel p z y (Body.Task t) e =
+-- nothing left
+none-left : {z y : Serial} {before : List Record} → before ≡ y .records → y .posting .dropped ≡ z .posting .dropped → CallLeaves z y before []
+unfolding eventsOf goneRecords committedOf droppedOf
+none-left e f =
+    record { lost = []; leaves = record { gone = []; is = e; events-are = refl; dropped-are = refl }; dropped-are = f ∙ sym (append-nil _) }
+
+-- the oldest was committed
+oldest-left : {z y : Serial} {before : List Record} (x : Record) (n : ℕ) → before ≡ x ∷ y .records → x .event ≡ n → y .posting .dropped ≡ z .posting .dropped
+    → CallLeaves z y before (n ∷ [])
+unfolding eventsOf goneRecords committedOf droppedOf
+oldest-left x n e g f =
     record {
-      served = [];
-      is = sym (task-records p z y (walkBody fuel p (Body.Task t) 0 (z .memory)) (chosen (eqb t (z .task)) _ y e .1));
-      events-are = refl;
+      lost = [];
+      leaves = record { gone = wasCommitted x ∷ []; is = e; events-are = ap (λ (m : ℕ). m ∷ []) g; dropped-are = refl };
+      dropped-are = f ∙ sym (append-nil _);
     }
-body-serves fuel p z y (Body.Event e) f = by-oldest (z .records) f
+
+same-left : (z y u : Serial) → some u ≡ some y → u .records ≡ z .records → u .posting .dropped ≡ z .posting .dropped → CallLeaves z y (z .records) []
+same-left z y u e f g =
+    let same = some-same e in
+    none-left (sym f ∙ ap (λ (x : Serial). x .records) same) (ap (λ (x : Serial). x .posting .dropped) (sym same) ∙ g)
+
+body-leaves : (fuel : ℕ) (p : List ℕ) (z y : Serial) (b : Body) → runBody fuel p z b ≡ some y
+    → CallLeaves z y (z .records) (committedEvent (Answer.Committed b))
+unfolding runBody serveOldest committedEvent
+body-leaves fuel p z y (Body.Task t) e =
+    let (same, dropped) = task-records p z y (walkBody fuel p (Body.Task t) 0 (z .memory)) (chosen (eqb t (z .task)) _ y e .1) in
+    none-left (sym same) dropped
+body-leaves fuel p z y (Body.Event e) f = by-oldest (z .records) f
   where
-    by-oldest : (rs : List Record) → serveOldest fuel p z e rs ≡ some y → Serves rs (y .records) (e ∷ [])
+    by-oldest : (rs : List Record) → serveOldest fuel p z e rs ≡ some y → CallLeaves z y rs (e ∷ [])
     by-oldest [] g = not-some g
     by-oldest (x ∷ rest) g =
         let c = chosen (eqb (x .event) e and eqb (z .openNumber) 0) _ y g in
-        let same : x .event ≡ e = eqb-true _ _ (and-left _ _ (c .0)) in
-        record {
-          served = x ∷ [];
-          is = ap (λ (r : List Record). x ∷ r) (sym (event-records z y rest (walkBody fuel p (Body.Event e) (x .datum) (z .memory)) (c .1)));
-          events-are = ap (λ (n : ℕ). n ∷ []) same;
-        }
+        let (same, dropped) = event-records z y rest (walkBody fuel p (Body.Event e) (x .datum) (z .memory)) (c .1) in
+        oldest-left x e (ap (λ (r : List Record). x ∷ r) (sym same)) (eqb-true _ _ (and-left _ _ (c .0))) dropped
 
-accept-serves : (z y : Serial) (rs : List Record) → accept z rs ≡ some y → Serves (z .records ++ rs) (y .records) []
-unfolding accept withRecords eventsOf
-accept-serves z y [] e = not-some e
-accept-serves z y (r ∷ rs) e = record { served = []; is = ap (λ (x : Serial). x .records) (some-same e); events-are = refl }
+accept-leaves : (z y : Serial) (rs : List Record) → accept z rs ≡ some y → CallLeaves z y (z .records ++ rs) []
+unfolding accept withRecords noPost
+accept-leaves z y [] e = not-some e
+accept-leaves z y (r ∷ rs) e =
+    none-left (ap (λ (x : Serial). x .records) (some-same e)) (ap (λ (x : Serial). x .posting .dropped) (sym (some-same e)))
+
+drop-leaves : (z y : Serial) (rs : List Record) → dropOldest z rs ≡ some y → CallLeaves z y rs []
+unfolding dropOldest withRecords eventsOf goneRecords committedOf droppedOf
+drop-leaves z y [] e = not-some e
+drop-leaves z y (r ∷ rs) e =
+    record {
+      lost = r ∷ [];
+      leaves =
+          record { gone = wasDropped r ∷ []; is = ap (λ (x : Serial). r ∷ x .records) (some-same e); events-are = refl; dropped-are = refl };
+      dropped-are = ap (λ (x : Serial). x .posting .dropped) (sym (some-same e));
+    }
+
+stored-leaves : (z y : Serial) → afterStored z ≡ some y → CallLeaves z y (z .records) []
+unfolding afterStored unchanged withRecords noPost
+stored-leaves z y =
+    pick-case (λ (o : Option Serial). o ≡ some y → CallLeaves z y (z .records) []) (λ _ e. drop-leaves z y (z .records) e)
+    (λ _ e. same-left z y (unchanged z) e refl refl)
 
 -- at the answer accepted what was posted last is added
 unfoldable pub adds : Answer → List Record → List Record
 adds a rs = pick (isAccept a) rs []
 
-pub tell-serves : (fuel : ℕ) (g : Formatting) (z y : Serial) (c : Call) (a : Answer) → tell fuel g z c a ≡ some y
-    → Serves (z .records ++ adds a (z .posted)) (y .records) (committedEvent a)
-unfolding tell adds isAccept pick committedEvent
-tell-serves fuel g z y c Answer.Done e =
-    rw append-nil (subst (λ (rs : List Record). Serves rs (y .records) []) (done-records z c) (none-served (afterDone z c) y e))
-tell-serves fuel g z y c (Answer.Chosen b) e = rw append-nil (none-served z y e)
-tell-serves fuel g z y c Answer.Worked e = rw append-nil (none-served z y e)
-tell-serves fuel g z y c Answer.Stored e = rw append-nil (none-served z y e)
-tell-serves fuel g z y c (Answer.Committed b) e = rw append-nil (body-serves fuel (g .program) z y b e)
-tell-serves fuel g z y c Answer.Accepted e = accept-serves z y (z .posted) e
-tell-serves fuel g z y c (Answer.Refused r) e = rw append-nil (none-served z y e)
+pub tell-leaves : (fuel : ℕ) (g : Formatting) (z y : Serial) (c : Call) (a : Answer) → tell fuel g z c a ≡ some y
+    → CallLeaves z y (z .records ++ adds a (z .posting .posted)) (committedEvent a)
+unfolding tell unchanged withRecords noPost adds isAccept pick committedEvent
+tell-leaves fuel g z y c Answer.Done e =
+    let (same, dropped) = done-records (g .queueRecords) z c in
+    rw append-nil (same-left z y (afterDone (g .queueRecords) z c) e same dropped)
+tell-leaves fuel g z y c (Answer.Chosen b) e = rw append-nil (same-left z y (unchanged z) e refl refl)
+tell-leaves fuel g z y c Answer.Worked e = rw append-nil (same-left z y (unchanged z) e refl refl)
+tell-leaves fuel g z y c Answer.Stored e = rw append-nil (stored-leaves z y e)
+tell-leaves fuel g z y c (Answer.Committed b) e = rw append-nil (body-leaves fuel (g .program) z y b e)
+tell-leaves fuel g z y c (Answer.Accepted d) e = accept-leaves z y (z .posting .posted) e
+tell-leaves fuel g z y c (Answer.Refused r) e = rw append-nil (same-left z y z e refl refl)
 
 then-none : (f : Serial → Option Serial) → andThen none f ≡ none
 unfolding andThen
@@ -162,12 +200,21 @@ line-some fuel g z y x xs e = go (tell fuel g z (x .called) (x .answered)) refl 
 
 -- ---- each task is the one that the task before it named
 
-done-task : (z : Serial) (c : Call) → afterDone z c .task ≡ z .task
-unfolding afterDone
-done-task z Boot = refl
-done-task z Step = refl
-done-task z Cut = refl
-done-task z (Post rs) = refl
+done-task : (q : ℕ) (z : Serial) (c : Call) → afterDone q z c .task ≡ z .task
+unfolding afterDone afterPost unchanged withRecords
+done-task q z Boot = refl
+done-task q z Step = refl
+done-task q z Cut = refl
+done-task q z (Post rs) = refl
+
+stored-task : (z y : Serial) → afterStored z ≡ some y → y .task ≡ z .task
+unfolding afterStored unchanged withRecords dropOldest
+stored-task z y =
+    pick-case (λ (o : Option Serial). o ≡ some y → y .task ≡ z .task) (λ _ e. dropped-task (z .records) e) (λ _ e. ap (λ (u : Serial). u .task) (sym (some-same e)))
+  where
+    dropped-task : (rs : List Record) → dropOldest z rs ≡ some y → y .task ≡ z .task
+    dropped-task [] e = not-some e
+    dropped-task (r ∷ rs) e = ap (λ (u : Serial). u .task) (sym (some-same e))
 
 accept-task : (z y : Serial) (rs : List Record) → accept z rs ≡ some y → y .task ≡ z .task
 unfolding accept withRecords
@@ -195,18 +242,18 @@ ended-task p z y lost e = not-some e
 
 line-tasks : (fuel : ℕ) (g : Formatting) (z y : Serial) (c : Call) (a : Answer) → tell fuel g z c a ≡ some y → (ts : List ℕ)
     → committedTask a ++ (y .task ∷ ts) ≡ z .task ∷ (namedBy fuel (g .program) (z .memory) (committedTask a) ++ ts)
-unfolding tell committedTask namedBy runBody
-line-tasks fuel g z y c Answer.Done e ts = ap (λ (t : ℕ). t ∷ ts) (ap (λ (u : Serial). u .task) (sym (some-same e)) ∙ done-task z c)
+unfolding tell unchanged withRecords committedTask namedBy runBody
+line-tasks fuel g z y c Answer.Done e ts = ap (λ (t : ℕ). t ∷ ts) (ap (λ (u : Serial). u .task) (sym (some-same e)) ∙ done-task (g .queueRecords) z c)
 line-tasks fuel g z y c (Answer.Chosen b) e ts = ap (λ (u : Serial). u .task ∷ ts) (sym (some-same e))
 line-tasks fuel g z y c Answer.Worked e ts = ap (λ (u : Serial). u .task ∷ ts) (sym (some-same e))
-line-tasks fuel g z y c Answer.Stored e ts = ap (λ (u : Serial). u .task ∷ ts) (sym (some-same e))
+line-tasks fuel g z y c Answer.Stored e ts = ap (λ (t : ℕ). t ∷ ts) (stored-task z y e)
 line-tasks fuel g z y c (Answer.Committed (Body.Task t)) e ts =
     let w = walkBody fuel (g .program) (Body.Task t) 0 (z .memory) in
     let h = chosen (eqb t (z .task)) (afterTask (g .program) z w) y e in
     let current : t ≡ z .task = eqb-true _ _ (h .0) in
     rw (ended-task (g .program) z y w (h .1), current)
 line-tasks fuel g z y c (Answer.Committed (Body.Event n)) e ts = ap (λ (t : ℕ). t ∷ ts) (oldest-task fuel (g .program) z y n (z .records) e)
-line-tasks fuel g z y c Answer.Accepted e ts = ap (λ (t : ℕ). t ∷ ts) (accept-task z y (z .posted) e)
+line-tasks fuel g z y c (Answer.Accepted d) e ts = ap (λ (t : ℕ). t ∷ ts) (accept-task z y (z .posting .posted) e)
 line-tasks fuel g z y c (Answer.Refused r) e ts = ap (λ (u : Serial). u .task ∷ ts) (sym (some-same e))
 
 follow-from : (fuel : ℕ) (g : Formatting) (xs : List Line) (z y : Serial) → serialFrom fuel g z xs ≡ some y
@@ -295,7 +342,7 @@ tell-more f f′ l g z y c (Answer.Chosen b) h = h
 tell-more f f′ l g z y c Answer.Worked h = h
 tell-more f f′ l g z y c Answer.Stored h = h
 tell-more f f′ l g z y c (Answer.Committed b) h = body-more f f′ l (g .program) z y b h
-tell-more f f′ l g z y c Answer.Accepted h = h
+tell-more f f′ l g z y c (Answer.Accepted d) h = h
 tell-more f f′ l g z y c (Answer.Refused r) h = h
 
 serial-more : (f f′ : ℕ) → f ≤ f′ → (g : Formatting) (z y : Serial) (xs : List Line) → serialFrom f g z xs ≡ some y → serialFrom f′ g z xs ≡ some y

@@ -5,7 +5,7 @@ use mathlib.Core.List.{List}
 use mathlib.Core.Path.{_≡_, refl, subst}
 use native.Mathlib.Omega.{arith}
 use lib.ListN.{length}
-use Rattle.model.proofs.DeviceLaws.{Made, record-made, tail-made, handler, commit-copy, commit-task, commit-open, commit-head, commit-begun, commit-phase, chosen-event, chosen-task, computed, jumped, loaded, overwritten, half-saved, saved, go-count, go-pending, go-open, go-phase, done-count, done-pending, done-phase, StepOutcome, refused, made, step-outcome}
+use Rattle.model.proofs.DeviceLaws.{Made, record-made, tail-made, handler, commit-copy, commit-task, commit-open, commit-head, commit-begun, commit-phase, chosen-event, chosen-task, computed, jumped, loaded, overwritten, half-saved, saved, go-count, go-pending, go-open, go-phase, done-count, done-pending, done-phase, StepOutcome, refused, made, step-outcome, head-dropped}
 use Rattle.model.proofs.Passed.{sized}
 use Rattle.model.proofs.LogLaws.{find-pair}
 use Rattle.model.proofs.RingLaws.{event-store, datum-store, slot-in}
@@ -53,9 +53,10 @@ module _ (p s : List ℕ) (d : Device) (early : Looked p s d) where
 
   made-fine : (o : Outcome) → Made p (view s) d o → Fine p s o
   unfolding isStore tellsStore choosing
-  made-fine o (handler q (record-made a (event-store n r l m))) = (refl, falls (Event _) (slot-in (view s .head) n (early .control .tail-in) (a .room) l))
-  made-fine o (handler q (record-made a (datum-store n r l m))) = (refl, falls (Datum _) (slot-in (view s .head) n (early .control .tail-in) (a .room) l))
-  made-fine o (handler q (tail-made a)) = (refl, falls Tail tt)
+  made-fine o (handler q w (record-made a (event-store n r l m))) = (refl, falls (Event _) (slot-in (view s .head) n (early .control .tail-in) (a .room) l))
+  made-fine o (handler q w (record-made a (datum-store n r l m))) = (refl, falls (Datum _) (slot-in (view s .head) n (early .control .tail-in) (a .room) l))
+  made-fine o (handler q w (tail-made a)) = (refl, falls Tail tt)
+  made-fine o (head-dropped q a l) = (refl, falls Head tt)
   made-fine o (commit-copy {c} h l m) = (refl, falls (Memory _) m)
   made-fine o (commit-task h one e) = (refl, falls Task tt)
   made-fine o (commit-open h one e) = (refl, falls Open tt)

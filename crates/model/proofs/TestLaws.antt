@@ -66,6 +66,11 @@ unfolding _or_
 or-true-right true b e = refl
 or-true-right false b e = e
 
+pub or-right : (a b : Bool) → a ≡ false → (a or b) ≡ true → b ≡ true
+unfolding _or_
+or-right true b e f = clash refl e
+or-right false b e f = f
+
 pub not-false : {b : Bool} → b ≡ false → not b ≡ true
 not-false e = rw e
 

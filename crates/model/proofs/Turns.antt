@@ -68,7 +68,7 @@ stays-begun z g b (Answer.Chosen c) e t n = begun-some e (t .0)
 stays-begun z g b Answer.Worked e t n = e
 stays-begun z g b Answer.Stored e t n = e
 stays-begun z g b (Answer.Committed c) e t n = clash refl n
-stays-begun z g b Answer.Accepted e t n = e
+stays-begun z g b (Answer.Accepted d) e t n = e
 stays-begun z g b (Answer.Refused r) e t n = e
 
 -- ---- a list of calls that begins with the invariant

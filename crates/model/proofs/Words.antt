@@ -14,8 +14,8 @@ use lib.IntN.{ℤ}
 use lib.ListN.{length, getD, take, drop, set, replicate, length-set}
 use lib.Seq.{getD-drop}
 use lib.Signed.{shrZ}
-use Rattle.model.proofs.BurstLaws.{burst-passed}
-use Rattle.model.proofs.DeviceLaws.{judged-case, atPlace, most-last, Commits, Acts, RunsAt, HandlerMade, record-made, tail-made, Made, handler, commit-copy, commit-task, commit-open, commit-head, commit-begun, commit-phase, chosen-event, chosen-task, computed, jumped, loaded, overwritten, half-saved, saved, go-count, go-pending, go-open, go-phase, done-count, done-pending, done-phase, StepOutcome, refused, made, step-outcome}
+use Rattle.model.proofs.BurstLaws.{burst-passed, set-to-work-length}
+use Rattle.model.proofs.DeviceLaws.{judged-case, atPlace, most-last, Commits, Acts, RunsAt, HandlerMade, record-made, tail-made, Made, handler, commit-copy, commit-task, commit-open, commit-head, commit-begun, commit-phase, chosen-event, chosen-task, computed, jumped, loaded, overwritten, half-saved, saved, go-count, go-pending, go-open, go-phase, done-count, done-pending, done-phase, StepOutcome, refused, made, step-outcome, Works, works-storing, works-replacing, head-dropped}
 use Rattle.model.proofs.Fresh.{format-passed}
 use Rattle.model.proofs.RingLaws.{slot-after-le, forward-le, Member, here, there, RecordStore, event-store, datum-store, record-stores}
 use Rattle.model.proofs.Passed.{body-passed}
@@ -24,10 +24,10 @@ use Rattle.model.specs.Accepted.{Looked, Sound}
 use Rattle.model.specs.Burst.{recordsAt, carried, recordWords, noBurst, burstWords}
 use Rattle.model.specs.Calls.{Call, Boot, Step, Cut, Post, call}
 use Rattle.model.specs.Claims.{TypedWords, TypedBody, TypedPlace, TypedHandler, ZeroBehind, TypedDevice, TypedRecords, TypedCall, WordsStayWords, FormatStaysWords}
-use Rattle.model.specs.Device.{Outcome, judged, fresh, turnedOn, withPlace, withHandler, kindOf, currentTask, oldestEvent, begunOf, dataFor, started, takenUp, boot, cut, postCheck, post, burstLength, choosing, shown, step}
+use Rattle.model.specs.Device.{Outcome, judged, fresh, turnedOn, withPlace, withHandler, kindOf, currentTask, oldestEvent, begunOf, dataFor, started, takenUp, boot, cut, postCheck, post, burstLength, choosing, shown, step, setToWork}
 use Rattle.model.specs.Program.{word, memoryWords, transaction, bodyNumber, operand, instructionTable, decode, signed, unsigned, shifted, reg, effect, effectAt, newOpen}
 use Rattle.model.specs.Store.{Store, view, Record, slot, slotAfter, memoryAt, logAt, queueAt, index, Write, none, to, settled, storeMark, storeContents, storeLength, sizesRule, formatted, formatCheck, formatStore, format}
-use Rattle.model.specs.Types.{Body, Checked, Device, Effect, Found, Free, Handler, Instruction, Place, Resting, Run, Storing}
+use Rattle.model.specs.Types.{Body, Checked, Device, Effect, Found, Free, Handler, Instruction, Place, Resting, Run, Storing, Dropped, Replacing}
 
 -- ---- lists of words
 
@@ -308,15 +308,23 @@ module _ (p s : List ℕ) (d : Device) (ps : TypedWords p) (ss : TypedWords s) (
   unfolding cut
   cut-words = record { write = tt; device = fresh-device-words false }
 
+  set-to-work-words : (n : ℕ) → n < 2 ^ 16 → TypedHandler (setToWork (view s) n)
+  unfolding setToWork
+  set-to-work-words n l = pick-case TypedHandler (λ _. (l, omega arith)) (λ _. tt)
+
   post-words : (rs : List Record) → TypedRecords rs → TypedOutcome (post p s d rs)
   unfolding post postCheck burstLength burstWords
   post-words rs h =
       judged-case TypedOutcome (postCheck p s d rs) (λ _ _. record { write = tt; device = ds })
       (λ e.
-      let most = burst-passed rs (must-passed _ _ (then-first _ _ (then-rest _ _ e))) .1 in
+      let rest = then-rest _ _ e in
+      let most = burst-passed rs (must-passed _ _ (then-first _ _ rest)) .1 in
+      let fits = must-passed _ _ (then-rest _ _ (then-rest _ _ (then-rest _ _ rest))) in
       record {
         write = tt;
-        device = handled-words (Storing (length rs) 0) (burstWords rs) (omega (arith, most), omega arith) (burst-length rs most) (burst-words rs h) (zero-behind 8 rs);
+        device =
+            handled-words (setToWork (view s) (length rs)) (burstWords rs) (set-to-work-words (length rs) (omega (arith, most))) (burst-length rs most) (burst-words rs h)
+            (rw (set-to-work-length (view s) (length rs) fits) (zero-behind 8 rs));
       })
 
   -- ---- a step
@@ -353,13 +361,17 @@ module _ (p s : List ℕ) (d : Device) (ps : TypedWords p) (ss : TypedWords s) (
     onward-words {c} h =
         went-words (Free (c + 1)) (omega (arith, h .left, most-last v, early .control .count-in (h .phase), early .shaped .shaped .sizes .most-pairs))
 
-    handler-words : {n c : ℕ} → d .handler ≡ Storing n c → (o : Outcome) → HandlerMade p v d n c o → TypedOutcome o
+    later-words : {h : Handler} {n c : ℕ} {later : Handler} {dropped : Dropped} → Works v h n c later dropped → d .handler ≡ h → c + 1 < 2 ^ 16
+        → TypedHandler later × ZeroBehind later (d .burst)
     unfolding burstLength
-    handler-words {n = n} {c = c} q o (record-made a s) =
-        record {
-          write = store-words _ s;
-          device = handled-words _ (d .burst) (subst TypedHandler q (ds .handler) .0, next) (ds .burst-length) (ds .burst) (subst (λ (h : Handler). ZeroBehind h (d .burst)) q (ds .unused));
-        }
+    later-words works-storing q next = ((subst TypedHandler q (ds .handler) .0, next), subst (λ (h : Handler). ZeroBehind h (d .burst)) q (ds .unused))
+    later-words works-replacing q next = (next, subst (λ (h : Handler). ZeroBehind h (d .burst)) q (ds .unused))
+
+    handler-words : {h : Handler} {n c : ℕ} {later : Handler} {dropped : Dropped} → d .handler ≡ h → Works v h n c later dropped → (o : Outcome)
+        → HandlerMade p v d n c later dropped o → TypedOutcome o
+    handler-words {n = n} {c = c} q w o (record-made a s) =
+        let (typed, unused) = later-words w q next in
+        record { write = store-words _ s; device = handled-words _ (d .burst) typed (ds .burst-length) (ds .burst) unused }
       where
         next : c + 1 < 2 ^ 16
         next = omega (arith, a .inside, a .most, record-stores (v .queueRecords) (carried (d .burst) n) (v .tail))
@@ -367,15 +379,21 @@ module _ (p s : List ℕ) (d : Device) (ps : TypedWords p) (ss : TypedWords s) (
         store-words : (w : Write) → RecordStore (v .queueRecords) (v .tail) (carried (d .burst) n) w → TypedWrite w
         store-words w (event-store i r l m) = carried-words (d .burst) (ds .burst) 0 n r m .0
         store-words w (datum-store i r l m) = carried-words (d .burst) (ds .burst) 0 n r m .1
-    handler-words {n = n} q o (tail-made a) =
+    handler-words {n = n} q w o (tail-made a) =
         record {
           write = omega (arith, forward-le (v .queueRecords) (v .tail) (length (carried (d .burst) n)) (early .control .tail-in) (omega (arith, a .room)), ss 3);
           device = handled-words Resting noBurst tt refl (words-zeros 8) (λ i _. zeros-at 8 8 i);
         }
 
     made-words : (o : Outcome) → Made p v d o → TypedOutcome o
-    unfolding choosing kindOf
-    made-words o (handler q m) = handler-words q o m
+    unfolding choosing kindOf burstLength
+    made-words o (handler q w m) = handler-words q w o m
+    made-words o (head-dropped q a l) =
+        record {
+          write = slot-after-typed (v .head) (early .control .head-in);
+          device =
+              handled-words (Replacing 0) (d .burst) (omega arith) (ds .burst-length) (ds .burst) (subst (λ (h : Handler). ZeroBehind h (d .burst)) q (ds .unused));
+        }
     made-words o (commit-copy h l m) = record { write = log-words _; device = onward-words h }
     made-words o (commit-task h one e) = record { write = ss 12; device = onward-words h }
     made-words o (commit-open h one e) = record { write = ss 13; device = onward-words h }

@@ -12,7 +12,7 @@ use Rattle.model.specs.Check.{contentsRule, rowsInside, rowUsable, instr
 use Rattle.model.specs.Device.{recordStores, lastStores, kindOf, endStores, zeros, look, headSound, namedRow, openSound, headIs, placeFits}
 use Rattle.model.specs.Program.{word, tasks, events, memoryWords, entry, total, bodies, start, instructions, firstBody, opcode, fieldA, fieldB, code, operand, decode, effectAt, bodyNumber}
 use Rattle.model.specs.Store.{Store, view, memoryAt, logAt, queueAt, storeLength, Record, slotAfter, distance}
-use Rattle.model.specs.Types.{Body, Checked, Device, Effect, Free, Half, Handler, Instruction, Place, Resting, Run, Storing}
+use Rattle.model.specs.Types.{Body, Checked, Device, Dropping, Effect, Free, Half, Handler, Instruction, Place, Replacing, Resting, Run, Storing}
 
 -- ---- the program's contents: `contentsRule`
 
@@ -193,12 +193,21 @@ pub record AttendsTo (p : List ℕ) (q h t c : ℕ) (rs : List Record) : Type 0 
   pub room : length rs ≤ q - distance q h t
   pub inside : c < length (recordStores q t rs)
 
-abbrev pub AttendsBy : List ℕ → ℕ → ℕ → ℕ → List ℕ → Handler → Type 0
-AttendsBy p q h t burst Resting = zeros burst 8 ≡ true
-AttendsBy p q h t burst (Storing n c) = AttendsTo p q h t c (carried burst n)
+-- one about to drop the record at head of a full queue, for the records rs
+pub record MayDrop (p : List ℕ) (q phase h t g : ℕ) (rs : List Record) : Type 0 where
+  pub known : Known p rs
+  pub full : slotAfter q t ≡ h
+  pub event-not-begun : g ≢ 2
+  pub not-committing : phase ≢ 2
+
+abbrev pub AttendsBy : List ℕ → ℕ → ℕ → ℕ → ℕ → ℕ → List ℕ → Handler → Type 0
+AttendsBy p q phase h t g burst Resting = zeros burst 8 ≡ true
+AttendsBy p q phase h t g burst (Storing n c) = AttendsTo p q h t c (carried burst n)
+AttendsBy p q phase h t g burst Dropping = MayDrop p q phase h t g (carried burst 1)
+AttendsBy p q phase h t g burst (Replacing c) = AttendsTo p q h t c (carried burst 1)
 
 abbrev pub Attends : List ℕ → Store → List ℕ → Handler → Type 0
-Attends p v burst handler = AttendsBy p (v .queueRecords) (v .head) (v .tail) burst handler
+Attends p v burst handler = AttendsBy p (v .queueRecords) (v .phase) (v .head) (v .tail) (v .begun) burst handler
 
 -- ---- what step and post look at: `look`
 

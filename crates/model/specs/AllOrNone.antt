@@ -5,10 +5,13 @@ use mathlib.Core.Path.{_≡_}
 use mathlib.Core.Logic.{_⊎_}
 use mathlib.Core.Bool.{true}
 use mathlib.Core.List.{List, [], _∷_, _++_}
+use mathlib.Core.Option.{some}
+use lib.ListN.{length}
 use Rattle.model.specs.Burst.{isBurst}
 use Rattle.model.specs.Calls.{Call, Boot, Step, Cut, Post, Line, history, unlessRefused, isAccept}
 use Rattle.model.specs.Demand3.{reached, recovering, stepsToRecover}
 use Rattle.model.specs.Device.{off}
+use Rattle.model.specs.Serial.{Serial, given, serial}
 use Rattle.model.specs.Store.{Record, view, waiting, formatCheck, format}
 use Rattle.model.specs.Test.{pick}
 use Rattle.model.specs.Types.{Answer, Body, Checked}
@@ -43,6 +46,26 @@ abbrev pub AllBursts : List (List Record) → Type 0
 AllBursts [] = Unit {0}
 AllBursts (rs ∷ later) = (isBurst rs ≡ true) × AllBursts later
 
+-- ---- the records that left the queue: the event of each was committed, or N7: it was dropped
+
+pub data Gone : Type 0 where
+  wasCommitted wasDropped : Record → Gone
+
+unfoldable pub goneRecords : List Gone → List Record
+goneRecords [] = []
+goneRecords (wasCommitted first ∷ later) = first ∷ goneRecords later
+goneRecords (wasDropped first ∷ later) = first ∷ goneRecords later
+
+unfoldable pub committedOf : List Gone → List Record
+committedOf [] = []
+committedOf (wasCommitted first ∷ later) = first ∷ committedOf later
+committedOf (wasDropped first ∷ later) = committedOf later
+
+unfoldable pub droppedOf : List Gone → List Record
+droppedOf [] = []
+droppedOf (wasCommitted first ∷ later) = droppedOf later
+droppedOf (wasDropped first ∷ later) = first ∷ droppedOf later
+
 -- ---- the events that were committed, and those of records
 
 unfoldable pub committedEvent : Answer → List ℕ
@@ -52,7 +75,7 @@ committedEvent Answer.Worked = []
 committedEvent Answer.Stored = []
 committedEvent (Answer.Committed (Body.Task t)) = []
 committedEvent (Answer.Committed (Body.Event e)) = e ∷ []
-committedEvent Answer.Accepted = []
+committedEvent (Answer.Accepted x) = []
 committedEvent (Answer.Refused r) = []
 
 unfoldable pub committedEvents : List Line → List ℕ
@@ -66,11 +89,14 @@ eventsOf (first ∷ rs) = first .event ∷ eventsOf rs
 -- ---- After any list of calls on a store s, formatted with program p, L l and Q q:
 pub record ComeWhole (p : List ℕ) (l q : ℕ) (s : List ℕ) (cs : List Call) : Type 0 where
   pub bursts : AllBursts (cameIn (history p s off cs))
-  -- the records of the bursts that came in, and no others, in order and none between, are those whose events were committed and behind them those
-  -- that wait
-  pub served : List Record
-  pub in-order : joined (cameIn (history p s off cs)) ≡ served ++ waiting (view (reached p s cs .store))
-  pub committed : eventsOf served ≡ committedEvents (history p s off cs)
+  -- the records of the bursts that came in, and no others, in order and none between, are those that left and behind them those that wait
+  pub gone : List Gone
+  pub in-order : joined (cameIn (history p s off cs)) ≡ goneRecords gone ++ waiting (view (reached p s cs .store))
+  -- of those that left, the committed ones have the events of the answers, and the dropped ones are those that the serial run dropped
+  pub committed : eventsOf (committedOf gone) ≡ committedEvents (history p s off cs)
+  pub state : Serial
+  pub ran : serial (length cs) (given p l q) (history p s off cs) ≡ some state
+  pub dropped : droppedOf gone ≡ state .posting .dropped
   -- and that wait after recovery
   pub recovered : waiting (view (recovering p s cs (stepsToRecover p s cs))) ≡ waiting (view (reached p s cs .store))
 
@@ -78,7 +104,8 @@ abbrev pub BurstsComeWhole : Type 0
 BurstsComeWhole =
     (p : List ℕ) (l q : ℕ) (s : List ℕ) → formatCheck p l q s ≡ Checked.Accepted → (cs : List Call) → ComeWhole p l q (format p l q s) cs
 
--- ---- Of one burst: with rs on its way, and whatever calls and answers follow, it comes in next and whole, or all is as if it hadn't been posted
+-- ---- Of one burst: with rs on its way, and whatever calls and answers follow, it comes in next and whole, or what comes in is as if it hadn't been
+-- posted. (One that drops a record may have dropped it and then be cut off.)
 abbrev pub AllOrNone : Type 0
 AllOrNone =
     (rs : List Record) (lines : List Line)

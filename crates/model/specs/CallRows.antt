@@ -5,20 +5,20 @@ use mathlib.Core.List.{List, [], _∷_, _++_, map}
 use mathlib.Core.Option.{Option}
 use lib.ListN.{replicate, set}
 use Rattle.model.specs.Answer.{RefusalNumber, refusal}
-use Rattle.model.specs.AllOrNone.{cameIn, committedEvents, eventsOf, joined}
+use Rattle.model.specs.AllOrNone.{cameIn, committedEvents, eventsOf, joined, Gone, wasCommitted, wasDropped, goneRecords, committedOf, droppedOf}
 use Rattle.model.specs.Burst.{burstWords, carried, single}
 use Rattle.model.specs.Calls.{Call, Boot, Step, Cut, Post, Line, Now, history, afterCalls, eventsAccepted, counted, RunOutcome, run, Recovery, recovered, unfinished, recovery, countBy, steps}
 use Rattle.model.specs.Claims.{uncut}
 use Rattle.model.specs.Demand3.{isIn, mayMeet, recoverySteps, isCompletion}
 use Rattle.model.specs.Device.{Outcome, out, refuse, begunOf, boot, cut, post, step}
 use Rattle.model.specs.Program.{newOpen}
-use Rattle.model.specs.Serial.{Serial, given, serial}
+use Rattle.model.specs.Serial.{Serial, given, serial, serialStart, withRecords}
 use Rattle.model.specs.Starred.{counting}
 use Rattle.model.specs.Store.{Record, view, room, waiting, Word, Phase, Task, Open, Count, Pending, PendingOpen, Head, Tail, Begun, Memory, Address, Value, Event, Datum, none, to, index, settled, formatted}
 use Rattle.model.specs.Turns.{begunBy, nextBody}
-use Rattle.model.specs.Types.{Answer, Body, Device, Ended, Free, Half, Handler, Refusal, Resting, Run, Storing, Totals}
+use Rattle.model.specs.Types.{Answer, Body, Device, Dropped, Dropping, Ended, Free, Half, Handler, Refusal, Replacing, Resting, Run, Storing, Totals}
 use Rattle.model.specs.ProgramRows.{storesWord}
-use Rattle.model.specs.Sample.{Row, _⇒_, at, cleared, closed, controls, deviceWith, eventBegun, eventCommit, offValue, onValue, opened, registers, sample, task1, taskBegun, taskCommit, twoPairs, withInstruction, working}
+use Rattle.model.specs.Sample.{Row, _⇒_, accepted, at, cleared, closed, controls, deviceWith, event1, eventBegun, eventCommit, offValue, onValue, opened, registers, sample, task1, taskBegun, taskCommit, twoPairs, withInstruction, working, workingAs}
 use Rattle.model.specs.StateRows.{wrongOpen}
 
 -- ---- What a step does: its one store, the device after it, its answer
@@ -43,6 +43,16 @@ three = holds 1 66 ∷ holds 0 67 ∷ holds 1 68 ∷ []
 abbrev emptyAt2 : List ℕ
 emptyAt2 = taskBegun (controls 0 1 8 0 0 0 2 2)
 
+-- full from slot 2 on, and a handler for the same event that drops the record there, before and after its head store
+abbrev fullAt2 : List ℕ
+fullAt2 = taskBegun (controls 0 1 8 0 0 0 2 1)
+
+abbrev aboutToDrop : Device → Device
+aboutToDrop d = workingAs Dropping d (1 ∷ 66 ∷ [])
+
+abbrev replacing : Device → ℕ → Device
+replacing d c = workingAs (Replacing c) d (1 ∷ 66 ∷ [])
+
 -- a body begun, by its kind in word 16, register 0 with the data of an event
 abbrev begins : Body → ℕ → ℕ → Outcome
 begins b n x = out (to Begun n) (deviceWith true (set cleared 0 x) (Run b 0 0) 0 Resting) (Answer.Chosen b)
@@ -60,8 +70,8 @@ outcomes =
     -- "event, data, then tail. The tail store accepts the event": the slot after 3 is 0; a handler precedes a commit
     step sample (taskBegun (controls 0 1 8 0 0 0 1 3)) (handling 0) ⇒ out (to (Event 3) 1) (handling 1) Answer.Stored
     ∷ step sample (taskBegun (controls 0 1 8 0 0 0 1 3)) (handling 1) ⇒ out (to (Datum 3) 66) (handling 2) Answer.Stored
-    ∷ step sample (taskBegun (controls 0 1 8 0 0 0 1 3)) (handling 2) ⇒ out (to Tail 0) (at (task1 2)) Answer.Accepted
-    ∷ step sample taskCommit (working (at (Free 1)) 1 2 (1 ∷ 66 ∷ [])) ⇒ out (to Tail 2) (at (Free 1)) Answer.Accepted
+    ∷ step sample (taskBegun (controls 0 1 8 0 0 0 1 3)) (handling 2) ⇒ out (to Tail 0) (at (task1 2)) accepted
+    ∷ step sample taskCommit (working (at (Free 1)) 1 2 (1 ∷ 66 ∷ [])) ⇒ out (to Tail 2) (at (Free 1)) accepted
     -- N6: "stored, each event and then its data, and then accepted by one tail store, in order", past the ring's end
     ∷ step sample emptyAt2 (threeHandled 0) ⇒ out (to (Event 2) 1) (threeHandled 1) Answer.Stored
     ∷ step sample emptyAt2 (threeHandled 1) ⇒ out (to (Datum 2) 66) (threeHandled 2) Answer.Stored
@@ -69,7 +79,18 @@ outcomes =
     ∷ step sample emptyAt2 (threeHandled 3) ⇒ out (to (Datum 3) 67) (threeHandled 4) Answer.Stored
     ∷ step sample emptyAt2 (threeHandled 4) ⇒ out (to (Event 0) 1) (threeHandled 5) Answer.Stored
     ∷ step sample emptyAt2 (threeHandled 5) ⇒ out (to (Datum 0) 68) (threeHandled 6) Answer.Stored
-    ∷ step sample emptyAt2 (threeHandled 6) ⇒ out (to Tail 1) (at (task1 2)) Answer.Accepted
+    ∷ step sample emptyAt2 (threeHandled 6) ⇒ out (to Tail 1) (at (task1 2)) accepted
+    -- N7: "drops the record at head by storing head first": in phases 0 and 1, past the ring's end; then as any burst of one. "The accepting answer
+    -- gains the dropped record": that of the slot after tail. The record to be dropped is checked as one chosen is.
+    ∷ step sample fullAt2 (aboutToDrop (at (task1 2))) ⇒ out (to Head 3) (replacing (at (task1 2)) 0) Answer.Stored
+    ∷ step sample (controls 0 1 8 0 0 0 3 2) (aboutToDrop onValue) ⇒ out (to Head 0) (replacing onValue 0) Answer.Stored
+    ∷ step sample (controls 1 1 8 2 2 8 2 1) (aboutToDrop (at (Free 1))) ⇒ out (to Head 3) (replacing (at (Free 1)) 0) Answer.Stored
+    ∷ step sample (set fullAt2 31 2) (aboutToDrop (at (task1 2))) ⇒ refuse (aboutToDrop (at (task1 2))) (Refusal.Control 31)
+    ∷ step sample (set fullAt2 29 2) (aboutToDrop (at (task1 2))) ⇒ out (to Head 3) (replacing (at (task1 2)) 0) Answer.Stored
+    ∷ step sample (set fullAt2 14 3) (replacing (at (task1 2)) 0) ⇒ out (to (Event 1) 1) (replacing (at (task1 2)) 1) Answer.Stored
+    ∷ step sample (set fullAt2 14 3) (replacing (at (task1 2)) 1) ⇒ out (to (Datum 1) 66) (replacing (at (task1 2)) 2) Answer.Stored
+    ∷ step sample (set fullAt2 14 3) (replacing (at (task1 2)) 2) ⇒ out (to Tail 2) (at (task1 2)) (Answer.Accepted (Dropped.Record 0 52))
+    ∷ step sample (controls 0 1 8 0 0 0 0 2) (replacing onValue 2) ⇒ out (to Tail 3) onValue (Answer.Accepted (Dropped.Record 1 53))
     -- "then n copies, 9 from 12, 10 from 13, 8 becomes 0"; N4: "Commits store 0 in it just before the last store", over a 0 too
     ∷ step sample taskCommit (at (Free 0)) ⇒ storesWord (Memory 2) 777 (Free 1)
     ∷ step sample taskCommit (at (Free 1)) ⇒ storesWord (Memory 3) 888 (Free 2)
@@ -109,8 +130,20 @@ outcomes =
     ∷ post sample (taskBegun opened) (handling 1) (single 2 66) ⇒ refuse (handling 1) (Refusal.NoEvent 0)
     ∷ post sample (taskBegun opened) (handling 1) (single 1 67) ⇒ refuse (handling 1) Refusal.HandlerBusy
     ∷ post sample (taskBegun (controls 0 1 8 0 0 0 2 1)) (at (task1 2)) (single 2 66) ⇒ refuse (at (task1 2)) (Refusal.NoEvent 0)
-    ∷ post sample (taskBegun (controls 0 1 8 0 0 0 2 1)) (at (task1 2)) (single 1 66) ⇒ refuse (at (task1 2)) Refusal.QueueFull
+    -- N7: "A single post to a full queue now drops the record at head .., unless word 16 or the phase is 2; then it is 21": with nothing begun, a
+    -- task begun, in phase 1; in phase 2 before head has moved and after it, with word 16 at 2 and at 0
+    ∷ post sample (controls 0 1 8 0 0 0 2 1) onValue (single 1 66) ⇒ out none (aboutToDrop onValue) Answer.Done
+    ∷ post sample fullAt2 (at (task1 2)) (single 1 66) ⇒ out none (aboutToDrop (at (task1 2))) Answer.Done
+    ∷ post sample (controls 1 1 8 2 2 8 2 1) (at (Free 1)) (single 1 66) ⇒ out none (aboutToDrop (at (Free 1))) Answer.Done
+    ∷ post sample (eventBegun (controls 1 1 8 2 2 8 2 1)) (at (Free 1)) (single 1 66) ⇒ refuse (at (Free 1)) Refusal.QueueFull
+    ∷ post sample (eventBegun (controls 0 1 0 0 0 0 3 2)) (at (event1 1)) (single 1 66) ⇒ refuse (at (event1 1)) Refusal.QueueFull
     ∷ post sample (controls 2 1 0 0 1 0 0 3) (at (Free 0)) (single 1 66) ⇒ refuse (at (Free 0)) Refusal.QueueFull
+    ∷ post sample (eventBegun (controls 2 1 0 0 1 0 1 0)) (at (Free 1)) (single 1 66) ⇒ refuse (at (Free 1)) Refusal.QueueFull
+    ∷ post sample (controls 2 1 0 0 1 0 1 0) (at (Free 2)) (single 1 66) ⇒ refuse (at (Free 2)) Refusal.QueueFull
+    ∷ post sample fullAt2 (aboutToDrop (at (task1 2))) (single 1 66) ⇒ refuse (aboutToDrop (at (task1 2))) Refusal.HandlerBusy
+    -- "Longer bursts drop nothing"
+    ∷ post sample fullAt2 (at (task1 2)) (two 1 0) ⇒ refuse (at (task1 2)) Refusal.QueueFull
+    ∷ post sample fullAt2 (at (task1 2)) (two 1 0 ++ two 1 0) ⇒ refuse (at (task1 2)) Refusal.QueueFull
     -- N6: "33 burst of zero or over four, checked just before 8"
     ∷ post sample emptyAt2 (at (task1 2)) three ⇒ out none (threeHandled 0) Answer.Done
     ∷ post sample emptyAt2 (at (task1 2)) [] ⇒ refuse (at (task1 2)) Refusal.BurstLength
@@ -203,7 +236,7 @@ abbrev threePosted : List Call
 threePosted = Post three ∷ steps 7
 
 abbrev isAccepted : List Answer
-isAccepted = Answer.Done ∷ Answer.Stored ∷ Answer.Stored ∷ Answer.Accepted ∷ []
+isAccepted = Answer.Done ∷ Answer.Stored ∷ Answer.Stored ∷ accepted ∷ []
 
 -- a task is chosen; one that only goes on commits, with no pair to copy; an event saves its data and commits, with one pair
 abbrev chosen : ℕ → List Answer
@@ -243,12 +276,23 @@ commitsFirst = replicate 3 Answer.Stored ++ Answer.Committed (Body.Task 0) ∷ r
 abbrev isRefusedAtLoad : List Answer
 isRefusedAtLoad = Answer.Worked ∷ Answer.Stored ∷ Answer.Stored ∷ Answer.Refused Refusal.Address ∷ []
 
--- three records wait, a fourth finds the queue full; an event is served, and a record goes into the ring's last slot
+-- three records wait, two more find the queue full; an event is served, and a record goes into the ring's last slot
 abbrev filled : List Call
 filled = Boot ∷ posted 0 50 ++ posted 1 51 ++ posted 0 52
 
 abbrev refilled : List Call
-refilled = filled ++ Post (single 1 53) ∷ steps 10 ++ posted 1 53
+refilled = filled ++ Post (two 1 0) ∷ steps 10 ++ posted 1 53
+
+-- N7: a fourth drops the oldest, and one more the next; where the second event is begun, a fifth is refused
+abbrev replaced : List Call
+replaced = filled ++ posted 1 53 ++ Step ∷ posted 0 54 ++ steps 2 ++ Post (single 0 55) ∷ []
+
+abbrev replacesAll : List Answer
+replacesAll =
+    Answer.Done ∷ isAccepted ++ isAccepted ++ isAccepted
+    ++ Answer.Done ∷ replicate 3 Answer.Stored ++ Answer.Accepted (Dropped.Record 0 50)
+    ∷ Answer.Done ∷ replicate 3 Answer.Stored ++ Answer.Accepted (Dropped.Record 1 51)
+    ∷ Answer.Chosen (Body.Event 0) ∷ Answer.Refused Refusal.QueueFull ∷ []
 
 abbrev isFull : List Answer
 isFull = Answer.Refused Refusal.QueueFull ∷ []
@@ -272,10 +316,11 @@ schedules =
     -- 23 is met again after a cut: the body is taken up again
     ∷ answersOf (withInstruction 0x0A31 0) (Boot ∷ steps 5 ++ Cut ∷ Boot ∷ steps 4)
     ⇒ (Answer.Done ∷ chosen 1 ++ isRefusedAtLoad ++ replicate 2 Answer.Done ++ isRefusedAtLoad)
-    ∷ answers (refilled ++ Post (single 0 54) ∷ steps 31) ⇒ (queueRefilled ++ isFull ++ isServed 1 ++ isServed 0 ++ isServed 1 ++ chosen 1)
+    ∷ answers replaced ⇒ replacesAll
+    ∷ answers (refilled ++ Post (two 0 1) ∷ steps 31) ⇒ (queueRefilled ++ isFull ++ isServed 1 ++ isServed 0 ++ isServed 1 ++ chosen 1)
     -- three are accepted together; the next to be served are these, in order
     ∷ answers (Boot ∷ threePosted ++ steps 21)
-    ⇒ (Answer.Done ∷ Answer.Done ∷ replicate 6 Answer.Stored ++ Answer.Accepted ∷ isServed 1 ++ isServed 0 ++ Answer.Chosen (Body.Event 1) ∷ [])
+    ⇒ (Answer.Done ∷ Answer.Done ∷ replicate 6 Answer.Stored ++ accepted ∷ isServed 1 ++ isServed 0 ++ Answer.Chosen (Body.Event 1) ∷ [])
     ∷ []
 
 unfoldable pub openNumbers : List (Row (List ℕ))
@@ -331,7 +376,7 @@ abbrev commitStore : Outcome
 commitStore = out (to Phase 1) onValue (Answer.Committed (Body.Task 1))
 
 abbrev tailStore : Outcome
-tailStore = out (to Tail 1) onValue Answer.Accepted
+tailStore = out (to Tail 1) onValue accepted
 
 -- what a step adds, with a handler before it
 abbrev countedOf : Handler → Totals → Outcome → Totals
@@ -342,6 +387,8 @@ countings =
     countedOf (Storing 1 2) (totals 5 60 700) commitStore ⇒ totals 6 60 701
     ∷ countedOf (Storing 1 2) (totals 5 60 700) (out (to Phase 2) onValue (Answer.Committed (Body.Event 1))) ⇒ totals 6 60 701
     ∷ countedOf (Storing 1 2) (totals 5 60 700) tailStore ⇒ totals 5 61 701
+    ∷ countedOf (Replacing 2) (totals 5 60 700) (out (to Tail 1) onValue (Answer.Accepted (Dropped.Record 0 52))) ⇒ totals 5 61 701
+    ∷ countedOf Dropping (totals 5 60 700) (out (to Head 1) onValue Answer.Stored) ⇒ totals 5 60 701
     -- N6: "The accepted total rises by the burst's length"
     ∷ countedOf (Storing 3 6) (totals 5 60 700) tailStore ⇒ totals 5 63 701
     ∷ countedOf (Storing 3 5) (totals 5 60 700) (out (to (Datum 0) 1) onValue Answer.Stored) ⇒ totals 5 60 701
@@ -484,10 +531,16 @@ pub data Summary : Type 0 where
   stopped : Summary
   -- memory, current task, open number, records
   holding : List ℕ → ℕ → ℕ → List Record → Summary
+  -- N7: with what was dropped for the latest post, and all that were dropped
+  dropping : List Record → Dropped → List Record → Summary
 
 unfoldable pub summary : Option Serial → Summary
 summary Option.none = stopped
 summary (Option.some z) = holding (z .memory) (z .task) (z .openNumber) (z .records)
+
+unfoldable pub drops : Option Serial → Summary
+drops Option.none = stopped
+drops (Option.some z) = dropping (z .records) (z .posting .droppedFor) (z .posting .dropped)
 
 -- what the serial run makes of lines, with this much fuel, of another program, and of a list of calls with the device's answers
 abbrev serially : ℕ → List ℕ → List Line → Summary
@@ -503,13 +556,29 @@ abbrev line : Call → Answer → List Line
 line c a = record { called = c; answered = a } ∷ []
 
 abbrev accepts : ℕ → ℕ → List Line
-accepts e x = line (Post (single e x)) Answer.Done ++ line Step Answer.Accepted
+accepts e x = line (Post (single e x)) Answer.Done ++ line Step accepted
 
 abbrev acceptsThree : List Line
-acceptsThree = line (Post three) Answer.Done ++ line Step Answer.Stored ++ line Step Answer.Accepted
+acceptsThree = line (Post three) Answer.Done ++ line Step Answer.Stored ++ line Step accepted
+
+-- N7: three records wait, and a post is done
+abbrev posts : ℕ → ℕ → List Line
+posts e x = line (Post (single e x)) Answer.Done
+
+abbrev isFilled : List Line
+isFilled = accepts 0 50 ++ accepts 1 51 ++ accepts 0 52
+
+abbrev dropsOf : List Line → Summary
+dropsOf xs = drops (serial 4 (given sample 2 3) xs)
+
+abbrev dropsOfCalls : List Call → Summary
+dropsOfCalls cs = drops (serial 99 (given sample 2 3) (history sample (formatted sample 2 3) offValue cs))
 
 abbrev refusedPost : List Line
 refusedPost = line (Post (single 1 51)) (Answer.Refused Refusal.HandlerBusy)
+
+abbrev stores : List Line
+stores = line Step Answer.Stored
 
 abbrev commits : Body → List Line
 commits b = line Step (Answer.Committed b)
@@ -531,9 +600,9 @@ serialRuns =
     -- "The answer accepted adds what the latest post with the answer done carried"
     ∷ fromLines (accepts 0 50 ++ accepts 1 51) ⇒ holding untouched 1 0 (holds 0 50 ∷ holds 1 51 ∷ [])
     ∷ fromLines (line (Post (single 0 50)) Answer.Done ++ line Cut Answer.Done ++ accepts 1 51) ⇒ holding untouched 1 0 (holds 1 51 ∷ [])
-    ∷ fromLines (line (Post (single 0 50)) Answer.Done ++ refusedPost ++ line Step Answer.Accepted) ⇒ holding untouched 1 0 (holds 0 50 ∷ [])
+    ∷ fromLines (line (Post (single 0 50)) Answer.Done ++ refusedPost ++ line Step accepted) ⇒ holding untouched 1 0 (holds 0 50 ∷ [])
     ∷ fromLines (accepts 0 50 ++ acceptsThree) ⇒ holding untouched 1 0 (holds 0 50 ∷ three)
-    ∷ fromLines (line Step Answer.Accepted) ⇒ stopped  -- before any post
+    ∷ fromLines (line Step accepted) ⇒ stopped  -- before any post
     -- "for a task the current one"; "to DONE or to GO, which sets current task and open number"
     ∷ fromLines (commits (Body.Task 1)) ⇒ holding afterTask1 2 8 []
     ∷ fromLines (commits (Body.Task 1) ++ commits (Body.Task 2)) ⇒ holding afterTask1 3 8 []
@@ -562,6 +631,26 @@ serialRuns =
     ∷ serially 4 (withInstruction 0x0C00 3) (commits (Body.Task 1)) ⇒ holding afterTask1 2 8 []
     ∷ serially 4 (set (set sample 29 0x0070) 31 0x0970) (commits (Body.Task 1)) ⇒ holding afterTask1 2 8 []
     ∷ serially 5 counting (commits (Body.Task 0) ++ commits (Body.Task 0)) ⇒ holding (2 ∷ 0 ∷ []) 0 0 []
+    -- N7: "drops its oldest record at a stored answer when the last call before it that wasn't refused is a post that found Q records": at one stored
+    -- answer, behind refused calls too; not where a cut, a boot or another step came between, nor where the post found fewer
+    ∷ dropsOf (isFilled ++ posts 1 53) ⇒ dropping (holds 0 50 ∷ holds 1 51 ∷ holds 0 52 ∷ []) Dropped.Nothing []
+    ∷ dropsOf (isFilled ++ posts 1 53 ++ stores) ⇒ dropping (holds 1 51 ∷ holds 0 52 ∷ []) (Dropped.Record 0 50) (holds 0 50 ∷ [])
+    ∷ dropsOf (isFilled ++ posts 1 53 ++ refusedPost ++ line Boot (Answer.Refused Refusal.PowerOn) ++ stores)
+    ⇒ dropping (holds 1 51 ∷ holds 0 52 ∷ []) (Dropped.Record 0 50) (holds 0 50 ∷ [])
+    ∷ dropsOf (isFilled ++ posts 1 53 ++ stores ++ stores ++ line Step (Answer.Accepted (Dropped.Record 0 50)))
+    ⇒ dropping (holds 1 51 ∷ holds 0 52 ∷ holds 1 53 ∷ []) (Dropped.Record 0 50) (holds 0 50 ∷ [])
+    ∷ dropsOf (isFilled ++ posts 1 53 ++ line Cut Answer.Done ++ stores) ⇒ dropping (holds 0 50 ∷ holds 1 51 ∷ holds 0 52 ∷ []) Dropped.Nothing []
+    ∷ dropsOf (isFilled ++ posts 1 53 ++ line Boot Answer.Done ++ stores) ⇒ dropping (holds 0 50 ∷ holds 1 51 ∷ holds 0 52 ∷ []) Dropped.Nothing []
+    ∷ dropsOf (isFilled ++ posts 1 53 ++ line Step Answer.Worked ++ stores) ⇒ dropping (holds 0 50 ∷ holds 1 51 ∷ holds 0 52 ∷ []) Dropped.Nothing []
+    ∷ dropsOf (isFilled ++ posts 1 53 ++ line Step (Answer.Chosen (Body.Task 1)) ++ stores)
+    ⇒ dropping (holds 0 50 ∷ holds 1 51 ∷ holds 0 52 ∷ []) Dropped.Nothing []
+    ∷ dropsOf (isFilled ++ posts 1 53 ++ commits (Body.Event 0) ++ stores) ⇒ dropping (holds 1 51 ∷ holds 0 52 ∷ []) Dropped.Nothing []
+    ∷ dropsOf (accepts 0 50 ++ posts 1 53 ++ stores) ⇒ dropping (holds 0 50 ∷ []) Dropped.Nothing []
+    ∷ dropsOf (isFilled ++ posts 1 53 ++ stores ++ line Cut Answer.Done ++ posts 0 54)
+    ⇒ dropping (holds 1 51 ∷ holds 0 52 ∷ []) Dropped.Nothing (holds 0 50 ∷ [])
+    ∷ dropsOfCalls replaced ⇒ dropping (holds 0 52 ∷ holds 1 53 ∷ holds 0 54 ∷ []) (Dropped.Record 1 51) (holds 0 50 ∷ holds 1 51 ∷ [])
+    -- a cut after the head store: the old record is dropped and the new one not accepted
+    ∷ dropsOfCalls (filled ++ Post (single 1 53) ∷ Step ∷ Cut ∷ Boot ∷ []) ⇒ dropping (holds 1 51 ∷ holds 0 52 ∷ []) (Dropped.Record 0 50) (holds 0 50 ∷ [])
     -- "All else, cuts and refusals too, changes nothing": the device's own answers
     ∷ fromCalls (refilled ++ steps 20 ++ Cut ∷ Boot ∷ []) ⇒ holding (52 ∷ 0 ∷ 0 ∷ 0 ∷ 0 ∷ 51 ∷ []) 1 0 (holds 1 53 ∷ [])
     ∷ fromCalls (transactionCalls ++ steps 18 ++ Post (single 1 51) ∷ Cut ∷ Step ∷ []) ⇒ holding afterTask1 3 8 (holds 0 50 ∷ [])
@@ -587,7 +676,7 @@ begunBodies =
     ∷ []
 
 abbrev inState : ℕ → List Record → Serial
-inState o rs = record { memory = untouched; task = 3; openNumber = o; records = rs; posted = [] }
+inState o rs = withRecords (record { memory = untouched; task = 3; openNumber = o; records = []; posting = serialStart (given sample 2 3) .posting }) rs (serialStart (given sample 2 3) .posting)
 
 unfoldable pub nextBodies : List (Row Body)
 nextBodies =
@@ -601,11 +690,11 @@ nextBodies =
 unfoldable pub bursts : List (Row (List (List Record)))
 bursts =
     cameIn (accepts 0 50 ++ acceptsThree) ⇒ (single 0 50 ∷ three ∷ [])
-    ∷ cameIn (line (Post three) Answer.Done ++ refusedPost ++ line Boot (Answer.Refused Refusal.PowerOn) ++ line Step Answer.Accepted) ⇒ (three ∷ [])
+    ∷ cameIn (line (Post three) Answer.Done ++ refusedPost ++ line Boot (Answer.Refused Refusal.PowerOn) ++ line Step accepted) ⇒ (three ∷ [])
     ∷ cameIn (line (Post three) Answer.Done ++ line Cut Answer.Done ++ accepts 1 51) ⇒ (single 1 51 ∷ [])
     -- on its way no more: behind a cut, and once it is accepted
-    ∷ cameIn (line (Post three) Answer.Done ++ line Cut Answer.Done ++ line Step Answer.Accepted) ⇒ ([] ∷ [])
-    ∷ cameIn (accepts 0 50 ++ line Step Answer.Accepted) ⇒ (single 0 50 ∷ [] ∷ [])
+    ∷ cameIn (line (Post three) Answer.Done ++ line Cut Answer.Done ++ line Step accepted) ⇒ ([] ∷ [])
+    ∷ cameIn (accepts 0 50 ++ line Step accepted) ⇒ (single 0 50 ∷ [] ∷ [])
     ∷ (joined (single 0 50 ∷ three ∷ []) ∷ []) ⇒ ((holds 0 50 ∷ three) ∷ [])
     ∷ []
 
@@ -614,6 +703,9 @@ bursts =
 -- two events are accepted, a task and an event commit
 abbrev twoAccepted : List Line
 twoAccepted = accepts 0 50 ++ accepts 1 51 ++ commits (Body.Event 0) ++ commits (Body.Task 1)
+
+abbrev twoGone : List Gone
+twoGone = wasDropped (holds 0 50) ∷ wasCommitted (holds 1 51) ∷ []
 
 unfoldable pub counts : List (Row (List ℕ))
 counts =
@@ -627,6 +719,8 @@ counts =
     ∷ (countBy isCompletion twoAccepted ∷ []) ⇒ (1 ∷ [])
     ∷ (eventsAccepted sample (formatted sample 2 3) offValue (Boot ∷ threePosted) ∷ eventsAccepted sample (formatted sample 2 3) offValue filled ∷ []) ⇒ (3 ∷ 3 ∷ [])
     ∷ committedEvents twoAccepted ⇒ (0 ∷ [])
+    -- N7: of the records that left the queue
+    ∷ (eventsOf (goneRecords twoGone) ++ eventsOf (committedOf twoGone) ++ eventsOf (droppedOf twoGone)) ⇒ (0 ∷ 1 ∷ 1 ∷ 0 ∷ [])
     ∷ eventsOf three ⇒ (1 ∷ 0 ∷ 1 ∷ [])
     ∷ []
 

@@ -58,7 +58,7 @@ unlessRefused (Answer.Chosen b) refusing other = other
 unlessRefused Answer.Worked refusing other = other
 unlessRefused Answer.Stored refusing other = other
 unlessRefused (Answer.Committed b) refusing other = other
-unlessRefused Answer.Accepted refusing other = other
+unlessRefused (Answer.Accepted x) refusing other = other
 unlessRefused (Answer.Refused r) refusing other = refusing r
 
 unfoldable pub isRefusal : Answer → Bool
@@ -79,7 +79,7 @@ isCommit (Answer.Chosen b) = false
 isCommit Answer.Worked = false
 isCommit Answer.Stored = false
 isCommit (Answer.Committed b) = true
-isCommit Answer.Accepted = false
+isCommit (Answer.Accepted x) = false
 isCommit (Answer.Refused r) = false
 
 unfoldable pub isAccept : Answer → Bool
@@ -88,7 +88,7 @@ isAccept (Answer.Chosen b) = false
 isAccept Answer.Worked = false
 isAccept Answer.Stored = false
 isAccept (Answer.Committed b) = false
-isAccept Answer.Accepted = true
+isAccept (Answer.Accepted x) = true
 isAccept (Answer.Refused r) = false
 
 -- how many events an answer accepts. N6: "The accepted total rises by the burst's length", which is that of the handler before the step:

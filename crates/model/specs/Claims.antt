@@ -13,7 +13,7 @@ use Rattle.model.specs.Device.{off, burstLength, look, step}
 use Rattle.model.specs.Program.{word}
 use Rattle.model.specs.Store.{Store, Record, view, Word, index, to, settled, storedWord, slotAfter, room, format}
 use Rattle.model.specs.Test.{pick, _and_}
-use Rattle.model.specs.Types.{Answer, Body, Checked, Device, Ended, Free, Half, Handler, Place, Refusal, Resting, Run, Stored, Storing, Totals}
+use Rattle.model.specs.Types.{Answer, Body, Checked, Device, Dropping, Ended, Free, Half, Handler, Place, Refusal, Replacing, Resting, Run, Stored, Storing, Totals}
 
 -- "A refusal .. changes no word, state or total."
 pub record ChangesNothing (p s : List ℕ) (d : Device) (c : Call) (t : Totals) : Type 0 where
@@ -41,6 +41,8 @@ TypedPlace (Half b j) = TypedBody b × (j < 2 ^ 16)
 abbrev pub TypedHandler : Handler → Type 0
 TypedHandler Resting = Unit {0}
 TypedHandler (Storing n made) = (n < 2 ^ 16) × (made < 2 ^ 16)
+TypedHandler Dropping = Unit {0}
+TypedHandler (Replacing made) = made < 2 ^ 16
 
 -- behind the records of the handler's burst there are zeros
 abbrev pub ZeroBehind : Handler → List ℕ → Type 0
@@ -122,21 +124,27 @@ pub record LowestBroken (rs : List Rule) (place : ℕ) : Type 0 where
 abbrev pub NoneBroken : List Rule → Type 0
 NoneBroken rs = (rule : Rule) → Among rule rs → broken rule ≡ false
 
--- The rule of what a step uses behind its early look: "a chosen record", that at head; "a log pair", the next to be copied; for a running task
--- word 10's, for a running event that of the record at head.
+-- The rule of what a step uses behind its early look: "a chosen record", that at head, as a dropped one is; "a log pair", the next to be copied;
+-- for a running task word 10's, for a running event that of the record at head. A handler's stores of its burst use none.
 unfoldable pub runningRule : List ℕ → Store → Body → Rule
 runningRule p v (Body.Task task) = openRule p v
 runningRule p v (Body.Event e) = recordRule p v (v .head)
 
-unfoldable pub usedRule : List ℕ → Store → Place → Rule
-usedRule p v (Free made) = pick (inPhase v 0) (recordRule p v (v .head)) (addressRule p v made)
-usedRule p v (Run b j made) = runningRule p v b
-usedRule p v (Half b j) = runningRule p v b
+unfoldable pub placeRule : List ℕ → Store → Place → Rule
+placeRule p v (Free made) = pick (inPhase v 0) (recordRule p v (v .head)) (addressRule p v made)
+placeRule p v (Run b j made) = runningRule p v b
+placeRule p v (Half b j) = runningRule p v b
+
+unfoldable pub usedRules : List ℕ → Store → Place → Handler → List Rule
+usedRules p v place Resting = placeRule p v place ∷ []
+usedRules p v place (Storing n made) = []
+usedRules p v place Dropping = recordRule p v (v .head) ∷ []
+usedRules p v place (Replacing made) = []
 
 -- the rules of 7 that a call looks at, those at one place of the order together
 unfoldable pub inOrder : List ℕ → Store → Device → Call → List (List Rule)
 inOrder p v d Boot = rules p v ∷ []
-inOrder p v d Step = earlyRules p v ∷ (usedRule p v (d .place) ∷ []) ∷ []
+inOrder p v d Step = earlyRules p v ∷ usedRules p v (d .place) (d .handler) ∷ []
 inOrder p v d Cut = []
 inOrder p v d (Post rs) = earlyRules p v ∷ []
 
@@ -168,7 +176,7 @@ tellsStore (Answer.Chosen b) = true
 tellsStore Answer.Worked = false
 tellsStore Answer.Stored = true
 tellsStore (Answer.Committed b) = true
-tellsStore Answer.Accepted = true
+tellsStore (Answer.Accepted x) = true
 tellsStore (Answer.Refused r) = false
 
 -- The answer tells whether a store was made. What was stored is a word of the store, and a store that a step takes has at most 1235 words.

@@ -15,7 +15,7 @@ use Rattle.model.specs.Program.{entry}
 use Rattle.model.specs.Serial.{Serial, Formatting, given, Walked, went, served, lost, walkBody, tell, serial, serialStart}
 use Rattle.model.specs.Store.{Store, Record, view, waiting, formatCheck, format}
 use Rattle.model.specs.Test.{pick, _or_}
-use Rattle.model.specs.Types.{Answer, Body, Checked}
+use Rattle.model.specs.Types.{Answer, Body, Checked, Dropped}
 
 -- ---- The refusals that a list of calls on a fresh store can meet
 
@@ -35,7 +35,7 @@ Expected c (Answer.Chosen b) = Unit {0}
 Expected c Answer.Worked = Unit {0}
 Expected c Answer.Stored = Unit {0}
 Expected c (Answer.Committed b) = Unit {0}
-Expected c Answer.Accepted = Unit {0}
+Expected c (Answer.Accepted x) = Unit {0}
 Expected c (Answer.Refused r) = isIn (refusal r .number) (mayMeet c) ≡ true
 
 -- ---- Demand 3
@@ -87,7 +87,7 @@ isCompletion Answer.Worked = false
 isCompletion Answer.Stored = false
 isCompletion (Answer.Committed (Body.Task t)) = false
 isCompletion (Answer.Committed (Body.Event e)) = true
-isCompletion Answer.Accepted = false
+isCompletion (Answer.Accepted x) = false
 isCompletion (Answer.Refused r) = false
 
 -- the store and the device after calls on a store s, "the device off at first"
@@ -109,8 +109,11 @@ pub record AsSerialRun (p : List ℕ) (l q : ℕ) (s : List ℕ) (cs : List Call
   pub recovers : (allowed : ℕ) → stepsToRecover p s cs ≤ allowed → Recovers p (reached p s cs .store) state allowed
   -- "Its records are the store's waiting ones (event, data), in order, before recovery too."
   pub waits : waiting (view (reached p s cs .store)) ≡ state .records
-  -- accepted is completed plus waiting
-  pub balance : eventsAccepted p s off cs ≡ countBy isCompletion (history p s off cs) + length (state .records)
+  -- N7: "Accepted now equals completed plus waiting plus dropped". A cut after the head store has dropped a record that no answer tells.
+  pub balance : eventsAccepted p s off cs
+      ≡ countBy isCompletion (history p s off cs) + length (state .records) + length (state .posting .dropped)
+  -- "The accepting answer gains the dropped record or none": the one that was dropped for that post
+  pub dropped : (x : Dropped) → nextAnswer p s cs Step ≡ Answer.Accepted x → x ≡ state .posting .droppedFor
   -- whichever call is next: the refusals that it may meet, and the body that it commits
   pub refusals : (c : Call) → Expected c (nextAnswer p s cs c)
   pub bodies : (b : Body) → nextAnswer p s cs Step ≡ Answer.Committed b
@@ -136,7 +139,7 @@ committedTask Answer.Worked = []
 committedTask Answer.Stored = []
 committedTask (Answer.Committed (Body.Task t)) = t ∷ []
 committedTask (Answer.Committed (Body.Event e)) = []
-committedTask Answer.Accepted = []
+committedTask (Answer.Accepted x) = []
 committedTask (Answer.Refused r) = []
 
 unfoldable pub committedTasks : List Line → List ℕ
@@ -191,9 +194,10 @@ pub record Observed (p : List ℕ) (l q : ℕ) (s : List ℕ) (cs : List Call) :
   pub goes-on : (n : ℕ) → n < stepsToRecover p s cs → view (recovering p s cs n) .phase ≢ 0
   pub ends : view (recovering p s cs (stepsToRecover p s cs)) .phase ≡ 0
   pub left : Left (view (recovering p s cs (stepsToRecover p s cs))) state
-  -- accepted is completed plus waiting
-  pub balance :
-      eventsAccepted p s off cs ≡ countBy isCompletion (history p s off cs) + length (waiting (view (reached p s cs .store)))
+  -- accepted is completed plus waiting plus dropped
+  pub balance : eventsAccepted p s off cs
+      ≡ countBy isCompletion (history p s off cs) + length (waiting (view (reached p s cs .store))) + length (state .posting .dropped)
+  pub dropped : (x : Dropped) → nextAnswer p s cs Step ≡ Answer.Accepted x → x ≡ state .posting .droppedFor
   -- "for an event that of the oldest record"
   pub oldest : (e : ℕ) → nextAnswer p s cs Step ≡ Answer.Committed (Body.Event e)
       → (first : Record) × (rest : List Record) × (waiting (view (reached p s cs .store)) ≡ first ∷ rest) × (first .event ≡ e)

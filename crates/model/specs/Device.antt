@@ -10,9 +10,9 @@ use Rattle.model.specs.Burst.{isBurst, carried, noBurst, burstWords, kno
 use Rattle.model.specs.Check.{contentsRule, rowsInside, rowUsable, instructionRule, check}
 use Rattle.model.specs.Control.{obey, obeyAll, openRule, rules, earlyRules}
 use Rattle.model.specs.Program.{events, memoryWords, instructions, transaction, bodyNumber, effectAt, newOpen, firstRegisters, word, reg}
-use Rattle.model.specs.Store.{Store, view, address, value, event, datum, Phase, Task, Open, Count, Pending, PendingOpen, Head, Tail, Begun, Memory, Address, Value, Event, Datum, Write, none, to, Record, find, slotAfter, empty, room, logAt, queueAt, storeRule}
-use Rattle.model.specs.Test.{pick, _and_, must, _then_}
-use Rattle.model.specs.Types.{Answer, Body, Checked, Device, Effect, Found, Free, Half, Handler, Place, Refusal, Resting, Run, Storing}
+use Rattle.model.specs.Store.{Store, view, address, value, event, datum, Phase, Task, Open, Count, Pending, PendingOpen, Head, Tail, Begun, Memory, Address, Value, Event, Datum, Write, none, to, Record, find, slotAfter, empty, full, room, logAt, queueAt, storeRule}
+use Rattle.model.specs.Test.{pick, _and_, _or_, must, _then_}
+use Rattle.model.specs.Types.{Answer, Body, Checked, Device, Dropped, Dropping, Effect, Found, Free, Half, Handler, Place, Refusal, Replacing, Resting, Run, Storing}
 
 -- ---- "Off is one fixed value of the device, all else 0. Boot makes no store and turns that value on."
 
@@ -149,14 +149,25 @@ unfoldable pub zeros : List ℕ → ℕ → Bool
 zeros ws zero = true
 zeros ws (suc n) = zeros ws n and eqb (reg ws n) 0
 
--- one at rest has no burst
+-- N7: "Of a handler about to drop, 25 asks instead of room a full queue .. and neither word 16 nor the phase at 2"
+unfoldable pub mayDrop : Store → Bool
+mayDrop v = full v and not (eqb (v .begun) 2) and not (eqb (v .phase) 2)
+
+-- one at rest has no burst; one that drops has a burst of one
 unfoldable pub handlerSound : List ℕ → Store → List ℕ → Handler → Bool
 handlerSound p v burst Resting = zeros burst 8
 handlerSound p v burst (Storing n c) = recordsSound p v c (carried burst n)
+handlerSound p v burst Dropping = knownEvents p (carried burst 1) and mayDrop v
+handlerSound p v burst (Replacing c) = recordsSound p v c (carried burst 1)
+
+unfoldable pub atRest : Handler → Bool
+atRest Resting = true
+atRest (Storing n c) = false
+atRest Dropping = false
+atRest (Replacing c) = false
 
 unfoldable pub isFresh : Place → Handler → Bool
-isFresh (Free c) Resting = eqb c 0
-isFresh (Free c) (Storing n made) = false
+isFresh (Free c) handler = eqb c 0 and atRest handler
 isFresh (Run b j c) handler = false
 isFresh (Half b j) handler = false
 
@@ -194,22 +205,33 @@ boot p s d = judged (bootCheck p s d) d (out none (takenUp (view s) (begunOf (vi
 unfoldable pub cut : Outcome
 cut = out none off Answer.Done
 
-unfoldable pub atRest : Handler → Bool
-atRest Resting = true
-atRest (Storing n c) = false
+-- N6: "21 when the whole burst doesn't fit"; N7: "A single post to a full queue now drops the record at head .., unless word 16 or the phase
+-- is 2; then it is 21"
+unfoldable pub takes : Store → ℕ → Bool
+takes v n = leb n (room v) or (eqb n 1 and mayDrop v)
 
--- "post then 8, 20, 21"; N6: "33 burst of zero or over four, checked just before 8", "and 21 when the whole burst doesn't fit"
+-- "post then 8, 20, 21"; N6: "33 burst of zero or over four, checked just before 8"
 unfoldable pub postCheck : List ℕ → List ℕ → Device → List Record → Checked
 postCheck p s d rs =
     look p s d
     then must (isBurst rs) Refusal.BurstLength
     then eventsRule p 0 rs
     then must (atRest (d .handler)) Refusal.HandlerBusy
-    then must (leb (length rs) (room (view s))) Refusal.QueueFull
+    then must (takes (view s) (length rs)) Refusal.QueueFull
+
+-- the handler that a post of n records sets to work: where they don't fit, one that drops
+unfoldable pub setToWork : Store → ℕ → Handler
+setToWork v n = pick (leb n (room v)) (Storing n 0) Dropping
 
 -- "A post makes no store, sets the handler to work": on the records that it carries
 unfoldable pub post : List ℕ → List ℕ → Device → List Record → Outcome
-post p s d rs = judged (postCheck p s d rs) d (out none (withHandler d (Storing (length rs) 0) (burstWords rs)) Answer.Done)
+post p s d rs = judged (postCheck p s d rs) d (out none (withHandler d (setToWork (view s) (length rs)) (burstWords rs)) Answer.Done)
+
+-- ---- The record at head: a step that uses it checks it, "a chosen record (7)"
+
+unfoldable pub recordSound : List ℕ → Store → Checked
+recordSound p v =
+    must (ltb (event v (v .head)) (events p)) (Refusal.Control (queueAt (memoryWords p) (v .logPairs) + 2 * v .head))
 
 -- ---- Step 1. "A handler at work makes its next store .. The tail store accepts the event": of its n records' stores c are made
 
@@ -217,13 +239,28 @@ post p s d rs = judged (postCheck p s d rs) d (out none (withHandler d (Storing 
 unfoldable pub burstLength : Handler → ℕ
 burstLength Resting = 0
 burstLength (Storing n c) = n
+burstLength Dropping = 1
+burstLength (Replacing c) = 1
 
 abbrev pub handled : Device → List Record
 handled d = carried (d .burst) (burstLength (d .handler))
 
-unfoldable pub handlerStep : Store → Device → ℕ → ℕ → Outcome
-handlerStep v d n c =
-    storing (handlerStores v (carried (d .burst) n)) c (withHandler d (Storing n (c + 1)) (d .burst)) (resting d) Answer.Accepted
+-- the handler that is left after a store that isn't the last, and what was dropped for the burst
+unfoldable pub handlerStep : Store → Device → ℕ → ℕ → Handler → Dropped → Outcome
+handlerStep v d n c later dropped =
+    storing (handlerStores v (carried (d .burst) n)) c (withHandler d later (d .burst)) (resting d) (Answer.Accepted dropped)
+
+-- N7: "drops the record at head by storing head first"
+unfoldable pub dropStep : List ℕ → Store → Device → Outcome
+dropStep p v d =
+    judged (recordSound p v) d
+    (out (to Head (slotAfter (v .queueRecords) (v .head))) (withHandler d (Replacing 0) (d .burst)) Answer.Stored)
+
+-- "The accepting answer gains the dropped record": the ring was full, so its slot is the one after tail, and stays as it was until tail is stored
+unfoldable pub droppedRecord : Store → Dropped
+droppedRecord v =
+    let u = slotAfter (v .queueRecords) (v .tail) in
+    Dropped.Record (event v u) (datum v u)
 
 -- ---- Step 2. "A commit makes its next store", in phases 1 and 2: c stores are made after the commit store
 
@@ -238,11 +275,6 @@ copyStep p v d c =
     (storing (lastStores v) (c - v .count) later turnedOn Answer.Stored)
 
 -- ---- Step 3. "With no body running, one is chosen"
-
--- "a chosen record (7)", the record at head
-unfoldable pub recordSound : List ℕ → Store → Checked
-recordSound p v =
-    must (ltb (event v (v .head)) (events p)) (Refusal.Control (queueAt (memoryWords p) (v .logPairs) + 2 * v .head))
 
 -- "if word 10 is 0 and the queue isn't empty, the event at head"
 unfoldable pub eventNext : Store → Bool
@@ -369,7 +401,9 @@ placeStep p v d (Half b j) =
 
 unfoldable pub nextStep : List ℕ → Store → Device → Handler → Outcome
 nextStep p v d Resting = placeStep p v d (d .place)
-nextStep p v d (Storing n c) = handlerStep v d n c
+nextStep p v d (Storing n c) = handlerStep v d n c (Storing n (c + 1)) Dropped.Nothing
+nextStep p v d Dropping = dropStep p v d
+nextStep p v d (Replacing c) = handlerStep v d 1 c (Replacing (c + 1)) (droppedRecord v)
 
 unfoldable pub step : List ℕ → List ℕ → Device → Outcome
 step p s d = judged (look p s d) d (nextStep p (view s) d (d .handler))

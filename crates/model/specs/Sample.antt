@@ -5,7 +5,7 @@ use mathlib.Core.Path.{_≡_}
 use mathlib.Core.Bool.{Bool, true, false}
 use mathlib.Core.List.{List, [], _∷_, _++_, map}
 use lib.ListN.{set, take}
-use Rattle.model.specs.Types.{Body, Device, Free, Half, Handler, Place, Resting, Run, Storing}
+use Rattle.model.specs.Types.{Answer, Body, Device, Dropped, Free, Half, Handler, Place, Resting, Run, Storing}
 
 -- ---- Tables
 
@@ -115,10 +115,17 @@ at x = deviceWith true registers x 1 Resting
 abbrev pub twoPairs : Place → Device
 twoPairs x = deviceWith true registers x 2 Resting
 
--- the same as d, but with a handler at work: of n records, in the words ws, c of whose stores are made
+-- the same as d, but with a handler at work on a burst with the words ws; one of n records, c of whose stores are made
+abbrev pub workingAs : Handler → Device → List ℕ → Device
+workingAs h d ws =
+    record { on = d .on; registers = d .registers; place = d .place; count = d .count; handler = h; burst = take 8 (ws ++ cleared) }
+
 abbrev pub working : Device → ℕ → ℕ → List ℕ → Device
-working d n c ws =
-    record { on = d .on; registers = d .registers; place = d .place; count = d .count; handler = Storing n c; burst = take 8 (ws ++ cleared) }
+working d n c ws = workingAs (Storing n c) d ws
+
+-- one that accepts, and drops nothing
+abbrev pub accepted : Answer
+accepted = Answer.Accepted Dropped.Nothing
 
 -- a body at an instruction
 abbrev pub task1 : ℕ → Place

@@ -10,7 +10,7 @@ use Rattle.model.specs.Calls.{Call, Boot, Step, Cut, Post, call, afterCa
 use Rattle.model.specs.Check.{check}
 use Rattle.model.specs.Device.{off}
 use Rattle.model.specs.Store.{view, waiting, formatted}
-use Rattle.model.specs.Types.{Answer, Body, Checked, Device, Refusal, Run}
+use Rattle.model.specs.Types.{Answer, Body, Checked, Device, Dropped, Refusal, Run}
 
 -- ---- programs
 
@@ -89,10 +89,13 @@ pub record Starred : Type 0 where
   pub step-ten : answer counting (Boot ∷ steps 9) Step ≡ Answer.Committed (Body.Task 0)
   pub step-fourteen : view (storeAfter counting (Boot ∷ steps 14)) .phase ≡ 1
   pub step-fifteen : view (storeAfter counting (Boot ∷ steps 15)) .phase ≡ 0
-  -- "Post and 3 steps: accepted. A further post before the event commits: 21." (Six more steps commit it, and 21 lasts until the
-  -- eighth has moved head.)
-  pub three-steps : answer counting (Boot ∷ Post (single 0 7) ∷ steps 2) Step ≡ Answer.Accepted
-  pub post-at-once : answer counting accepted (Post (single 0 8)) ≡ Answer.Refused Refusal.QueueFull
+  -- "Post and 3 steps: accepted. A further post before the event commits: 21." N7: "drops the record at head ..; then it is 21, so in 01's
+  -- case only once the event has begun". (The first step more begins it, the sixth commits it, and 21 lasts until the eighth has moved head.)
+  pub three-steps : answer counting (Boot ∷ Post (single 0 7) ∷ steps 2) Step ≡ Answer.Accepted Dropped.Nothing
+  pub post-at-once : answer counting accepted (Post (single 0 8)) ≡ Answer.Done
+  pub four-steps : answer counting (accepted ++ Post (single 0 8) ∷ steps 3) Step ≡ Answer.Accepted (Dropped.Record 0 7)
+  pub event-begun : answer counting accepted Step ≡ Answer.Chosen (Body.Event 0)
+  pub post-once-begun : answer counting (accepted ++ Step ∷ []) (Post (single 0 8)) ≡ Answer.Refused Refusal.QueueFull
   pub post-before-commit : answer counting (accepted ++ steps 5) (Post (single 0 8)) ≡ Answer.Refused Refusal.QueueFull
   pub commit : answer counting (accepted ++ steps 5) Step ≡ Answer.Committed (Body.Event 0)
   pub post-before-head : answer counting (accepted ++ steps 7) (Post (single 0 8)) ≡ Answer.Refused Refusal.QueueFull

@@ -10,8 +10,8 @@ use Rattle.model.specs.Control.{Rule, broken, rules}
 use Rattle.model.specs.Device.{boot, post, step}
 use Rattle.model.specs.Store.{view, formatted}
 use Rattle.model.specs.Test.{pick}
-use Rattle.model.specs.Types.{Answer, Body, Device, Free, Half, Place, Refusal, Resting, Run}
-use Rattle.model.specs.Sample.{Row, _⇒_, at, begunAt, cleared, closed, controls, deviceWith, event1, eventBegun, eventCommit, offValue, onValue, opened, registers, sample, task1, taskBegun, taskCommit, twoPairs, withInstruction, working}
+use Rattle.model.specs.Types.{Answer, Body, Device, Dropping, Free, Half, Place, Refusal, Replacing, Resting, Run}
+use Rattle.model.specs.Sample.{Row, _⇒_, accepted, at, begunAt, cleared, closed, controls, deviceWith, event1, eventBegun, eventCommit, offValue, onValue, opened, registers, sample, task1, taskBegun, taskCommit, twoPairs, withInstruction, working, workingAs}
 
 -- ---- What boot, a step and a post meet in the program and in the store's contents (6)
 
@@ -252,6 +252,10 @@ withBurst ws = record { on = true; registers = registers; place = task1 0; count
 abbrev isBusy : Answer → List Answer
 isBusy a = a ∷ Answer.Refused Refusal.HandlerBusy ∷ []
 
+-- the records of slots 2, 3 and 0 waiting
+abbrev fullAt2 : List ℕ
+fullAt2 = controls 0 1 8 0 0 0 2 1
+
 unfoldable pub states : List (Row (List Answer))
 states =
     -- "body or instruction out of range"
@@ -327,6 +331,21 @@ states =
     ∷ running opened (working (at (task1 0)) 1 0 (1 ∷ 66 ∷ [])) ⇒ isBusy Answer.Stored
     ∷ running opened (working (at (task1 0)) 1 0 (2 ∷ 66 ∷ [])) ⇒ both Refusal.State
     ∷ running (controls 0 1 8 0 0 0 2 1) (working (at (task1 0)) 1 2 (1 ∷ 66 ∷ [])) ⇒ both Refusal.State
+    -- N7: "Of a handler about to drop, 25 asks instead of room a full queue .. and neither word 16 nor the phase at 2"; after its head store room, as of any
+    ∷ running fullAt2 (workingAs Dropping (at (task1 0)) (1 ∷ 66 ∷ [])) ⇒ isBusy Answer.Stored
+    ∷ running fullAt2 (workingAs Dropping (at (task1 0)) (2 ∷ 66 ∷ [])) ⇒ both Refusal.State
+    ∷ running opened (workingAs Dropping (at (task1 0)) (1 ∷ 66 ∷ [])) ⇒ both Refusal.State
+    ∷ running (controls 0 1 0 0 0 0 2 1) (workingAs Dropping (at (Run (Body.Event 0) 0 0)) (1 ∷ 66 ∷ [])) ⇒ both Refusal.State
+    ∷ looked fullAt2 (workingAs Dropping onValue (1 ∷ 66 ∷ [])) ⇒ isBusy Answer.Stored
+    ∷ looked (controls 1 1 8 2 2 8 2 1) (workingAs Dropping (at (Free 1)) (1 ∷ 66 ∷ [])) ⇒ isBusy Answer.Stored
+    ∷ looked (eventBegun (controls 1 1 8 2 2 8 2 1)) (workingAs Dropping (at (Free 1)) (1 ∷ 66 ∷ [])) ⇒ both Refusal.State
+    ∷ looked (controls 2 1 0 0 3 0 2 1) (workingAs Dropping (at (Free 0)) (1 ∷ 66 ∷ [])) ⇒ both Refusal.State
+    ∷ looked (controls 2 1 0 0 2 0 2 1) (workingAs Dropping (at (Free 2)) (1 ∷ 66 ∷ [])) ⇒ both Refusal.State
+    ∷ running opened (workingAs (Replacing 0) (at (task1 0)) (1 ∷ 66 ∷ [])) ⇒ isBusy Answer.Stored
+    ∷ running fullAt2 (workingAs (Replacing 0) (at (task1 0)) (1 ∷ 66 ∷ [])) ⇒ both Refusal.State
+    ∷ running opened (workingAs (Replacing 2) (at (task1 0)) (2 ∷ 66 ∷ [])) ⇒ both Refusal.State
+    ∷ running opened (workingAs (Replacing 3) (at (task1 0)) (1 ∷ 66 ∷ [])) ⇒ both Refusal.State
+    ∷ looked fullAt2 (workingAs Dropping offValue (1 ∷ 66 ∷ [])) ⇒ both Refusal.State
     -- one at rest has no burst
     ∷ running opened (withBurst (set cleared 0 1)) ⇒ both Refusal.State
     ∷ running opened (withBurst (set cleared 7 1)) ⇒ both Refusal.State
@@ -337,9 +356,9 @@ states =
     ∷ running (controls 0 1 8 0 0 0 3 3) (working (at (task1 0)) 3 0 (1 ∷ 66 ∷ 0 ∷ 67 ∷ 1 ∷ 68 ∷ [])) ⇒ isBusy Answer.Stored
     ∷ running (controls 0 1 8 0 0 0 3 3) (working (at (task1 0)) 4 0 (1 ∷ 66 ∷ 0 ∷ 67 ∷ 1 ∷ 68 ∷ 0 ∷ 69 ∷ [])) ⇒ both Refusal.State
     -- "is past its tail store"
-    ∷ running opened (working (at (task1 0)) 1 2 (1 ∷ 66 ∷ [])) ⇒ isBusy Answer.Accepted
+    ∷ running opened (working (at (task1 0)) 1 2 (1 ∷ 66 ∷ [])) ⇒ isBusy accepted
     ∷ running opened (working (at (task1 0)) 1 3 (1 ∷ 66 ∷ [])) ⇒ both Refusal.State
-    ∷ running (controls 0 1 8 0 0 0 3 3) (working (at (task1 0)) 3 6 (1 ∷ 66 ∷ 0 ∷ 67 ∷ 1 ∷ 68 ∷ [])) ⇒ isBusy Answer.Accepted
+    ∷ running (controls 0 1 8 0 0 0 3 3) (working (at (task1 0)) 3 6 (1 ∷ 66 ∷ 0 ∷ 67 ∷ 1 ∷ 68 ∷ [])) ⇒ isBusy accepted
     ∷ running (controls 0 1 8 0 0 0 3 3) (working (at (task1 0)) 3 7 (1 ∷ 66 ∷ 0 ∷ 67 ∷ 1 ∷ 68 ∷ [])) ⇒ both Refusal.State
     -- "or has a length or an event out of range": an event that is stored, too
     ∷ running opened (working (at (task1 0)) 0 0 []) ⇒ both Refusal.State

@@ -148,6 +148,9 @@ ringWord q u (suc (suc i)) = ringWord q (slotAfter q u) i
 abbrev pub empty : Store → Bool
 empty v = eqb (v .head) (v .tail)
 
+abbrev pub full : Store → Bool
+full v = eqb (slotAfter (v .queueRecords) (v .tail)) (v .head)
+
 -- "The waiting records run to tail from head, in phase 2 from word 12."
 unfoldable pub firstWaiting : Store → ℕ
 firstWaiting v = pick (eqb (v .phase) 2) (v .pending) (v .head)

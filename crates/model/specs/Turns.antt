@@ -23,7 +23,7 @@ begunAfter g (Answer.Chosen b) = Option.some b
 begunAfter g Answer.Worked = g
 begunAfter g Answer.Stored = g
 begunAfter g (Answer.Committed b) = Option.none
-begunAfter g Answer.Accepted = g
+begunAfter g (Answer.Accepted x) = g
 begunAfter g (Answer.Refused r) = g
 
 unfoldable pub begunFrom : Option Body → List Line → Option Body
@@ -51,7 +51,7 @@ InTurn z g (Answer.Chosen b) = (g ≡ Option.none) × (b ≡ nextBody z)
 InTurn z g Answer.Worked = Unit {0}
 InTurn z g Answer.Stored = Unit {0}
 InTurn z g (Answer.Committed b) = g ≡ Option.some b
-InTurn z g Answer.Accepted = Unit {0}
+InTurn z g (Answer.Accepted x) = Unit {0}
 InTurn z g (Answer.Refused r) = Unit {0}
 
 -- ---- After any list of calls on a store s, formatted with program p, L l and Q q:

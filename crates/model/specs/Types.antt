@@ -2,12 +2,13 @@
 -- as `Answer.Refused`.
 pub use Rattle.model.specs.declared.Body.{Body}
 pub use Rattle.model.specs.declared.Handler.{Handler}
-pub use Rattle.model.specs.declared.Handler.the-variants.{Resting, Storing}
+pub use Rattle.model.specs.declared.Handler.the-variants.{Resting, Storing, Dropping, Replacing}
 pub use Rattle.model.specs.declared.Place.{Place}
 pub use Rattle.model.specs.declared.Place.the-variants.{Free, Run, Half}
 pub use Rattle.model.specs.declared.Device.{Device}
 pub use Rattle.model.specs.declared.Refusal.{Refusal}
 pub use Rattle.model.specs.declared.Checked.{Checked}
+pub use Rattle.model.specs.declared.Dropped.{Dropped}
 pub use Rattle.model.specs.declared.Answer.{Answer}
 pub use Rattle.model.specs.declared.Instruction.{Instruction}
 pub use Rattle.model.specs.declared.Effect.{Effect}

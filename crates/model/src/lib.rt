@@ -7,11 +7,15 @@ pub enum Body {
     Event(u16),
 }
 
-// The handler of an interrupt: at rest, or at work: how many records its burst has, and how many of its stores are made. The burst itself
-// stands beside it, in the device.
+// The handler of an interrupt. The burst that it works on stands beside it, in the device.
 pub enum Handler {
     Resting,
+    // How many records its burst has, and how many of its stores are made.
     Storing(u16, u16),
+    // About to drop the oldest record, and then to store its burst of one.
+    Dropping,
+    // It has dropped the oldest record: how many stores of its burst of one are made.
+    Replacing(u16),
 }
 
 // Where the device stands.
@@ -76,6 +80,12 @@ pub enum Checked {
     Refused(Refusal),
 }
 
+// What a handler dropped for its burst: nothing, or a record's event and data.
+pub enum Dropped {
+    Nothing,
+    Record(u16, u16),
+}
+
 // What a call answers.
 pub enum Answer {
     Done,
@@ -83,7 +93,7 @@ pub enum Answer {
     Worked,
     Stored,
     Committed(Body),
-    Accepted,
+    Accepted(Dropped),
     Refused(Refusal),
 }
 

@@ -8,6 +8,7 @@ use super::text;
 use super::words;
 use model::Answer;
 use model::Body;
+use model::Dropped;
 use model::Stored;
 
 pub struct Runs {
@@ -15,7 +16,7 @@ pub struct Runs {
     pub mistaken: Node,
 }
 
-// A number for each body, and for each answer but for the body that it holds.
+// A number for each body, and for each answer but for what it holds.
 fn body_number(body: Body) -> u32 {
     match body {
         Body::Task(task) => 2 * (task as u32),
@@ -30,12 +31,27 @@ fn answer_number(answer: Answer) -> u16 {
         Answer::Worked => 2,
         Answer::Stored => 3,
         Answer::Committed(_) => 4,
-        Answer::Accepted => 5,
+        Answer::Accepted(dropped) => accepted_number(dropped),
         Answer::Refused(_) => 6,
     }
 }
 
-// The body that an answer holds, by its number.
+// An acceptance for which nothing was dropped, and one for which a record was; and a number for the record.
+fn accepted_number(dropped: Dropped) -> u16 {
+    match dropped {
+        Dropped::Nothing => 5,
+        Dropped::Record(_, _) => 7,
+    }
+}
+
+fn record_number(dropped: Dropped) -> u32 {
+    match dropped {
+        Dropped::Nothing => 0,
+        Dropped::Record(event, datum) => 65536 * (event as u32) + datum as u32,
+    }
+}
+
+// What an answer holds, by its number: a body, or the record that was dropped.
 fn held_number(answer: Answer) -> u32 {
     match answer {
         Answer::Done => 0,
@@ -43,7 +59,7 @@ fn held_number(answer: Answer) -> u32 {
         Answer::Worked => 0,
         Answer::Stored => 0,
         Answer::Committed(body) => body_number(body),
-        Answer::Accepted => 0,
+        Answer::Accepted(dropped) => record_number(dropped),
         Answer::Refused(_) => 0,
     }
 }

@@ -68,7 +68,7 @@ pub fn answer(answer: Answer) {
             text::put(b"committed ");
             body(committed);
         }
-        Answer::Accepted => text::put(b"accepted    "),
+        Answer::Accepted(_) => text::put(b"accepted    "),
         Answer::Refused(_) => text::put(b"refused     "),
     }
 }
@@ -111,10 +111,15 @@ fn instruction(program: &[u16], body: Body, at: u16) {
 // What a step runs, in a column of seven.
 fn step_runs(program: &[u16], store: &[u16], device: Device) {
     let handler = device.handler;
-    if let Handler::Storing(_, _) = handler {
-        text::put(b"handler");
-        return;
+    match handler {
+        Handler::Resting => place_runs(program, store, device),
+        Handler::Storing(_, _) => text::put(b"handler"),
+        Handler::Dropping => text::put(b"handler"),
+        Handler::Replacing(_) => text::put(b"handler"),
     }
+}
+
+fn place_runs(program: &[u16], store: &[u16], device: Device) {
     let place = device.place;
     match place {
         Place::Free(_) => {

@@ -22,7 +22,7 @@ fn legend() {
     text::line(b"number after the call. If power is cut then, uncut recovery takes so many steps");
     text::line(b"and leaves this memory and this record waiting; next is the body that runs");
     text::line(b"then. T0 is task 0, E0 event 0; post 7 posts event 0 with data 7. Words are in");
-    text::line(b"hex, other numbers in decimal. L is 1; Q is 1, in screen 7 it is 2.");
+    text::line(b"hex, other numbers in decimal. L is 1; Q is 1, in screen 8 it is 2.");
 }
 
 fn task() {
@@ -67,6 +67,12 @@ fn cuts_in_post() {
     table::table(&program, b"", b"b7scb8sscb9ssscbs");
 }
 
+fn cuts_in_drop() {
+    text::line(b"\n7. A post to a full queue drops the oldest record: cuts among its four stores");
+    let program = cases::counting();
+    table::table(&program, b"b7sss", b"8scb7sss8ssscb7sss8ssss");
+}
+
 // On stores with L and Q 1.
 fn beside_one(program: &[u16], mistake: Mistake, before: &[u8], shown: &[u8], behind: &[u8]) {
     let mut right = [0; 25];
@@ -102,7 +108,7 @@ fn beside_two(program: &[u16], mistake: Mistake, before: &[u8], shown: &[u8], be
 }
 
 fn head_plus_one() {
-    text::line(b"\n7. Redoing an event's commit by adding one to head: two records go");
+    text::line(b"\n8. Redoing an event's commit by adding one to head: two records go");
     let program = cases::counting();
     beside_two(
         &program,
@@ -114,7 +120,7 @@ fn head_plus_one() {
 }
 
 fn tail_before_data() {
-    text::line(b"\n8. Storing tail before data: a cut accepts a stale record");
+    text::line(b"\n9. Storing tail before data: a cut accepts a stale record");
     let program = cases::counting();
     beside_one(
         &program,
@@ -126,7 +132,7 @@ fn tail_before_data() {
 }
 
 fn phase_before_task() {
-    text::line(b"\n9. Clearing the phase before word 9: the task runs again (screen 3's program)");
+    text::line(b"\n10. Clearing the phase before word 9: the task runs again (screen 3's program)");
     let program = transaction::PROGRAM;
     beside_one(
         &program,
@@ -138,7 +144,7 @@ fn phase_before_task() {
 }
 
 fn lost_count() {
-    text::line(b"\n10. Taking the log count at recovery from lost state, not word 11");
+    text::line(b"\n11. Taking the log count at recovery from lost state, not word 11");
     let program = cases::counting();
     beside_one(
         &program,
@@ -150,7 +156,7 @@ fn lost_count() {
 }
 
 fn lost_open() {
-    text::line(b"\n11. Serving an event after a cut in an open transaction (screen 3's program)");
+    text::line(b"\n12. Serving an event after a cut in an open transaction (screen 3's program)");
     let program = transaction::PROGRAM;
     beside_one(
         &program,
@@ -169,6 +175,7 @@ fn main() {
     event_while_begun();
     cut_in_recovery();
     cuts_in_post();
+    cuts_in_drop();
     text::line(b"\nFive mistakes, each beside the right run. A bar stands where they differ.");
     head_plus_one();
     tail_before_data();

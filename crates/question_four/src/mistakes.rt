@@ -4,6 +4,7 @@ use super::node;
 use super::node::Node;
 use super::words;
 use model::Answer;
+use model::Dropped;
 use model::Stored;
 
 pub enum Mistake {
@@ -107,7 +108,7 @@ fn tail_before_data(program: &[u16], store: &mut [u16], node: Node) -> Node {
     let datum = words::word(store, index);
     left.kept.datum = datum;
     two(store, index, stale, 15, words::slot_after(store, tail));
-    instead(left, Answer::Accepted, 15, true)
+    instead(left, Answer::Accepted(Dropped::Nothing), 15, true)
 }
 
 fn data_after_tail(program: &[u16], store: &mut [u16], node: Node, datum: u16) -> Node {

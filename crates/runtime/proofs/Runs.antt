@@ -33,7 +33,7 @@ stops (Answer.Chosen b) stop rest e = (cc, cc)
 stops Answer.Worked stop rest e = (cc, cc)
 stops Answer.Stored stop rest e = (cc, cc)
 stops (Answer.Committed b) stop rest e = (cc, cc)
-stops Answer.Accepted stop rest e = (cc, cc)
+stops (Answer.Accepted d) stop rest e = (cc, cc)
 stops (Answer.Refused r) stop rest e = (cc, cc)
 
 goes {ℓ} : {A : Type ℓ} (a : Answer) (stop : Refusal → A) (rest : A) → refusalOf a ≡ Checked.Accepted → unlessRefused a stop rest ≡ rest
@@ -43,7 +43,7 @@ goes (Answer.Chosen b) stop rest e = refl
 goes Answer.Worked stop rest e = refl
 goes Answer.Stored stop rest e = refl
 goes (Answer.Committed b) stop rest e = refl
-goes Answer.Accepted stop rest e = refl
+goes (Answer.Accepted d) stop rest e = refl
 goes (Answer.Refused r) stop rest e = cc
 
 pub unrefused : (a : Answer) → refusalOf a ≡ Checked.Accepted → isRefusal a ≡ false

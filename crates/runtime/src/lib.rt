@@ -58,7 +58,7 @@ fn refusal(answer: Answer) -> Checked
         Answer::Worked => Checked::Accepted,
         Answer::Stored => Checked::Accepted,
         Answer::Committed(_) => Checked::Accepted,
-        Answer::Accepted => Checked::Accepted,
+        Answer::Accepted(_) => Checked::Accepted,
         Answer::Refused(why) => Checked::Refused(why),
     }
 }
@@ -73,7 +73,7 @@ fn is_commit(answer: Answer) -> bool
         Answer::Worked => false,
         Answer::Stored => false,
         Answer::Committed(_) => true,
-        Answer::Accepted => false,
+        Answer::Accepted(_) => false,
         Answer::Refused(_) => false,
     }
 }

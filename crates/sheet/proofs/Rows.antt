@@ -3,11 +3,11 @@ use mathlib.Core.Path.{refl}
 use Rattle.image.specs.Image.{lowFirst, firstWords, programOf, imageCheck}
 use Rattle.model.proofs.Definitions.{definitions}
 use Rattle.model.specs.Starred.{counting}
-use Rattle.sheet.specs.Sheet.{digit, letter, posting, postOf, scheduled, lastLine, linesFrom, decimalOf, decimal, spaced, hexDigit, hexWord, hexWords, header, memoryLeft, memoryLine, recoveredMemory, refusedLine, unreadLine, otherLine, callLine, ifRead, sheetLines, ifChecked, sheet}
+use Rattle.sheet.specs.Sheet.{digit, letter, posting, postOf, scheduled, lastLine, linesFrom, decimalOf, decimal, spaced, hexDigit, hexWord, hexWords, header, memoryLeft, memoryLine, recoveredMemory, refusedLine, droppedLine, answerLine, unreadLine, otherLine, callLine, ifRead, sheetLines, ifChecked, sheet}
 use Rattle.sheet.specs.SheetRows.{imageOf, SheetRows}
 
 pub sheet-rows : SheetRows
-unfolding definitions counting imageOf lowFirst firstWords programOf imageCheck digit letter posting postOf scheduled lastLine linesFrom decimalOf decimal spaced hexDigit hexWord hexWords header memoryLeft memoryLine recoveredMemory refusedLine unreadLine otherLine callLine ifRead sheetLines ifChecked sheet
+unfolding definitions counting imageOf lowFirst firstWords programOf imageCheck digit letter posting postOf scheduled lastLine linesFrom decimalOf decimal spaced hexDigit hexWord hexWords header memoryLeft memoryLine recoveredMemory refusedLine droppedLine answerLine unreadLine otherLine callLine ifRead sheetLines ifChecked sheet
 sheet-rows =
     record {
       example = refl;
@@ -29,5 +29,7 @@ sheet-rows =
       refused-step = refl;
       refused-post = refl;
       queue-full = refl;
+      dropped = refl;
+      dropped-and-cut = refl;
       refused-boot = refl;
     }

@@ -29,7 +29,7 @@ use Rattle.model.specs.declared.Refusal.{Refusal}
 use Rattle.sheet.proofs.ReachedLaws.{fresh-reached, fresh-length, fresh-format, reached-next}
 use Rattle.sheet.specs.Inside.{TakesByte, EndsLine, HoldsByte, nextNumber, stateAt, afterCall}
 use Rattle.sheet.specs.Printed.{SheetState, holding, linesLeft, left, Reached, Ready, Fits, Begins, Feeds, Piece, allFed, allText, FeedsAll, TextsAreTheSheet}
-use Rattle.sheet.specs.Sheet.{scheduled, lineFeed, lastLine, linesFrom, header, memoryLine, recoveredMemory, refusedLine, unreadLine, otherLine, callLine, ifRead, sheetLines, ifChecked, sheet}
+use Rattle.sheet.specs.Sheet.{scheduled, lineFeed, lastLine, linesFrom, header, memoryLine, recoveredMemory, answerLine, unreadLine, otherLine, callLine, ifRead, sheetLines, ifChecked, sheet}
 use Rattle.sheet.specs.declared.State.{State}
 
 -- ---- nothing fed, and bytes behind bytes
@@ -237,11 +237,11 @@ module _ (p : List ℕ) (size : ℕ) (h : SheetState) (going : h .ended ≡ fals
 
     pub ends-other : (z : List ℕ) (r : CallResult) → ofCall r z ≡ ofOutcome (h .store) (call p (h .store) (h .device) c) → callLine p (h .store) (h .device) (h .number) c ≡ otherLine p (h .store) (h .device) (h .number) c
         → length z ≡ length (h .store) → state ≡ afterCall (r .device) (h .number) false
-        → EndsLine p size h (unlessRefused (r .answer) (λ why. refusedLine (h .number) (refusal why)) []) (holding state z)
+        → EndsLine p size h (answerLine (h .number) (r .answer)) (holding state z)
     unfolding otherLine
     ends-other z r performs other long next =
         ends-call z (r .device) _ next
-        (ap (λ (x : Result). unlessRefused (x .answer) (λ why. refusedLine (h .number) (refusal why)) []) performs ∙ sym other)
+        (ap (λ (x : Result). answerLine (h .number) (x .answer)) performs ∙ sym other)
         (ap (λ (x : Result). x .store) performs) (ap (λ (x : Result). x .device) performs) long
 
 -- ---- the beginning

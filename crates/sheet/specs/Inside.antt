@@ -14,9 +14,9 @@ use Rattle.model.specs.Calls.{Call, Boot, Step, Cut, Post}
 use Rattle.model.specs.Device.{off}
 use Rattle.model.specs.Program.{word}
 use Rattle.model.specs.Store.{view, memoryAt}
-use Rattle.model.specs.Test.{pick}
+use Rattle.model.specs.Test.{pick, _and_}
 use Rattle.model.specs.declared.Device.{Device}
-use Rattle.sheet.specs.Sheet.{memoryLine, refusedLine, recoveredMemory}
+use Rattle.sheet.specs.Sheet.{memoryLine, refusedLine, droppedLine, recoveredMemory}
 use Rattle.sheet.specs.declared.Printed.{Printed}
 use Rattle.sheet.specs.declared.Scheduled.{Scheduled}
 use Rattle.sheet.specs.declared.State.{State}
@@ -39,7 +39,9 @@ abbrev pub numbersOf : List ℕ → RefusalNumber
 numbersOf answer = record { number = word answer 2; first = word answer 3; second = word answer 4 }
 
 unfoldable pub toldLine : ℕ → List ℕ → List ℕ
-toldLine n answer = pick (eqb (word answer 0) 6) (refusedLine n (numbersOf answer)) []
+toldLine n answer =
+    pick (eqb (word answer 0) 6) (refusedLine n (numbersOf answer))
+    (pick (eqb (word answer 0) 5 and eqb (word answer 1) 1) (droppedLine n (word answer 2) (word answer 3)) [])
 
 -- the end of a line, whatever lines follow
 pub record EndsLine (p : List ℕ) (n : ℕ) (h : SheetState) (xs : List ℕ) (g : SheetState) : Type 0 where

@@ -9,14 +9,16 @@ use lib.ListN.{length}
 use Rattle.image.specs.Image.{programOf, imageCheck}
 use Rattle.model.specs.Answer.{RefusalNumber, refusal}
 use Rattle.model.specs.Burst.{single}
-use Rattle.model.specs.Calls.{Call, Boot, Step, Cut, Post, call, unlessRefused, Recovery, recovered, refused, unfinished, recovery}
+use Rattle.model.specs.Calls.{Call, Boot, Step, Cut, Post, call, Recovery, recovered, refused, unfinished, recovery}
 use Rattle.model.specs.Demand3.{recoverySteps}
 use Rattle.model.specs.Device.{off}
 use Rattle.model.specs.Program.{word}
 use Rattle.model.specs.Store.{view, formatted, settled}
 use Rattle.model.specs.Test.{pick, _and_}
+use Rattle.model.specs.declared.Answer.{Answer}
 use Rattle.model.specs.declared.Checked.{Checked}
 use Rattle.model.specs.declared.Device.{Device}
+use Rattle.model.specs.declared.Dropped.{Dropped}
 use Rattle.sheet.specs.Ascii.{ascii}
 
 -- ---- "b boot, s step, c cut, p, an event digit and four data digits, in hex of either case, unspaced"
@@ -119,13 +121,28 @@ refusedLine n r =
     ++ spaced (r .second)
     ++ (lineFeed ∷ [])
 
+-- N7: for a dropped record "the call's number, "dropped", event and data in decimal"
+unfoldable pub droppedLine : ℕ → ℕ → ℕ → List ℕ
+droppedLine n event datum = decimal n ++ ascii " dropped" ++ spaced event ++ spaced datum ++ (lineFeed ∷ [])
+
+-- the line of an answer to call n, which is no cut: none, unless it is refused or tells a dropped record
+unfoldable pub answerLine : ℕ → Answer → List ℕ
+answerLine n Answer.Done = []
+answerLine n (Answer.Chosen b) = []
+answerLine n Answer.Worked = []
+answerLine n Answer.Stored = []
+answerLine n (Answer.Committed b) = []
+answerLine n (Answer.Accepted Dropped.Nothing) = []
+answerLine n (Answer.Accepted (Dropped.Record event datum)) = droppedLine n event datum
+answerLine n (Answer.Refused r) = refusedLine n (refusal r)
+
 -- "An unreadable call prints its number and "unread""
 unfoldable pub unreadLine : ℕ → List ℕ
 unreadLine n = decimal n ++ ascii " unread\n"
 
--- the line of call c, of number n, which is no cut: none, unless it is refused
+-- the line of call c, of number n, which is no cut
 unfoldable pub otherLine : List ℕ → List ℕ → Device → ℕ → Call → List ℕ
-otherLine p s d n c = unlessRefused (call p s d c .answer) (λ r. refusedLine n (refusal r)) []
+otherLine p s d n c = answerLine n (call p s d c .answer)
 
 unfoldable pub callLine : List ℕ → List ℕ → Device → ℕ → Call → List ℕ
 callLine p s d n Boot = otherLine p s d n Boot

@@ -46,8 +46,13 @@ pub record SheetRows : Type 0 where
   pub long-post : CountingSheetIs "p000000\nc\n" "call memory\n1 unread\n"
   pub short-post : CountingSheetIs "p0000\nc\n" "call memory\n1 unread\n"
   pub no-digit : CountingSheetIs "p000g0\nc\n" "call memory\n1 unread\n"
-  -- "A refused call prints its number, "refused", the refusal's number and its two place words": off, no such event, a full queue; on
+  -- "A refused call prints its number, "refused", the refusal's number and its two place words": off, no such event, a full queue once the event
+  -- has begun; on
   pub refused-step : CountingSheetIs "s\nc\n" "call memory\n1 refused 22 0 0\n2 0000 0000\n"
   pub refused-post : CountingSheetIs "b\np10000\nc\n" "call memory\n2 refused 8 0 0\n3 0000 0000\n"
-  pub queue-full : CountingSheetIs "b\np00007\ns\ns\ns\np00008\n" "call memory\n6 refused 21 0 0\n"
+  pub queue-full : CountingSheetIs "b\np00007\ns\ns\ns\ns\np00008\n" "call memory\n7 refused 21 0 0\n"
+  -- N7: "prints the call's number, "dropped", event and data in decimal": that of the accepting step, which comes behind the head store. Where a cut
+  -- comes between, no line tells it.
+  pub dropped : CountingSheetIs "b\np01abc\ns\ns\ns\np00008\ns\ns\ns\ns\n" "call memory\n10 dropped 0 6844\n"
+  pub dropped-and-cut : CountingSheetIs "b\np01abc\ns\ns\ns\np00008\ns\ns\ns\nc\n" "call memory\n10 0000 0000\n"
   pub refused-boot : CountingSheetIs "b\nb\n" "call memory\n2 refused 26 0 0\n"

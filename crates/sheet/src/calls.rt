@@ -4,14 +4,13 @@ ghost use lib.ListN.{length};
 ghost use mathlib.Core.Bool.{true, false};
 ghost use mathlib.Core.List.{[], _∷_};
 ghost use mathlib.Core.Path.{_≡_};
-ghost use Rattle.model.specs.Calls.{Boot, afterCalls, unlessRefused};
+ghost use Rattle.model.specs.Calls.{Boot, afterCalls};
 ghost use Rattle.model.specs.Calls.{steps as stepsOf};
-ghost use Rattle.model.specs.Answer.{refusal};
 ghost use Rattle.model.specs.Demand3.{recoverySteps};
 ghost use Rattle.model.specs.Device.{off};
 ghost use Rattle.model.specs.Program.{word as wordOf};
 ghost use Rattle.model.specs.Store.{view};
-ghost use Rattle.sheet.specs.Sheet.{refusedLine, unreadLine};
+ghost use Rattle.sheet.specs.Sheet.{answerLine, unreadLine};
 ghost use Rattle.sheet.specs.Inside.{Prints, Shows, PrintsCut, TakesLine, stateAt, afterCall};
 ghost use Rattle.sheet.specs.Printed.{holding};
 use crate::Printed;
@@ -153,7 +152,7 @@ fn cut(
 fn answered(text: &mut [u8], at: usize, number: u64, result: CallResult) -> Printed
     requires { ⌜ at + 5141 ≤ length (now text) ⌝ }
     ensures { λ r. ⌜ Prints (now (text .entry)) at (now (text .exit)) r
-        (unlessRefused (result .answer) (λ why. refusedLine number (refusal why)) []) (afterCall (result .device) number false) ⌝ }
+        (answerLine number (result .answer)) (afterCall (result .device) number false) ⌝ }
 {
     let answer = result.answer;
     let device = result.device;

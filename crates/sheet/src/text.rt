@@ -3,9 +3,7 @@ ghost use Prim.Native.Nat.{_+_, _*_, _≤_, _<_};
 ghost use lib.ListN.{length};
 ghost use mathlib.Core.List.{[], _∷_};
 ghost use mathlib.Core.Path.{_≡_};
-ghost use Rattle.model.specs.Answer.{refusal};
-ghost use Rattle.model.specs.Calls.{unlessRefused};
-ghost use Rattle.sheet.specs.Sheet.{space, hexDigit, hexWord, hexWords, memoryLine, unreadLine, refusedLine, ifChecked};
+ghost use Rattle.sheet.specs.Sheet.{space, hexDigit, hexWord, hexWords, memoryLine, unreadLine, refusedLine, droppedLine, answerLine, ifChecked};
 ghost use Rattle.sheet.specs.Sheet.{decimal as decimalOf, spaced as spacedOf};
 ghost use Rattle.sheet.specs.Inside.{Puts, toldLine, numbersOf};
 use model::Answer;
@@ -116,21 +114,40 @@ fn refused_line(text: &mut [u8], at: usize, number: u64, answer: &[u16; 5]) -> u
     put(text, end, b"\n")
 }
 
+// The line of a step that accepts a record for which another was dropped, with the dropped one's event and data.
+fn dropped_line(text: &mut [u8], at: usize, number: u64, event: u16, datum: u16) -> usize
+    requires { ⌜ at + 92 ≤ length (now text) ⌝ }
+    ensures { λ r. ⌜ Puts (now (text .entry)) at (now (text .exit)) r (droppedLine number event datum) ⌝ }
+    ensures { λ r. ⌜ r ≤ at + 92 ⌝ }
+{
+    let end = decimal(text, at, number);
+    let end = put(text, end, b" dropped");
+    let end = spaced(text, end, event);
+    let end = spaced(text, end, datum);
+    put(text, end, b"\n")
+}
+
 fn line_of(text: &mut [u8], at: usize, number: u64, answer: &[u16; 5]) -> usize
     requires { ⌜ at + 92 ≤ length (now text) ⌝ }
     ensures { λ r. ⌜ Puts (now (text .entry)) at (now (text .exit)) r (toldLine number (now (answer .entry))) ⌝ }
     ensures { λ r. ⌜ r ≤ at + 92 ⌝ }
 {
-    if answer[0] != 6 {
+    if answer[0] == 6 {
+        return refused_line(text, at, number, answer);
+    }
+    if answer[0] != 5 {
         return at;
     }
-    refused_line(text, at, number, answer)
+    if answer[1] != 1 {
+        return at;
+    }
+    dropped_line(text, at, number, answer[2], answer[3])
 }
 
-// The line of a call that is no cut: none, unless it is refused.
+// The line of a call that is no cut: none, unless it is refused or tells a dropped record.
 pub fn answer_line(text: &mut [u8], at: usize, number: u64, answer: Answer) -> usize
     requires { ⌜ at + 92 ≤ length (now text) ⌝ }
-    ensures { λ r. ⌜ Puts (now (text .entry)) at (now (text .exit)) r (unlessRefused answer (λ why. refusedLine number (refusal why)) []) ⌝ }
+    ensures { λ r. ⌜ Puts (now (text .entry)) at (now (text .exit)) r (answerLine number answer) ⌝ }
     ensures { λ r. ⌜ r ≤ at + 92 ⌝ }
 {
     let mut told = [0u16; 5];

@@ -6,7 +6,7 @@ ghost use Prim.Native.Nat.{_+_, _-_, _*_, _≤_};
 ghost use lib.Dec.{ltb};
 ghost use Rattle.model.specs.Control.{between};
 ghost use Rattle.model.specs.Program.{word};
-ghost use Rattle.model.specs.Store.{view, event, datum, to, slotAfter, forward, ringWord, empty, room, firstWaiting};
+ghost use Rattle.model.specs.Store.{view, event, datum, to, slotAfter, forward, ringWord, empty, full, room, firstWaiting};
 ghost use Rattle.model.specs.Test.{pick};
 ghost use Rattle.model.specs.Accepted.{Shaped};
 ghost use Rattle.store.specs.Written.{Written};
@@ -72,6 +72,15 @@ pub fn is_empty(store: &[u16]) -> bool
     ensures { λ r. ⌜ r ≡ empty (view (now (store .entry))) ⌝ }
 {
     store[14] == store[15]
+}
+
+// Is the slot after tail head?
+pub fn is_full(store: &[u16]) -> bool
+    requires { ⌜ Shaped (now store) ⌝ }
+    requires { ⌜ word (now store) 15 ≤ word (now store) 3 ⌝ }
+    ensures { λ r. ⌜ r ≡ full (view (now (store .entry))) ⌝ }
+{
+    slot_after(store[3], store[15]) == store[14]
 }
 
 // How many records more the ring takes: none where it is full.

@@ -32,7 +32,7 @@ fn committed_bodies(answer: Answer) -> u32
         Answer::Worked => 0,
         Answer::Stored => 0,
         Answer::Committed(_) => 1,
-        Answer::Accepted => 0,
+        Answer::Accepted(_) => 0,
         Answer::Refused(_) => 0,
     }
 }
@@ -44,6 +44,8 @@ fn burst_length(handler: Handler) -> u32
     match handler {
         Handler::Resting => 0,
         Handler::Storing(length, _) => length as u32,
+        Handler::Dropping => 1,
+        Handler::Replacing(_) => 1,
     }
 }
 
@@ -57,7 +59,7 @@ fn accepted_after(total: u32, handler: Handler, answer: Answer) -> u32
         Answer::Worked => total,
         Answer::Stored => total,
         Answer::Committed(_) => total,
-        Answer::Accepted => more_by(total, burst_length(handler)),
+        Answer::Accepted(_) => more_by(total, burst_length(handler)),
         Answer::Refused(_) => total,
     }
 }

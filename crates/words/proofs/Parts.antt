@@ -15,11 +15,12 @@ use Rattle.model.specs.Program.{word}
 use Rattle.model.specs.Test.{pick, _and_}
 use Rattle.model.specs.declared.Answer.{Answer}
 use Rattle.model.specs.declared.Body.{Body}
+use Rattle.model.specs.declared.Dropped.{Dropped}
 use Rattle.model.specs.declared.Handler.{Handler}
-use Rattle.model.specs.declared.Handler.the-variants.{Resting, Storing}
+use Rattle.model.specs.declared.Handler.the-variants.{Resting, Storing, Dropping, Replacing}
 use Rattle.model.specs.declared.Place.{Place}
 use Rattle.model.specs.declared.Place.the-variants.{Free, Run, Half}
-use Rattle.words.specs.Words.{flag, kind, number, placeWords, handlerWords}
+use Rattle.words.specs.Words.{flag, kind, number, placeWords, handlerWords, acceptedWords}
 use Rattle.words.specs.Words.{bodyOf, placeOf, isPlace, handlerOf, isHandler, isRecord, areRecords, burstOf}
 use Rattle.words.specs.Words.{refusedWords, answerWords}
 
@@ -68,15 +69,18 @@ pub handler-spelt : (h : Handler) (y : List ℕ) → three (λ k n c. k ∷ n �
 unfolding handlerWords
 handler-spelt Resting y = refl
 handler-spelt (Storing n c) y = refl
+handler-spelt Dropping y = refl
+handler-spelt (Replacing c) y = refl
 
 pub answer-spelt : (a : Answer) (y : List ℕ) → five (λ p k n i j. p ∷ k ∷ n ∷ i ∷ j ∷ y) (answerWords a) ≡ answerWords a ++ y
-unfolding answerWords refusedWords
+unfolding answerWords acceptedWords refusedWords
 answer-spelt Answer.Done y = refl
 answer-spelt (Answer.Chosen b) y = refl
 answer-spelt Answer.Worked y = refl
 answer-spelt Answer.Stored y = refl
 answer-spelt (Answer.Committed b) y = refl
-answer-spelt Answer.Accepted y = refl
+answer-spelt (Answer.Accepted Dropped.Nothing) y = refl
+answer-spelt (Answer.Accepted (Dropped.Record e x)) y = refl
 answer-spelt (Answer.Refused e) y = refl
 
 -- ---- on
@@ -170,11 +174,15 @@ pub handler-is : (h : Handler) → three isHandler (handlerWords h) ≡ true
 unfolding isHandler handlerWords pick _and_
 handler-is Resting = refl
 handler-is (Storing n c) = refl
+handler-is Dropping = refl
+handler-is (Replacing c) = refl
 
 pub handler-back : (h : Handler) → three handlerOf (handlerWords h) ≡ h
 unfolding handlerOf handlerWords pick
 handler-back Resting = refl
 handler-back (Storing n c) = refl
+handler-back Dropping = refl
+handler-back (Replacing c) = refl
 
 pub handler-forth : (h n c : ℕ) → isHandler h n c ≡ true → handlerWords (handlerOf h n c) ≡ h ∷ n ∷ c ∷ []
 unfolding isHandler handlerOf handlerWords pick _and_
@@ -186,15 +194,23 @@ handler-forth h n c t = same-or h 0 rests stores
         simp (z, eqb-true n 0 (and-left (eqb n 0) (eqb c 0) u), eqb-true c 0 (and-right (eqb n 0) (eqb c 0) u))
 
     stores : (h ≡ 0 → ⊥) → handlerWords (handlerOf h n c) ≡ h ∷ n ∷ c ∷ []
-    stores z =
-        let u : eqb h 1 ≡ true = simp (ne-eqb h 0 z) at t in
-        simp (eqb-true h 1 u)
+    stores z = same-or h 1 (λ one. simp (one)) (λ no-one. drops no-one (simp (ne-eqb h 0 z, ne-eqb h 1 no-one) at t))
+      where
+        drops : (h ≡ 1 → ⊥) → (eqb n 1 and pick (eqb h 2) (eqb c 0) (eqb h 3)) ≡ true → handlerWords (handlerOf h n c) ≡ h ∷ n ∷ c ∷ []
+        drops no-one u =
+            let length-is = eqb-true n 1 (and-left (eqb n 1) _ u) in
+            let rest = and-right (eqb n 1) _ u in
+            same-or h 2
+            (λ two. let none-made : eqb c 0 ≡ true = simp (eq-eqb h 2 two) at rest in simp (two, length-is, eqb-true c 0 none-made))
+            (λ no-two. let three-is : eqb h 3 ≡ true = simp (ne-eqb h 2 no-two) at rest in simp (eqb-true h 3 three-is, length-is))
 
 -- the length stands in the second word, of a handler at rest 0
 pub handler-length : (h : Handler) → word (handlerWords h) 1 ≡ burstLength h
 unfolding handlerWords burstLength
 handler-length Resting = refl
 handler-length (Storing n c) = refl
+handler-length Dropping = refl
+handler-length (Replacing c) = refl
 
 pub length-read : (h n c : ℕ) → isHandler h n c ≡ true → burstLength (handlerOf h n c) ≡ n
 unfolding handlerWords

@@ -2,7 +2,7 @@
 use Prim.Native.Nat.{ℕ, _*_, _≤_}
 use mathlib.Core.Bool.{Bool, true, false}
 use mathlib.Core.List.{List, _∷_, _++_}
-use mathlib.Core.Path.{_≡_, refl, sym, ap, subst}
+use mathlib.Core.Path.{_≡_, refl, sym, ap, subst, _∙_}
 use lib.Dec.{leb}
 use lib.ListN.{length}
 use Rattle.model.proofs.TestLaws.{and-left, and-right, clash}
@@ -10,6 +10,7 @@ use Rattle.model.specs.Device.{withHandler}
 use Rattle.model.specs.Program.{word}
 use Rattle.model.specs.Test.{pick, _and_}
 use Rattle.model.specs.declared.Device.{Device}
+use Rattle.model.specs.declared.Handler.{Handler}
 use Rattle.words.specs.Words.{Read, flag, placeWords, handlerWords, deviceWords, withBurst}
 use Rattle.words.specs.Words.{isPlace, isHandler, known, unknown, isState, stateOf, deviceOf, HasWords, Back, Forth, Other, SetToWork}
 use Rattle.words.proofs.Parts.{spelt, spelt-all, place-spelt, handler-spelt}
@@ -96,9 +97,20 @@ other w h apart = go (isState w) refl
 
 -- ---- set to work
 
+-- the words with another handler, each written out
+abbrev pub handledWith : List ℕ → List ℕ → List ℕ → List ℕ
+handledWith w handler b = spelt w 0 15 ++ (spelt handler 0 3 ++ spelt b 0 8)
+
+handled-all : (w : List ℕ) (h : Handler) (b : List ℕ) → withBurst w h b ≡ handledWith w (handlerWords h) b
+unfolding withBurst spelt
+handled-all w h b = sym (simp handler-spelt)
+
+pub handled-is : (w : List ℕ) (h : Handler) (words b : List ℕ) → words ≡ handlerWords h → handledWith w words b ≡ withBurst w h b
+handled-is w h words b e = ap (λ (hw : List ℕ). handledWith w hw b) e ∙ sym (handled-all w h b)
+
 pub set-to-work : SetToWork
 unfolding deviceWords withBurst withHandler handlerWords isState stateOf
-set-to-work w n b e =
+set-to-work w h b e =
     let on = leb (word w 0) 1 in
     let place = isPlace (word w 9) (word w 10) (word w 11) (word w 12) (word w 13) in
     let rest = and-right on _ e in

@@ -16,9 +16,10 @@ use Rattle.model.specs.declared.Answer.{Answer}
 use Rattle.model.specs.declared.Body.{Body}
 use Rattle.model.specs.declared.Checked.{Checked}
 use Rattle.model.specs.declared.Device.{Device}
+use Rattle.model.specs.declared.Dropped.{Dropped}
 use Rattle.model.specs.declared.Ended.{Ended}
 use Rattle.model.specs.declared.Handler.{Handler}
-use Rattle.model.specs.declared.Handler.the-variants.{Resting, Storing}
+use Rattle.model.specs.declared.Handler.the-variants.{Resting, Storing, Dropping, Replacing}
 use Rattle.model.specs.declared.Place.{Place}
 use Rattle.model.specs.declared.Place.the-variants.{Free, Run, Half}
 use Rattle.model.specs.declared.Refusal.{Refusal}
@@ -46,10 +47,13 @@ placeWords (Free c) = 0 ∷ 0 ∷ 0 ∷ 0 ∷ c ∷ []
 placeWords (Run b j c) = 1 ∷ kind b ∷ number b ∷ j ∷ c ∷ []
 placeWords (Half b j) = 2 ∷ kind b ∷ number b ∷ j ∷ 0 ∷ []
 
--- words 15 to 17: at rest or at work; the length of its burst; how many of its stores are made
+-- words 15 to 17: at rest, storing, about to drop a record or storing in the place of one that is dropped; the length of its burst; how many of
+-- its burst's stores are made
 unfoldable pub handlerWords : Handler → List ℕ
 handlerWords Resting = 0 ∷ 0 ∷ 0 ∷ []
 handlerWords (Storing n c) = 1 ∷ n ∷ c ∷ []
+handlerWords Dropping = 2 ∷ 1 ∷ 0 ∷ []
+handlerWords (Replacing c) = 3 ∷ 1 ∷ c ∷ []
 
 -- word 0: on; words 1 to 8: the registers; word 14: the log count; words 18 to 25: the burst
 unfoldable pub deviceWords : Device → List ℕ
@@ -59,11 +63,12 @@ deviceWords d =
     (flag (d .on) ∷ word r 0 ∷ word r 1 ∷ word r 2 ∷ word r 3 ∷ word r 4 ∷ word r 5 ∷ word r 6 ∷ word r 7 ∷ placeWords (d .place))
     ++ (d .count ∷ (handlerWords (d .handler) ++ (word b 0 ∷ word b 1 ∷ word b 2 ∷ word b 3 ∷ word b 4 ∷ word b 5 ∷ word b 6 ∷ word b 7 ∷ [])))
 
--- of a device's words w, those with its handler set to work on a burst of n records with the words b: words 15 to 25 become others
-unfoldable pub withBurst : List ℕ → ℕ → List ℕ → List ℕ
-withBurst w n b =
+-- of a device's words w, those with another handler, whose burst has the words b: words 15 to 25 become others
+unfoldable pub withBurst : List ℕ → Handler → List ℕ → List ℕ
+withBurst w handler b =
     (word w 0 ∷ word w 1 ∷ word w 2 ∷ word w 3 ∷ word w 4 ∷ word w 5 ∷ word w 6 ∷ word w 7 ∷ word w 8 ∷ [])
-    ++ (word w 9 ∷ word w 10 ∷ word w 11 ∷ word w 12 ∷ word w 13 ∷ word w 14 ∷ 1 ∷ n ∷ 0 ∷ [])
+    ++ (word w 9 ∷ word w 10 ∷ word w 11 ∷ word w 12 ∷ word w 13 ∷ word w 14 ∷ [])
+    ++ handlerWords handler
     ++ (word b 0 ∷ word b 1 ∷ word b 2 ∷ word b 3 ∷ word b 4 ∷ word b 5 ∷ word b 6 ∷ word b 7 ∷ [])
 
 -- ---- 26 words as a device state
@@ -82,10 +87,10 @@ isPlace p k n j c =
 
 -- the handler of words 15 to 17, and whether they are the words of a handler
 unfoldable pub handlerOf : ℕ → ℕ → ℕ → Handler
-handlerOf h n c = pick (eqb h 0) Resting (Storing n c)
+handlerOf h n c = pick (eqb h 0) Resting (pick (eqb h 1) (Storing n c) (pick (eqb h 2) Dropping (Replacing c)))
 
 unfoldable pub isHandler : ℕ → ℕ → ℕ → Bool
-isHandler h n c = pick (eqb h 0) (eqb n 0 and eqb c 0) (eqb h 1)
+isHandler h n c = pick (eqb h 0) (eqb n 0 and eqb c 0) (pick (eqb h 1) true (eqb n 1 and pick (eqb h 2) (eqb c 0) (eqb h 3)))
 
 -- the two words of record i beside a burst of n records: behind the last one they are 0
 unfoldable pub isRecord : ℕ → ℕ → ℕ → ℕ → Bool
@@ -156,9 +161,9 @@ Other = (w : List ℕ) → length w ≡ 26 → ((d : Device) → HasWords d → 
 
 -- the words of a device state with its handler set to work are that device's
 abbrev pub SetToWork : Type 0
-SetToWork = (w : List ℕ) (n : ℕ) (b : List ℕ) → isState w ≡ true → deviceWords (withHandler (stateOf w) (Storing n 0) b) ≡ withBurst w n b
+SetToWork = (w : List ℕ) (handler : Handler) (b : List ℕ) → isState w ≡ true → deviceWords (withHandler (stateOf w) handler b) ≡ withBurst w handler b
 
--- ---- Answers as 5 words: case, kind of body, number (of the body or of the refusal), place (two words)
+-- ---- Answers as 5 words: case, kind of body, number (of the body or of the refusal), place (two words); an acceptance has its own
 
 -- a case that has a body, and one that has nothing more to say
 abbrev pub bodyAnswer : ℕ → Body → List ℕ
@@ -171,6 +176,11 @@ plainAnswer a = a ∷ 0 ∷ 0 ∷ 0 ∷ 0 ∷ []
 unfoldable pub refusedWords : Refusal → List ℕ
 refusedWords e = 6 ∷ 0 ∷ refusal e .number ∷ refusal e .first ∷ refusal e .second ∷ []
 
+-- an acceptance: whether a record was dropped, and its event and data
+unfoldable pub acceptedWords : Dropped → List ℕ
+acceptedWords Dropped.Nothing = plainAnswer 5
+acceptedWords (Dropped.Record e x) = 5 ∷ 1 ∷ e ∷ x ∷ 0 ∷ []
+
 -- what a call answers
 unfoldable pub answerWords : Answer → List ℕ
 answerWords Answer.Done = plainAnswer 0
@@ -178,7 +188,7 @@ answerWords (Answer.Chosen b) = bodyAnswer 1 b
 answerWords Answer.Worked = plainAnswer 2
 answerWords Answer.Stored = plainAnswer 3
 answerWords (Answer.Committed b) = bodyAnswer 4 b
-answerWords Answer.Accepted = plainAnswer 5
+answerWords (Answer.Accepted dropped) = acceptedWords dropped
 answerWords (Answer.Refused e) = refusedWords e
 
 -- how a run ends: spent, or a refusal as in an answer

@@ -3,12 +3,13 @@
 ghost use mathlib.Core.Path.{_≡_};
 ghost use Rattle.words.specs.Words.{flag, kind, number, placeWords, handlerWords, deviceWords, withBurst};
 ghost use Rattle.words.specs.Words.{bodyOf, placeOf, isPlace, handlerOf, isHandler, isRecord, areRecords, burstOf, isState, stateOf};
-ghost use Rattle.words.specs.Words.{refusedWords, answerWords, endedWords, checkedWords, unknownWords, nothingPostedWords};
+ghost use Rattle.words.specs.Words.{refusedWords, acceptedWords, answerWords, endedWords, checkedWords, unknownWords, nothingPostedWords};
 ghost use Rattle.words.specs.Words.{storedNumber, stepWords, unknownStepWords};
 use model::Answer;
 use model::Body;
 use model::Checked;
 use model::Device;
+use model::Dropped;
 use model::Ended;
 use model::Handler;
 use model::Place;
@@ -61,6 +62,8 @@ fn handler_words(handler: Handler) -> [u16; 3]
     match handler {
         Handler::Resting => [0, 0, 0],
         Handler::Storing(length, made) => [1, length, made],
+        Handler::Dropping => [2, 1, 0],
+        Handler::Replacing(made) => [3, 1, made],
     }
 }
 
@@ -104,10 +107,11 @@ pub fn write_device(words: &mut [u16; 26], device: Device)
     ];
 }
 
-// The words of a device state whose handler is set to work on a burst of so many records: all but words 15 to 25 stay.
-pub fn with_burst(words: &[u16; 26], length: u16, burst: [u16; 8]) -> [u16; 26]
-    ensures { λ r. ⌜ r ≡ withBurst (now (words .entry)) length burst ⌝ }
+// The words of a device state whose handler is set to work on a burst: all but words 15 to 25 stay.
+pub fn with_burst(words: &[u16; 26], handler: Handler, burst: [u16; 8]) -> [u16; 26]
+    ensures { λ r. ⌜ r ≡ withBurst (now (words .entry)) handler burst ⌝ }
 {
+    let work = handler_words(handler);
     [
         words[0],
         words[1],
@@ -124,9 +128,9 @@ pub fn with_burst(words: &[u16; 26], length: u16, burst: [u16; 8]) -> [u16; 26]
         words[12],
         words[13],
         words[14],
-        1,
-        length,
-        0,
+        work[0],
+        work[1],
+        work[2],
         burst[0],
         burst[1],
         burst[2],
@@ -195,7 +199,13 @@ fn handler_of(work: u16, length: u16, made: u16) -> Handler
     if work == 0 {
         return Handler::Resting;
     }
-    Handler::Storing(length, made)
+    if work == 1 {
+        return Handler::Storing(length, made);
+    }
+    if work == 2 {
+        return Handler::Dropping;
+    }
+    Handler::Replacing(made)
 }
 
 fn is_handler(work: u16, length: u16, made: u16) -> bool
@@ -207,7 +217,16 @@ fn is_handler(work: u16, length: u16, made: u16) -> bool
         }
         return made == 0;
     }
-    work == 1
+    if work == 1 {
+        return true;
+    }
+    if length != 1 {
+        return false;
+    }
+    if work == 2 {
+        return made == 0;
+    }
+    work == 3
 }
 
 // The two words of a record beside a burst of so many: behind the last one they are 0.
@@ -325,6 +344,16 @@ fn refused_words(why: Refusal) -> [u16; 5]
     }
 }
 
+// An acceptance: case 5, with the record that was dropped.
+fn accepted_words(dropped: Dropped) -> [u16; 5]
+    ensures { λ r. ⌜ r ≡ acceptedWords dropped ⌝ }
+{
+    match dropped {
+        Dropped::Nothing => [5, 0, 0, 0, 0],
+        Dropped::Record(event, datum) => [5, 1, event, datum, 0],
+    }
+}
+
 // An answer of each case.
 fn answer_words(answer: Answer) -> [u16; 5]
     ensures { λ r. ⌜ r ≡ answerWords answer ⌝ }
@@ -335,7 +364,7 @@ fn answer_words(answer: Answer) -> [u16; 5]
         Answer::Worked => [2, 0, 0, 0, 0],
         Answer::Stored => [3, 0, 0, 0, 0],
         Answer::Committed(body) => [4, kind(body), number(body), 0, 0],
-        Answer::Accepted => [5, 0, 0, 0, 0],
+        Answer::Accepted(dropped) => accepted_words(dropped),
         Answer::Refused(why) => refused_words(why),
     }
 }

@@ -22,7 +22,7 @@ post-in-requires : tie.Need-post-in-requires
 post-in-requires c κs = search needs
 
 returns : tie.Need-returns
-returns c = c .before .post-in .ensures ∙ ap (λ (p : List ℕ). furtherPost p (replicate 25 0) 3) (c .before .before .before .before .counting .ensures) ∙ cases .further
+returns c = c .before .post-in .ensures ∙ ap (λ (p : List ℕ). furtherPost p (replicate 25 0) 4) (c .before .before .before .before .counting .ensures) ∙ cases .further
 
 pub further-post-spec : {M : Type 1} → statement M
 further-post-spec =

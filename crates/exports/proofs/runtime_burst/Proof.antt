@@ -3,12 +3,15 @@ use Prim.Native.Nat.{ℕ}
 use mathlib.Core.List.{List}
 use mathlib.Core.Path.{refl, sym, ap, _∙_}
 use denote.Ref.{now}
-use Rattle.device.proofs.Bursts.{posted-few}
+use Rattle.device.proofs.Bursts.{posted-few, posted-ring}
 use Rattle.exports.proofs.OnDevice.{state-read, none-read}
 use Rattle.exports.proofs.Told.{told-posted, told-refused}
 use Rattle.model.proofs.BurstLaws.{carried-length}
 use Rattle.model.proofs.TestLaws.{passed}
 use Rattle.model.specs.Burst.{carried, burstWords}
+use Rattle.model.specs.Device.{setToWork}
+use Rattle.model.specs.Store.{view}
+use Rattle.model.specs.declared.Handler.{Handler}
 use Rattle.words.specs.Words.{checkedWords, withBurst}
 use borrow.Author.Needs.{needs}
 use Rattle.exports.proofs.runtime_burst.Statement.{statement}
@@ -38,6 +41,9 @@ enum-told c = search needs
 words-requires : tie.Need-words-requires
 words-requires c κs = posted-few (now (c .before .before .before .before .before .before .before .before .before .before .before .before .args .program)) (now (c .before .before .before .before .before .before .before .before .before .before .before .before .args .store)) _ (now (c .before .before .before .before .before .before .before .before .before .before .before .before .args .burst)) (c .before .before .before .before .before .before .before .before .before .before .before .before .args .count) (sym (c .before .before .before .before .post-check .ensures) ∙ c .enum-told .given .1)
 
+set-to-work-requires : tie.Need-set-to-work-requires
+set-to-work-requires c κs = posted-ring (now (c .before .before .before .before .before .before .before .before .before .before .before .before .before .args .program)) (now (c .before .before .before .before .before .before .before .before .before .before .before .before .before .args .store)) _ _ (sym (c .before .before .before .before .before .post-check .ensures) ∙ c .before .enum-told .given .1)
+
 with-burst-requires : tie.Need-with-burst-requires
 with-burst-requires c κs = search needs
 
@@ -49,20 +55,22 @@ write-device-requires c κs = search needs
 
 returns-2 : tie.Need-returns-2
 returns-2 c =
-    let a = c .before .before .before .before .before .before .before .before .before .before .before .before .before .before .before .args in
-    let rs = carried (now (a .burst)) (a .count) in
-    state-read (now (a .device)) _ _ (c .before .before .before .before .before .before .before .before .before .before .before .is-state .ensures) (c .before .before .before .before .before .before .before .before .before .before .if1 .left) (c .before .before .before .before .before .before .before .before .state-of .ensures)
-    (told-posted (now (a .program)) (now (a .store)) (now (a .device)) rs (c .before .before .before .before .before .before .before .before .state-of .ensures)
-    (passed (c .before .before .before .before .before .before .before .before .before .before .before .is-state .ensures) (c .before .before .before .before .before .before .before .before .before .before .if1 .left))
-    (sym (c .before .before .before .before .before .before .before .post-check .ensures) ∙ c .before .before .before .enum-told .given .1)
-    (c .before .before .before .before .before .write-checked .ensures ∙ ap checkedWords (c .before .before .before .enum-told .given .1))
-    (c .with-burst .ensures ∙ ap (λ (b : List ℕ). withBurst (now (a .device)) (a .count) b) (c .before .before .words .ensures) ∙ ap (λ (n : ℕ). withBurst (now (a .device)) n (burstWords rs)) (sym (carried-length (now (a .burst)) 0 (a .count)))))
+    let w = now (c .before .before .before .before .before .before .before .before .before .before .before .before .before .before .before .before .args .device) in
+    let s = now (c .before .before .before .before .before .before .before .before .before .before .before .before .before .before .before .before .args .store) in
+    let rs = carried (now (c .before .before .before .before .before .before .before .before .before .before .before .before .before .before .before .before .args .burst)) (c .before .before .before .before .before .before .before .before .before .before .before .before .before .before .before .before .args .count) in
+    state-read w _ _ (c .before .before .before .before .before .before .before .before .before .before .before .before .is-state .ensures) (c .before .before .before .before .before .before .before .before .before .before .before .if1 .left) (c .before .before .before .before .before .before .before .before .before .state-of .ensures)
+    (told-posted (now (c .before .before .before .before .before .before .before .before .before .before .before .before .before .before .before .before .args .program)) s w rs (c .before .before .before .before .before .before .before .before .before .state-of .ensures) (passed (c .before .before .before .before .before .before .before .before .before .before .before .before .is-state .ensures) (c .before .before .before .before .before .before .before .before .before .before .before .if1 .left)) (sym (c .before .before .before .before .before .before .before .before .post-check .ensures) ∙ c .before .before .before .before .enum-told .given .1)
+    (c .before .before .before .before .before .before .write-checked .ensures ∙ ap checkedWords (c .before .before .before .before .enum-told .given .1))
+    (c .with-burst .ensures
+    ∙ ap (λ (b : List ℕ). withBurst w (c .before .before .set-to-work .result) b) (c .before .before .before .words .ensures)
+    ∙ ap (λ (h : Handler). withBurst w h (burstWords rs)) (c .before .before .set-to-work .ensures)
+    ∙ ap (λ (n : ℕ). withBurst w (setToWork (view s) n) (burstWords rs)) (sym (carried-length (now (c .before .before .before .before .before .before .before .before .before .before .before .before .before .before .before .before .args .burst)) 0 (c .before .before .before .before .before .before .before .before .before .before .before .before .before .before .before .before .args .count)))))
 
 returns-3 : tie.Need-returns-3
 returns-3 c =
-    let a = c .before .before .before .before .before .before .before .before .before .before .before .before .before .before .args in
-    state-read (now (a .device)) _ _ (c .before .before .before .before .before .before .before .before .before .before .is-state .ensures) (c .before .before .before .before .before .before .before .before .before .if1 .left) (c .before .before .before .before .before .before .before .state-of .ensures)
-    (told-refused (now (a .program)) (now (a .store)) (now (a .device)) (carried (now (a .burst)) (a .count)) (c .before .before .before .before .before .before .before .state-of .ensures)
+    let w = now (c .before .before .before .before .before .before .before .before .before .before .before .before .before .before .args .device) in
+    state-read w _ _ (c .before .before .before .before .before .before .before .before .before .before .is-state .ensures) (c .before .before .before .before .before .before .before .before .before .if1 .left) (c .before .before .before .before .before .before .before .state-of .ensures)
+    (told-refused (now (c .before .before .before .before .before .before .before .before .before .before .before .before .before .before .args .program)) (now (c .before .before .before .before .before .before .before .before .before .before .before .before .before .before .args .store)) w (carried (now (c .before .before .before .before .before .before .before .before .before .before .before .before .before .before .args .burst)) (c .before .before .before .before .before .before .before .before .before .before .before .before .before .before .args .count)) (c .before .before .before .before .before .before .before .state-of .ensures)
     (sym (c .before .before .before .before .before .before .post-check .ensures) ∙ c .before .before .enum-told2 .given .1)
     (c .before .before .before .before .write-checked .ensures ∙ ap checkedWords (c .before .before .enum-told2 .given .1))
     (c .write-device .ensures))
@@ -79,6 +87,7 @@ runtime-burst-spec =
     write-checked-requires
     enum-told
     words-requires
+    set-to-work-requires
     with-burst-requires
     enum-told-2
     write-device-requires

@@ -4,7 +4,6 @@ use native.Mathlib.Omega.{arith}
 use Rattle.device.specs.Result.{deviceWith}
 use Rattle.model.specs.Device.{withHandler}
 use Rattle.model.specs.Store.{view, settled, storedWord, index}
-use Rattle.model.specs.declared.Handler.the-variants.{Storing}
 use Rattle.steps.proofs.Handling.{word-stored, tail-stored}
 use borrow.Author.Needs.{needs}
 use Rattle.steps.proofs.handler_step.Statement.{statement}
@@ -25,9 +24,6 @@ element-copy-out-value c = search needs
 write-ahead-requires : tie.Need-write-ahead-requires
 write-ahead-requires c κs = search needs
 
-add-t16 : tie.Need-add-t16
-add-t16 c = search needs
-
 handler-result-requires : tie.Need-handler-result-requires
 handler-result-requires c κs = search needs
 
@@ -35,8 +31,8 @@ same-length : tie.Need-same-length
 same-length c = search needs
 
 returns : tie.Need-returns
-unfolding withHandler
-returns c = (λ r. simp (word-stored (view (c .before .before .before .before .before .before .before .before .before .args .store .now)) (deviceWith (c .before .before .before .before .before .before .before .before .before .args .core) r (Storing (c .before .before .before .before .before .before .before .before .before .args .length) (c .before .before .before .before .before .before .before .before .before .args .made)) (c .before .before .before .before .before .before .before .before .before .args .burst .now)) (c .before .before .before .before .before .before .before .before .before .args .length) (c .before .before .before .before .before .before .before .before .before .args .made) (c .before .before .before .before .before .before .if1 .taken), c .handler-result .ensures, c .before .before .before .write-ahead .ensures .store, c .before .before .before .write-ahead .ensures .stored), c .before .before .before .before .before .before .before .before .before .pre .1 .1 .1)
+unfolding withHandler settled storedWord index
+returns c = (λ r h. simp (word-stored (view (c .before .before .before .before .before .before .before .before .before .args .store .now)) (deviceWith (c .before .before .before .before .before .before .before .before .before .args .core) r h (c .before .before .before .before .before .before .before .before .before .args .burst .now)) (c .before .before .before .before .before .before .before .before .before .args .length) (c .before .before .before .before .before .before .before .before .before .args .made) (c .before .before .before .before .before .before .before .before .before .args .later) (c .before .before .before .before .before .before .before .before .before .args .dropped) (c .before .before .before .before .before .before .if1 .taken), c .handler-result .ensures, c .before .before .before .write-ahead .ensures .store, c .before .before .before .write-ahead .ensures .stored), c .before .before .before .before .before .before .before .before .before .pre .1 .1 .1)
 
 slice-read-forward : tie.Need-slice-read-forward
 slice-read-forward c = search needs
@@ -55,7 +51,7 @@ same-length-2 c = search needs
 
 returns-2 : tie.Need-returns-2
 unfolding withHandler settled storedWord index
-returns-2 c = (λ r. simp (tail-stored (view (c .before .before .before .before .before .before .before .args .store .now)) (deviceWith (c .before .before .before .before .before .before .before .args .core) r (Storing (c .before .before .before .before .before .before .before .args .length) (c .before .before .before .before .before .before .before .args .made)) (c .before .before .before .before .before .before .before .args .burst .now)) (c .before .before .before .before .before .before .before .args .length) (c .before .before .before .before .before .before .before .args .made) (omega (arith, c .before .before .before .before .if1 .left, c .before .before .before .before .before .before .before .pre .1 .1 .0)), c .handler-result2 .ensures, c .before .before .forward .ensures), refl)
+returns-2 c = (λ r h. simp (tail-stored (view (c .before .before .before .before .before .before .before .args .store .now)) (deviceWith (c .before .before .before .before .before .before .before .args .core) r h (c .before .before .before .before .before .before .before .args .burst .now)) (c .before .before .before .before .before .before .before .args .length) (c .before .before .before .before .before .before .before .args .made) (c .before .before .before .before .before .before .before .args .later) (c .before .before .before .before .before .before .before .args .dropped) (omega (arith, c .before .before .before .before .if1 .left, c .before .before .before .before .before .before .before .pre .1 .1 .0)), c .handler-result2 .ensures, c .before .before .forward .ensures), refl)
 
 pub handler-step-spec : {M : Type 1} → statement M
 handler-step-spec =
@@ -66,7 +62,6 @@ handler-step-spec =
     mul-value
     element-copy-out-value
     write-ahead-requires
-    add-t16
     handler-result-requires
     same-length
     returns

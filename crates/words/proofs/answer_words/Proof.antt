@@ -31,11 +31,14 @@ kind-requires-2 c κs = search needs
 number-requires-2 : tie.Need-number-requires-2
 number-requires-2 c κs = search needs
 
-enum-told-4 : tie.Need-enum-told-4
-enum-told-4 c = search needs
-
 enum-known-answer-3 : tie.Need-enum-known-answer-3
 enum-known-answer-3 c = search needs
+
+accepted-words-requires : tie.Need-accepted-words-requires
+accepted-words-requires c κs = search needs
+
+enum-known-answer-4 : tie.Need-enum-known-answer-4
+enum-known-answer-4 c = search needs
 
 refused-words-requires : tie.Need-refused-words-requires
 refused-words-requires c κs = search needs
@@ -62,11 +65,11 @@ returns-5 c = simp (c .before .before .before .answer2 .given .1, c .before .kin
 
 returns-6 : tie.Need-returns-6
 unfolding answerWords
-returns-6 c = simp (c .enum-told4 .given .1)
+returns-6 c = simp (c .before .before .answer3 .given .1, c .accepted-words .ensures)
 
 returns-7 : tie.Need-returns-7
 unfolding answerWords
-returns-7 c = simp (c .before .before .answer3 .given .1, c .refused-words .ensures)
+returns-7 c = simp (c .before .before .answer4 .given .1, c .refused-words .ensures)
 
 pub answer-words-spec : {M : Type 1} → statement M
 answer-words-spec =
@@ -81,8 +84,9 @@ answer-words-spec =
     enum-known-answer-2
     kind-requires-2
     number-requires-2
-    enum-told-4
     enum-known-answer-3
+    accepted-words-requires
+    enum-known-answer-4
     refused-words-requires
     returns
     returns-2

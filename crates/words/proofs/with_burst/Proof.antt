@@ -1,108 +1,124 @@
 -- `words::with_burst` meets its contract: word by word. Assumes nothing.
-use mathlib.Core.Path.{refl}
-use Rattle.words.specs.Words.{withBurst}
+use Rattle.words.proofs.Parts.{spelt}
+use Rattle.words.proofs.Words.{handled-is}
 use borrow.Author.Needs.{needs}
 use Rattle.words.proofs.with_burst.Statement.{statement}
 use Rattle.words.proofs.with_burst.Tie as tie
 
-element-copy-out-t7 : tie.Need-element-copy-out-t7
-element-copy-out-t7 c = search needs
+handler-words-requires : tie.Need-handler-words-requires
+handler-words-requires c κs = search needs
 
-element-copy-out-t10 : tie.Need-element-copy-out-t10
-element-copy-out-t10 c = search needs
+element-copy-out-t9 : tie.Need-element-copy-out-t9
+element-copy-out-t9 c = search needs
 
-element-copy-out-t13 : tie.Need-element-copy-out-t13
-element-copy-out-t13 c = search needs
+element-copy-out-t12 : tie.Need-element-copy-out-t12
+element-copy-out-t12 c = search needs
 
-element-copy-out-t16 : tie.Need-element-copy-out-t16
-element-copy-out-t16 c = search needs
+element-copy-out-t15 : tie.Need-element-copy-out-t15
+element-copy-out-t15 c = search needs
 
-element-copy-out-t19 : tie.Need-element-copy-out-t19
-element-copy-out-t19 c = search needs
+element-copy-out-t18 : tie.Need-element-copy-out-t18
+element-copy-out-t18 c = search needs
 
-element-copy-out-t22 : tie.Need-element-copy-out-t22
-element-copy-out-t22 c = search needs
+element-copy-out-t21 : tie.Need-element-copy-out-t21
+element-copy-out-t21 c = search needs
 
-element-copy-out-t25 : tie.Need-element-copy-out-t25
-element-copy-out-t25 c = search needs
+element-copy-out-t24 : tie.Need-element-copy-out-t24
+element-copy-out-t24 c = search needs
 
-element-copy-out-t28 : tie.Need-element-copy-out-t28
-element-copy-out-t28 c = search needs
+element-copy-out-t27 : tie.Need-element-copy-out-t27
+element-copy-out-t27 c = search needs
 
-element-copy-out-t31 : tie.Need-element-copy-out-t31
-element-copy-out-t31 c = search needs
+element-copy-out-t30 : tie.Need-element-copy-out-t30
+element-copy-out-t30 c = search needs
 
-element-copy-out-t34 : tie.Need-element-copy-out-t34
-element-copy-out-t34 c = search needs
+element-copy-out-t33 : tie.Need-element-copy-out-t33
+element-copy-out-t33 c = search needs
 
-element-copy-out-t37 : tie.Need-element-copy-out-t37
-element-copy-out-t37 c = search needs
+element-copy-out-t36 : tie.Need-element-copy-out-t36
+element-copy-out-t36 c = search needs
 
-element-copy-out-t40 : tie.Need-element-copy-out-t40
-element-copy-out-t40 c = search needs
+element-copy-out-t39 : tie.Need-element-copy-out-t39
+element-copy-out-t39 c = search needs
 
-element-copy-out-t43 : tie.Need-element-copy-out-t43
-element-copy-out-t43 c = search needs
+element-copy-out-t42 : tie.Need-element-copy-out-t42
+element-copy-out-t42 c = search needs
 
-element-copy-out-t46 : tie.Need-element-copy-out-t46
-element-copy-out-t46 c = search needs
+element-copy-out-t45 : tie.Need-element-copy-out-t45
+element-copy-out-t45 c = search needs
 
-element-copy-out-t49 : tie.Need-element-copy-out-t49
-element-copy-out-t49 c = search needs
+element-copy-out-t48 : tie.Need-element-copy-out-t48
+element-copy-out-t48 c = search needs
 
-array-read-t52 : tie.Need-array-read-t52
-array-read-t52 c = search needs
+element-copy-out-t51 : tie.Need-element-copy-out-t51
+element-copy-out-t51 c = search needs
 
-array-read-t55 : tie.Need-array-read-t55
-array-read-t55 c = search needs
+array-read-t54 : tie.Need-array-read-t54
+array-read-t54 c = search needs
 
-array-read-t58 : tie.Need-array-read-t58
-array-read-t58 c = search needs
+array-read-t57 : tie.Need-array-read-t57
+array-read-t57 c = search needs
 
-array-read-t61 : tie.Need-array-read-t61
-array-read-t61 c = search needs
+array-read-t60 : tie.Need-array-read-t60
+array-read-t60 c = search needs
 
-array-read-t64 : tie.Need-array-read-t64
-array-read-t64 c = search needs
+array-read-t63 : tie.Need-array-read-t63
+array-read-t63 c = search needs
 
-array-read-t67 : tie.Need-array-read-t67
-array-read-t67 c = search needs
+array-read-t66 : tie.Need-array-read-t66
+array-read-t66 c = search needs
 
-array-read-t70 : tie.Need-array-read-t70
-array-read-t70 c = search needs
+array-read-t69 : tie.Need-array-read-t69
+array-read-t69 c = search needs
 
-array-read-t73 : tie.Need-array-read-t73
-array-read-t73 c = search needs
+array-read-t72 : tie.Need-array-read-t72
+array-read-t72 c = search needs
+
+array-read-t75 : tie.Need-array-read-t75
+array-read-t75 c = search needs
+
+array-read-t78 : tie.Need-array-read-t78
+array-read-t78 c = search needs
+
+array-read-t81 : tie.Need-array-read-t81
+array-read-t81 c = search needs
+
+array-read-t84 : tie.Need-array-read-t84
+array-read-t84 c = search needs
 
 returns : tie.Need-returns
-unfolding withBurst
-returns c = refl
+unfolding spelt
+returns c = handled-is _ _ _ _ (c .before .before .before .before .before .before .before .before .before .before .before .before .before .before .before .handler-words .ensures)
 
 pub with-burst-spec : {M : Type 1} → statement M
 with-burst-spec =
     tie.close
     (tie.spec
-    element-copy-out-t7
-    element-copy-out-t10
-    element-copy-out-t13
-    element-copy-out-t16
-    element-copy-out-t19
-    element-copy-out-t22
-    element-copy-out-t25
-    element-copy-out-t28
-    element-copy-out-t31
-    element-copy-out-t34
-    element-copy-out-t37
-    element-copy-out-t40
-    element-copy-out-t43
-    element-copy-out-t46
-    element-copy-out-t49
-    array-read-t52
-    array-read-t55
-    array-read-t58
-    array-read-t61
-    array-read-t64
-    array-read-t67
-    array-read-t70
-    array-read-t73
+    handler-words-requires
+    element-copy-out-t9
+    element-copy-out-t12
+    element-copy-out-t15
+    element-copy-out-t18
+    element-copy-out-t21
+    element-copy-out-t24
+    element-copy-out-t27
+    element-copy-out-t30
+    element-copy-out-t33
+    element-copy-out-t36
+    element-copy-out-t39
+    element-copy-out-t42
+    element-copy-out-t45
+    element-copy-out-t48
+    element-copy-out-t51
+    array-read-t54
+    array-read-t57
+    array-read-t60
+    array-read-t63
+    array-read-t66
+    array-read-t69
+    array-read-t72
+    array-read-t75
+    array-read-t78
+    array-read-t81
+    array-read-t84
     returns)
