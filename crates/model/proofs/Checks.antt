@@ -9,17 +9,17 @@ use native.Mathlib.Omega.{arith}
 use borrow.Author.Tests.{lt-ltb, le-ltb, le-leb, eq-eqb, ne-eqb}
 use lib.Dec.{ltb, leb, eqb}
 use lib.ListN.{length}
-use Rattle.model.proofs.Invariant.{Handles, HeldAt, StillAt, CopyingAt, ChosenAt, EndingAt, HalfSaved, BodyAt, Placed, Begins, Resumes, On, HandlesAt, AtWork}
+use Rattle.model.proofs.Invariant.{HeldAt, StillAt, CopyingAt, ChosenAt, EndingAt, HalfSaved, BodyAt, Placed, Begins, Resumes, On, HandlesAt, AtWork}
 use Rattle.model.proofs.Kept.{chosen-begins, known-waiting, first-head, first-pending, lasting-in, task-last-is, event-last-is}
 use Rattle.model.proofs.LogLaws.{addr}
 use Rattle.model.proofs.BurstLaws.{burst-passes, known-passes, may-drop}
 use Rattle.model.proofs.RingLaws.{Between, between-is, between-first}
 use Rattle.model.proofs.TestLaws.{pick-case, pick-true, pick-false, below-or, and-true, or-true-left, or-true-right, not-false, must-true, then-passed, and-false}
+use Rattle.model.proofs.RuleLaws.{obey-kept, obey-unasked, obey-append, obey-upTo, obey-early}
 use Rattle.model.specs.Accepted.{LegalEffect, Sound}
 use Rattle.model.specs.Burst.{carried}
 use Rattle.model.specs.Control.{obey, obeyAll, upTo, phaseRule, taskRule, openRule, openServing, countRule, pendingTaskRule, headRule, tailRule, pendingHeadRule, pendingMoveRule, pendingOpenRule, begunRule, begunEventRule, addressRule, between, recordRule, controlRules, rules, earlyRules}
 use Rattle.model.specs.Device.{taskStores, eventStores, eligible, mayRun, endStores, placeSound, recordsSound, zeros, handlerSound, deviceSound, recordSound, headSound, namedRow, openSound, headIs, ends, saves, placeFits, bodySound}
-use Rattle.model.proofs.RuleLaws.{obey-kept, obey-unasked, obey-append, obey-upTo, obey-early}
 use Rattle.model.specs.Program.{tasks, events, memoryWords, instructions, transaction, bodyNumber, effectAt}
 use Rattle.model.specs.Serial.{Serial}
 use Rattle.model.specs.Store.{Store, event, slotAfter, firstWaiting, distance, room, Task, Write, Record}

@@ -1,6 +1,6 @@
 -- What a call does to the handler and its burst, and so to the burst on its way (specs/AllOrNone.antt), for all words and device states.
 -- Assumes nothing.
-use Prim.Native.Nat.{ℕ, _+_, _≤_}
+use Prim.Native.Nat.{ℕ, _≤_}
 use mathlib.Core.Path.{_≡_, refl, sym, ap, _∙_}
 use mathlib.Core.Bool.{true, false}
 use mathlib.Core.List.{List, []}

@@ -27,7 +27,7 @@ use Rattle.model.specs.Serial.{Serial, PostState, given, noPost, withRec
 use Rattle.model.specs.Store.{Store, address, value, event, logAt, Record, slotAfter, forward, distance, firstWaiting, slot, Phase, Task, Open, Head, Tail, Begun, Memory, Write, none, to}
 use Rattle.model.specs.Test.{pick}
 use Rattle.model.specs.Turns.{begunAfter, InTurn}
-use Rattle.model.specs.Types.{Answer, Body, Checked, Device, Dropped, Free, Half, Handler, Place, Refusal, Resting, Run, Storing}
+use Rattle.model.specs.Types.{Answer, Body, Checked, Device, Dropped, Free, Half, Handler, Place, Refusal, Resting, Run}
 
 -- a store to a word that is there
 abbrev pub InsideOf : List ℕ → Store → Write → Type 0

@@ -12,7 +12,7 @@ use borrow.Author.Tests.{lt-ltb, eqb-true, eqb-false, eq-eqb, ltb-true, not-true
 use lib.Dec.{eqb}
 use lib.ListN.{length, set}
 use lib.Seq.{getD-set-other, getD-set-same}
-use Rattle.model.proofs.Invariant.{Lengths, Waiting, Handles, HeldAt, StillAt, Copying, ChosenAt, Running, EndingAt, HalfSaved, On, Inv, HandlesAt, isDropping}
+use Rattle.model.proofs.Invariant.{Lengths, Waiting, HeldAt, StillAt, Copying, ChosenAt, Running, EndingAt, HalfSaved, On, Inv, HandlesAt, isDropping}
 use Rattle.model.proofs.Kept.{Kept, refused-kept, stored-kept, begun-nothing, begun-committing, begun-chosen, copies-left, running-later, known-waiting, first-head, first-pending, unmarked-of, unchanged-is, rests-on}
 use Rattle.model.proofs.LogLaws.{addr, overlay, overlay-zero, overlay-other, overlay-elsewhere, overlay-pair, overlay-overwrite, overlay-append, Distinct, find-pair, find-nothing}
 use Rattle.model.proofs.RingLaws.{slot-after-le, distance-none, between-first, records-head}

@@ -6,13 +6,15 @@ use mathlib.Core.Bool.{Bool, true, false}
 use mathlib.Core.List.{List}
 use mathlib.Core.Option.{Option}
 use native.Mathlib.Omega.{arith}
+use borrow.Author.Tests.{eqb-true, eq-eqb, ne-eqb, leb-true}
 use lib.Dec.{eqb, leb}
 use lib.ListN.{length}
 use Rattle.model.proofs.BurstLaws.{carried-back, may-drop-is}
 use Rattle.model.proofs.Checks.{body-sound, run-fits, half-fits}
-use Rattle.model.proofs.Invariant.{Lengths, Handles, HeldAt, CopyingAt, TaskCommitAt, EventCommitAt, Placed, Resumes, On, Inv, HandlesAt, isDropping, afterTail}
+use Rattle.model.proofs.Invariant.{Lengths, HeldAt, CopyingAt, TaskCommitAt, EventCommitAt, Placed, Resumes, On, Inv, HandlesAt, isDropping, afterTail}
 use Rattle.model.proofs.Kept.{Kept, begun-nothing, begun-committing, begun-task, begun-event, chosen-begins, placed-queue, handler-kept, copies-left, commit-kept, first-head, room-first}
 use Rattle.model.proofs.KeptBody.{begins, task-in, event-in, choose-kept, act-kept, rest-kept}
+use Rattle.model.proofs.KeptDrop.{drop-kept}
 use Rattle.model.proofs.LogLaws.{overlay, overlay-zero, overlay-again}
 use Rattle.model.proofs.RingLaws.{record-stores, records-length, full-is-no-room, RecordStore, queueAfter, slot-after-apart, slot-stays, distance-le}
 use Rattle.model.proofs.StoreLaws.{apply}
@@ -27,8 +29,6 @@ use Rattle.model.specs.Store.{Store, Record, event, datum, none, room, d
 use Rattle.model.specs.Test.{pick}
 use Rattle.model.specs.Turns.{begunAfter}
 use Rattle.model.specs.Types.{Answer, Body, Device, Free, Half, Handler, Place, Resting, Run, Storing, Dropping, Dropped, Replacing}
-use borrow.Author.Tests.{eqb-true, eq-eqb, ne-eqb, leb-true}
-use Rattle.model.proofs.KeptDrop.{drop-kept}
 
 -- ---- a step, past its early checks
 

@@ -1,16 +1,15 @@
 -- A handler about to drop stores head: the invariant is kept, and the serial run drops its oldest record. Assumes nothing.
-use Prim.Native.Nat.{ℕ, suc, _+_, _≤_, _<_}
+use Prim.Native.Nat.{ℕ, suc, _+_, _<_}
 use mathlib.Core.Path.{_≡_, refl, sym, ap, subst, _∙_}
-use mathlib.Core.Logic.{_⊎_, inl, inr, _≢_}
+use mathlib.Core.Logic.{inl, inr, _≢_}
 use mathlib.Core.Bool.{true, false}
 use mathlib.Core.List.{List, [], _∷_, _++_}
 use mathlib.Core.Option.{Option, some}
 use native.Mathlib.Omega.{arith}
 use borrow.Author.Tests.{lt-ltb, ne-eqb}
 use lib.Dec.{eqb}
-use lib.ListN.{length}
 use Rattle.model.proofs.FirstStores.{first-as}
-use Rattle.model.proofs.Invariant.{Controls, controls, Has, Lasting, Ending, Waiting, AtWork, droppedAt, On, Placed}
+use Rattle.model.proofs.Invariant.{controls, Lasting, Ending, Waiting, AtWork, droppedAt, On, Placed}
 use Rattle.model.proofs.Kept.{Kept, known-waiting, first-head, running-later}
 use Rattle.model.proofs.RingLaws.{slot-after-le, distance-le, distance-head, records-head, between-first}
 use Rattle.model.proofs.StoreLaws.{apply}
@@ -18,13 +17,13 @@ use Rattle.model.proofs.TestLaws.{pick-true, pick-false, must-true}
 use Rattle.model.specs.Accepted.{Sound, LegalEffect, Known, MayDrop}
 use Rattle.model.specs.Burst.{carried, recordsAt}
 use Rattle.model.specs.Calls.{Step}
-use Rattle.model.specs.Device.{out, judged, withHandler, recordStores, taskStores, eventStores, taskLastStores, kindOf, begunOf, recordSound, dropStep}
+use Rattle.model.specs.Device.{judged, withHandler, recordStores, taskStores, eventStores, taskLastStores, kindOf, begunOf, recordSound, dropStep}
 use Rattle.model.specs.Program.{tasks, bodyNumber, effectAt}
 use Rattle.model.specs.Serial.{Serial, PostState, withRecords, dropOldest, afterStored, tell}
-use Rattle.model.specs.Store.{Store, Record, Head, Write, to, slotAfter, slot, recordsFrom, distance, firstWaiting}
+use Rattle.model.specs.Store.{Store, Record, Head, to, slotAfter, slot, recordsFrom, distance, firstWaiting}
 use Rattle.model.specs.Test.{pick}
 use Rattle.model.specs.Turns.{begunAfter}
-use Rattle.model.specs.Types.{Answer, Body, Checked, Device, Dropped, Effect, Free, Half, Place, Replacing, Run}
+use Rattle.model.specs.Types.{Body, Checked, Device, Dropped, Effect, Free, Half, Place, Replacing, Run}
 
 module _ (p : List ℕ) (sound : Sound p) (v : Store) (d : Device) (z : Serial) (k : ℕ) (i : On p v d z k)
     (m : MayDrop p (v .queueRecords) (v .phase) (v .head) (v .tail) (v .begun) (carried (d .burst) 1)) (some-record : v .head ≢ v .tail)

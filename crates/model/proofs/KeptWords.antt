@@ -6,9 +6,7 @@ use mathlib.Core.Logic.{inl, inr}
 use mathlib.Core.Bool.{Bool, true, false, not}
 use mathlib.Core.List.{List}
 use mathlib.Core.Option.{some}
-use borrow.Author.Tests.{leb-true}
 use native.Mathlib.Omega.{arith}
-use lib.Dec.{leb}
 use lib.ListN.{length}
 use Rattle.model.proofs.BurstLaws.{burst-passed, EventsFound, all-known, bad-event, events-found}
 use Rattle.model.proofs.Checks.{rules-obeyed, early-obeyed, device-sound}
@@ -17,6 +15,7 @@ use Rattle.model.proofs.Kept.{Kept, refused-kept, InsideOf, TellsDroppe
 use Rattle.model.proofs.KeptCalls.{held-of, resumes-of, turned-off-kept, turned-on-kept, next-kept, posted-kept}
 use Rattle.model.proofs.StoreLaws.{viewAt, apply, Sized, view-is, view-settled, settled-sized, lengths-are, rule-kept}
 use Rattle.model.proofs.TestLaws.{clash, must-true, then-skip}
+use Rattle.model.proofs.Passed.{store-passed}
 use Rattle.model.specs.Accepted.{Sound, Known}
 use Rattle.model.specs.Answer.{refusal}
 use Rattle.model.specs.Burst.{isBurst, burstWords, eventsRule}
@@ -26,11 +25,10 @@ use Rattle.model.specs.Control.{obeyAll, rules, earlyRules}
 use Rattle.model.specs.Device.{Outcome, out, refuse, judged, fresh, withHandler, atRest, zeros, isFresh, deviceSound, look, begunOf, takenUp, bootCheck, boot, cut, postCheck, post, nextStep, step, setToWork, takes}
 use Rattle.model.specs.Program.{memoryWords}
 use Rattle.model.specs.Serial.{Serial, given, tell, afterDone}
-use Rattle.model.specs.Store.{Store, Record, view, Write, none, to, settled, room, storeRule}
+use Rattle.model.specs.Store.{Store, Record, view, Write, none, to, settled, storeRule}
 use Rattle.model.specs.Turns.{begunAfter, InTurn}
 use Rattle.model.specs.Test.{pick, _and_, _or_, must, _then_}
-use Rattle.model.specs.Types.{Answer, Checked, Device, Refusal, Storing}
-use Rattle.model.proofs.Passed.{store-passed}
+use Rattle.model.specs.Types.{Answer, Checked, Device, Refusal}
 
 -- the invariant of a store of l log pairs and q queue records
 pub record InvWords (p : List ℕ) (l q : ℕ) (s : List ℕ) (d : Device) (z : Serial) (k : ℕ) : Type 0 where

@@ -26,7 +26,7 @@ use Rattle.model.specs.Device.{look, bootCheck, cut, postCheck, recordSo
 use Rattle.model.specs.Program.{events, memoryWords, bodyNumber}
 use Rattle.model.specs.Store.{Store, Record, view, address, event, firstWaiting}
 use Rattle.model.specs.Test.{_or_, must}
-use Rattle.model.specs.Types.{Body, Checked, Device, Effect, Place, Refusal, Resting, Dropping}
+use Rattle.model.specs.Types.{Body, Checked, Device, Effect, Place, Refusal, Resting}
 
 -- ---- refusals whose place, in 7, is the lowest of rs
 

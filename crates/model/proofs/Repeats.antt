@@ -10,9 +10,9 @@ use native.Mathlib.Omega.{arith}
 use lib.Dec.{leb, eqb}
 use borrow.Author.Tests.{ne-eqb}
 use lib.ListN.{length}
-use Rattle.model.proofs.DeviceLaws.{judged-case, step-refused, step-goes, step-acts, load-refused, save-refused, save-full, HandlerMade, record-made, tail-made, handler-made, Acts, RunsAt, Meets, by-record, by-pair, by-body, load-above, save-above, log-full, Why, looked, met, why, Made, StepOutcome, made, refused, step-outcome, handler, head-dropped, works-storing, works-replacing, by-dropped, commit-copy, commit-task, commit-open, commit-head, commit-begun, commit-phase, chosen-event, chosen-task, computed, jumped, loaded, overwritten, half-saved, saved, go-count, go-pending, go-open, go-phase, done-count, done-pending, done-phase, Works}
+use Rattle.model.proofs.DeviceLaws.{judged-case, step-acts, load-refused, save-refused, save-full, record-made, tail-made, Acts, RunsAt, Meets, by-record, by-pair, by-body, load-above, save-above, log-full, Why, looked, met, why, Made, StepOutcome, made, refused, step-outcome, handler, head-dropped, works-storing, works-replacing, by-dropped, commit-copy, commit-task, commit-open, commit-head, commit-begun, commit-phase, chosen-event, chosen-task, computed, jumped, loaded, overwritten, half-saved, saved, go-count, go-pending, go-open, go-phase, done-count, done-pending, done-phase, Works}
 use Rattle.model.proofs.Early.{look-rests}
-use Rattle.model.proofs.Passed.{look-passed, sized}
+use Rattle.model.proofs.Passed.{sized}
 use Rattle.model.proofs.LookStays.{look-stays}
 use Rattle.model.proofs.Numbers.{Low, low-contents, low-store, low-inside, low-used, low-body}
 use Rattle.model.proofs.RingLaws.{distance-some, slot-apart, RecordStore, event-store, datum-store, slot-in, queueAfter, slot-stays}
@@ -24,7 +24,7 @@ use Rattle.model.specs.Burst.{carried, noBurst}
 use Rattle.model.specs.Calls.{Call, Boot, Step, Cut, Post, call, afterCalls, unlessRefused, isRefusal}
 use Rattle.model.specs.Claims.{Stays, address, logFull, uncut, RefusalStays, soundAfter}
 use Rattle.model.specs.Control.{Rule, obey, obeyAll, openRule, taskRule}
-use Rattle.model.specs.Device.{Outcome, out, refuse, withHandler, resting, zeros, look, boot, bootCheck, post, postCheck, recordSound, headSound, headIs, openSound, bodySound, act, nextStep, step, kindOf, setToWork}
+use Rattle.model.specs.Device.{Outcome, out, refuse, withHandler, resting, zeros, look, boot, bootCheck, post, postCheck, recordSound, headSound, headIs, openSound, bodySound, act, step, kindOf, setToWork}
 use Rattle.model.specs.Program.{word, memoryWords, bodyNumber}
 use Rattle.model.specs.Store.{Store, view, event, Record, distance, slot, Word, Event, Datum, Tail, Write, to, queueAt, index, settled, storedWord, forward, Head}
 use Rattle.model.specs.Test.{pick, _and_, _or_, must}

@@ -27,7 +27,7 @@ use Rattle.model.specs.Claims.{TypedWords, TypedBody, TypedPlace, TypedH
 use Rattle.model.specs.Device.{Outcome, judged, fresh, turnedOn, withPlace, withHandler, kindOf, currentTask, oldestEvent, begunOf, dataFor, started, takenUp, boot, cut, postCheck, post, burstLength, choosing, shown, step, setToWork}
 use Rattle.model.specs.Program.{word, memoryWords, transaction, bodyNumber, operand, instructionTable, decode, signed, unsigned, shifted, reg, effect, effectAt, newOpen}
 use Rattle.model.specs.Store.{Store, view, Record, slot, slotAfter, memoryAt, logAt, queueAt, index, Write, none, to, settled, storeMark, storeContents, storeLength, sizesRule, formatted, formatCheck, formatStore, format}
-use Rattle.model.specs.Types.{Body, Checked, Device, Effect, Found, Free, Handler, Instruction, Place, Resting, Run, Storing, Dropped, Replacing}
+use Rattle.model.specs.Types.{Body, Checked, Device, Effect, Found, Free, Handler, Instruction, Place, Resting, Run, Dropped, Replacing}
 
 -- ---- lists of words
 

@@ -11,13 +11,13 @@ use native.Mathlib.Omega.{arith}
 use borrow.Author.Tests.{eq-eqb, ne-eqb}
 use lib.ListN.{length, take, length-append}
 use lib.Seq.{take-suc}
+use Rattle.sheet.proofs.ReachedLaws.{fresh-reached, fresh-length, fresh-format, reached-next}
 use Rattle.device.specs.Result.{Result, ofCall, ofOutcome}
 use Rattle.device.specs.declared.CallResult.{CallResult}
 use Rattle.image.proofs.ImageLaws.{image-accepted}
 use Rattle.image.specs.Image.{programOf}
 use Rattle.model.proofs.TestLaws.{pick-true, pick-false, pick-case, same-or, clash, impossible}
-use Rattle.model.specs.Answer.{refusal}
-use Rattle.model.specs.Calls.{Call, Cut, call, unlessRefused}
+use Rattle.model.specs.Calls.{Call, Cut, call}
 use Rattle.model.specs.Check.{check}
 use Rattle.model.specs.Device.{off, cut}
 use Rattle.model.specs.Program.{word}
@@ -26,7 +26,6 @@ use Rattle.model.specs.Test.{pick}
 use Rattle.model.specs.declared.Checked.{Checked}
 use Rattle.model.specs.declared.Device.{Device}
 use Rattle.model.specs.declared.Refusal.{Refusal}
-use Rattle.sheet.proofs.ReachedLaws.{fresh-reached, fresh-length, fresh-format, reached-next}
 use Rattle.sheet.specs.Inside.{TakesByte, EndsLine, HoldsByte, nextNumber, stateAt, afterCall}
 use Rattle.sheet.specs.Printed.{SheetState, holding, linesLeft, left, Reached, Ready, Fits, Begins, Feeds, Piece, allFed, allText, FeedsAll, TextsAreTheSheet}
 use Rattle.sheet.specs.Sheet.{scheduled, lineFeed, lastLine, linesFrom, header, memoryLine, recoveredMemory, answerLine, unreadLine, otherLine, callLine, ifRead, sheetLines, ifChecked, sheet}

@@ -6,6 +6,9 @@ use mathlib.Core.Path.{_≡_, refl, sym, ap, subst, _∙_}
 use lib.Dec.{leb}
 use lib.ListN.{length}
 use Rattle.model.proofs.TestLaws.{and-left, and-right, clash}
+use Rattle.words.proofs.Parts.{spelt, spelt-all, place-spelt, handler-spelt}
+use Rattle.words.proofs.Parts.{flag-is, flag-back, flag-forth, place-is, place-back, place-forth}
+use Rattle.words.proofs.Parts.{handler-is, handler-back, handler-forth, handler-length, length-read, records-are, zero-behind}
 use Rattle.model.specs.Device.{withHandler}
 use Rattle.model.specs.Program.{word}
 use Rattle.model.specs.Test.{pick, _and_}
@@ -13,9 +16,6 @@ use Rattle.model.specs.declared.Device.{Device}
 use Rattle.model.specs.declared.Handler.{Handler}
 use Rattle.words.specs.Words.{Read, flag, placeWords, handlerWords, deviceWords, withBurst}
 use Rattle.words.specs.Words.{isPlace, isHandler, known, unknown, isState, stateOf, deviceOf, HasWords, Back, Forth, Other, SetToWork}
-use Rattle.words.proofs.Parts.{spelt, spelt-all, place-spelt, handler-spelt}
-use Rattle.words.proofs.Parts.{flag-is, flag-back, flag-forth, place-is, place-back, place-forth}
-use Rattle.words.proofs.Parts.{handler-is, handler-back, handler-forth, handler-length, length-read, records-are, zero-behind}
 
 -- ---- back
 

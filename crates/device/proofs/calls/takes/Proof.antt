@@ -1,5 +1,5 @@
 -- `calls::takes` meets its contract, test by test. Assumes nothing.
-use mathlib.Core.Path.{_≡_, sym, subst, _∙_}
+use mathlib.Core.Path.{sym, _∙_}
 use Rattle.device.proofs.Bursts.{takes-fits, takes-many, takes-one}
 use borrow.Author.Needs.{needs}
 use Rattle.device.proofs.calls.takes.Statement.{statement}
