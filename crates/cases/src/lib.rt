@@ -2,6 +2,7 @@
 // here looks into a call.
 ghost use mathlib.Core.List.{[], _∷_};
 ghost use mathlib.Core.Path.{_≡_};
+ghost use lib.ListN.{replicate};
 ghost use Rattle.model.specs.Starred.{counting};
 ghost use Rattle.cases.specs.Seen.{none, storeAfterCut, cutAfter, furtherPost};
 use device::calls;
@@ -111,20 +112,25 @@ fn post_in(program: &[u16], store: &mut [u16], steps: u32) -> Answer
     further.answer
 }
 
+// The same of the counting program.
+fn post_after(steps: u32) -> Answer
+    ensures { λ answer. ⌜ answer ≡ furtherPost counting (replicate 25 0) steps ⌝ }
+{
+    let program = counting();
+    let mut store = [0; 25];
+    post_in(&program, &mut store, steps)
+}
+
 // "Post and 3 steps: accepted. A further post before the event commits: 21", now "only once the event has begun", which the fourth step does.
 pub fn further_post() -> Answer
     ensures { λ answer. ⌜ answer ≡ Answer.Refused Refusal.QueueFull ⌝ }
 {
-    let program = counting();
-    let mut store = [0; 25];
-    post_in(&program, &mut store, 4)
+    post_after(4)
 }
 
 // Before that it drops the record at head.
 pub fn post_at_once() -> Answer
     ensures { λ answer. ⌜ answer ≡ Answer.Done ⌝ }
 {
-    let program = counting();
-    let mut store = [0; 25];
-    post_in(&program, &mut store, 3)
+    post_after(3)
 }

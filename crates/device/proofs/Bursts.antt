@@ -8,20 +8,19 @@ use native.Mathlib.Omega.{arith}
 use borrow.Author.Tests.{lt-ltb, le-ltb, le-leb, lt-leb, eq-eqb, ne-eqb}
 use lib.Dec.{ltb, leb, eqb}
 use lib.ListN.{length}
-use Rattle.model.proofs.TestLaws.{pick-true, pick-false, clash, impossible, below-or, then-first, then-rest, then-skip, must-passed, must-true}
+use Rattle.model.proofs.TestLaws.{pick-true, pick-false, impossible, below-or, then-first, then-rest, then-skip, must-passed, must-true}
 use Rattle.model.proofs.BurstLaws.{burst-passed, carried-length}
 use Rattle.model.proofs.Passed.{look-passed}
 use Rattle.model.proofs.RingLaws.{record-stores}
 use Rattle.model.specs.Accepted.{Shaped}
 use Rattle.model.specs.Burst.{isBurst, recordsAt, carried, recordWords, burstWords, knownEvents, eventsRule}
-use Rattle.model.specs.Device.{recordsSound, mayDrop, atRest, takes, postCheck, setToWork}
+use Rattle.model.specs.Device.{fits, recordsSound, mayDrop, takes, postCheck, setToWork}
 use Rattle.model.specs.Program.{word, events}
 use Rattle.model.specs.Store.{Store, Record, slot, full, room}
 use Rattle.model.specs.Test.{pick, _and_, _or_, must, _then_}
 use Rattle.model.specs.declared.Checked.{Checked}
 use Rattle.model.specs.declared.Device.{Device}
-use Rattle.model.specs.declared.Handler.{Handler}
-use Rattle.model.specs.declared.Handler.the-variants.{Resting, Storing, Dropping, Replacing}
+use Rattle.model.specs.declared.Handler.the-variants.{Storing, Dropping}
 use Rattle.model.specs.declared.Refusal.{Refusal}
 
 -- ---- 8, from position i of n records on
@@ -103,25 +102,11 @@ leb-ltb a b =
 
 pub sound-by : (p : List ℕ) (v : Store) (c : ℕ) (ws : List ℕ) (n : ℕ)
     → recordsSound p v c (carried ws n) ≡ ((leb 1 n and leb n 4) and knownEvents p (carried ws n) and leb n (room v) and leb c (2 * n))
-unfolding recordsSound isBurst
+unfolding recordsSound fits isBurst
 sound-by p v c ws n =
     let many = carried-length ws 0 n in
     let stores = record-stores (v .queueRecords) (carried ws n) (v .tail) ∙ ap (λ (k : ℕ). 2 * k + 1) many in
     rw (stores, many, leb-ltb c (2 * n))
-
--- ---- is a handler at rest?
-
-pub rests-is : (h : Handler) → atRest h ≡ true → h ≡ Resting
-unfolding atRest
-rests-is Resting e = refl
-rests-is (Storing n c) e = clash e refl
-rests-is Dropping e = clash e refl
-rests-is (Replacing c) e = clash e refl
-
--- one at work isn't
-pub works-not {ℓ} : {X : Type ℓ} {h : Handler} → atRest h ≡ false → h ≡ Resting → X
-unfolding atRest
-works-not e told = clash (ap atRest told) e
 
 -- ---- may a record be dropped, test by test
 
@@ -141,23 +126,23 @@ phase-asked v e ne = sym (rw (e, ne-eqb _ _ ne))
 
 module _ (v : Store) (n : ℕ) where
   pub takes-fits : n ≤ room v → true ≡ takes v n
-  unfolding takes _or_
+  unfolding takes fits _or_
   takes-fits l = sym (rw (le-leb _ _ l))
 
   pub takes-many : room v < n → n ≢ 1 → false ≡ takes v n
-  unfolding takes _or_ _and_
+  unfolding takes fits _or_ _and_
   takes-many l ne = sym (rw (lt-leb _ _ l, ne-eqb _ _ ne))
 
   pub takes-one : room v < n → n ≡ 1 → mayDrop v ≡ takes v n
-  unfolding takes _or_ _and_
+  unfolding takes fits _or_ _and_
   takes-one l one = sym (rw (lt-leb _ _ l, eq-eqb _ _ one))
 
   pub works-storing : n ≤ room v → Storing n 0 ≡ setToWork v n
-  unfolding setToWork
+  unfolding setToWork fits
   works-storing l = sym (pick-true _ _ (le-leb _ _ l))
 
   pub works-dropping : room v < n → Dropping ≡ setToWork v n
-  unfolding setToWork
+  unfolding setToWork fits
   works-dropping l = sym (pick-false _ _ (lt-leb _ _ l))
 
 -- ---- a post's checks, by the length of its burst

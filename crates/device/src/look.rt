@@ -12,7 +12,6 @@ use model::Refusal;
 use store::contents;
 use store::queue;
 ghost use lib.ListN.{length};
-ghost use mathlib.Core.Bool.{false};
 ghost use mathlib.Core.Path.{_≡_};
 ghost use Rattle.model.specs.Accepted.{Controlled, Contents, Looked, Shaped};
 ghost use Rattle.model.specs.Burst.{carried};
@@ -137,23 +136,8 @@ fn handler_sound(program: &[u16], store: &[u16], burst: &[u16; 8], handler: Hand
     requires { ⌜ Controlled (now program) (view (now store)) ⌝ }
     ensures { λ r. ⌜ r ≡ handlerSound (now (program .entry)) (view (now (store .entry))) (now (burst .entry)) handler ⌝ }
 {
-    if at_rest(handler) {
-        return zeros(burst);
-    }
-    work_sound(program, store, burst, handler)
-}
-
-// One at work: its burst fits, or the record at head may be dropped for it.
-fn work_sound(program: &[u16], store: &[u16], burst: &[u16; 8], handler: Handler) -> bool
-    requires { ⌜ Contents (now program) ⌝ }
-    requires { ⌜ Shaped (now store) ⌝ }
-    requires { ⌜ Controlled (now program) (view (now store)) ⌝ }
-    requires { ⌜ atRest handler ≡ false ⌝ }
-    ensures { λ r. ⌜ r ≡ handlerSound (now (program .entry)) (view (now (store .entry))) (now (burst .entry)) handler ⌝ }
-{
     match handler {
-        // One at rest doesn't come here.
-        Handler::Resting => false,
+        Handler::Resting => zeros(burst),
         Handler::Storing(length, made) => records_sound(program, store, burst, length, made),
         Handler::Dropping => {
             if burst[0] >= program[2] {

@@ -19,7 +19,7 @@ use Rattle.model.proofs.RuleLaws.{obey-kept, obey-unasked, obey-append,
 use Rattle.model.specs.Accepted.{LegalEffect, Sound}
 use Rattle.model.specs.Burst.{carried}
 use Rattle.model.specs.Control.{obey, obeyAll, upTo, phaseRule, taskRule, openRule, openServing, countRule, pendingTaskRule, headRule, tailRule, pendingHeadRule, pendingMoveRule, pendingOpenRule, begunRule, begunEventRule, addressRule, between, recordRule, controlRules, rules, earlyRules}
-use Rattle.model.specs.Device.{taskStores, eventStores, eligible, mayRun, endStores, placeSound, recordsSound, zeros, handlerSound, deviceSound, recordSound, headSound, namedRow, openSound, headIs, ends, saves, placeFits, bodySound}
+use Rattle.model.specs.Device.{taskStores, eventStores, eligible, mayRun, endStores, placeSound, recordsSound, zeros, handlerSound, deviceSound, recordSound, headSound, namedRow, openSound, headIs, ends, saves, placeFits, bodySound, fits}
 use Rattle.model.specs.Program.{tasks, events, memoryWords, instructions, transaction, bodyNumber, effectAt}
 use Rattle.model.specs.Serial.{Serial}
 use Rattle.model.specs.Store.{Store, event, slotAfter, firstWaiting, distance, room, Task, Write, Record}
@@ -269,7 +269,7 @@ module _ (p : List ℕ) (v : Store) (d : Device) (z : Serial) (k : ℕ) (i : On 
 
   records-sound : (c : ℕ) (rs : List Record) (dropped : Dropped)
       → AtWork p (v .queue) (v .queueRecords) (v .head) (v .tail) (z .posting) c rs dropped → recordsSound p v c rs ≡ true
-  unfolding recordsSound room
+  unfolding recordsSound fits room
   records-sound c rs dropped a =
       let fits : length rs ≤ v .queueRecords - distance (v .queueRecords) (v .head) (v .tail) = omega (arith, a .room) in
       and-true (burst-passes _ (a .least) (a .most)) (and-true (known-passes p _ (a .known)) (and-true (le-leb _ _ fits) (lt-ltb _ _ (a .inside))))

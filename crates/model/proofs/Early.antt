@@ -15,7 +15,7 @@ use Rattle.model.proofs.TestLaws.{pick-case, pick-true, clash, same-or,
 use Rattle.model.specs.Accepted.{ControlledBy, Controlled, EligibleBy, MayRun, Stands, Attends, Looked, AttendsTo}
 use Rattle.model.specs.Check.{contentsRule}
 use Rattle.model.specs.Control.{obeyAll, phaseRule, taskRule, openServing, countRule, pendingTaskRule, headRule, tailRule, pendingHeadRule, pendingMoveRule, begunRule, begunEventRule, earlyRules}
-use Rattle.model.specs.Device.{withHandler, eligible, mayRun, placeSound, recordsSound, zeros, handlerSound, deviceSound, look}
+use Rattle.model.specs.Device.{withHandler, eligible, mayRun, placeSound, recordsSound, zeros, handlerSound, deviceSound, look, fits}
 use Rattle.model.specs.Program.{tasks}
 use Rattle.model.specs.Store.{Store, view, room, storeRule, Record}
 use Rattle.model.specs.Test.{_or_}
@@ -91,7 +91,7 @@ place-passes p v l (Run b j c) m = and-true (eq-eqb _ _ (m .0)) (and-true (may-p
 place-passes p v l (Half b j) m = and-true (eq-eqb _ _ (m .0)) (and-true (may-pass p v b (m .1)) (lt-ltb _ _ (m .2)))
 
 records-pass : (p : List ℕ) (v : Store) (c : ℕ) (rs : List Record) → AttendsTo p (v .queueRecords) (v .head) (v .tail) c rs → recordsSound p v c rs ≡ true
-unfolding recordsSound room
+unfolding recordsSound fits room
 records-pass p v c rs m =
     and-true (burst-passes _ (m .least) (m .most)) (and-true (known-passes p _ (m .known)) (and-true (le-leb _ _ (m .room)) (lt-ltb _ _ (m .inside))))
 

@@ -7,7 +7,7 @@ use mathlib.Core.List.{List}
 use mathlib.Core.Option.{Option}
 use native.Mathlib.Omega.{arith}
 use borrow.Author.Tests.{eqb-true, eq-eqb, ne-eqb, leb-true}
-use lib.Dec.{eqb, leb}
+use lib.Dec.{eqb}
 use lib.ListN.{length}
 use Rattle.model.proofs.BurstLaws.{carried-back, may-drop-is}
 use Rattle.model.proofs.Checks.{body-sound, run-fits, half-fits}
@@ -22,7 +22,7 @@ use Rattle.model.proofs.TestLaws.{pick-true, pick-false, or-right, and-
 use Rattle.model.specs.Accepted.{Sound, Known, MayDrop}
 use Rattle.model.specs.Burst.{burstWords, recordsAt, carried}
 use Rattle.model.specs.Calls.{Boot, Step, Cut, Post}
-use Rattle.model.specs.Device.{out, judged, fresh, off, turnedOn, withHandler, taskLastStores, eventLastStores, kindOf, begunOf, dataFor, started, takenUp, placeStep, nextStep, takes, droppedRecord, setToWork}
+use Rattle.model.specs.Device.{out, judged, fresh, off, turnedOn, withHandler, taskLastStores, eventLastStores, kindOf, begunOf, dataFor, started, takenUp, placeStep, nextStep, takes, droppedRecord, setToWork, fits}
 use Rattle.model.specs.Program.{bodyNumber, effectAt}
 use Rattle.model.specs.Serial.{Serial, tell, afterDone, afterPost, unchanged, PostState, withRecords, noPost}
 use Rattle.model.specs.Store.{Store, Record, event, datum, none, room, distance, slot, forward, firstWaiting, Write, slotAfter}
@@ -256,13 +256,13 @@ module _ (p : List ℕ) (v : Store) (d : Device) (z : Serial) (k : ℕ) where
 
   pub posted-kept : On p v d z k → (rs : List Record) → 1 ≤ length rs → length rs ≤ 4 → Known p rs → 1 ≤ v .queueRecords
       → takes v (length rs) ≡ true → Kept p v z k (Post rs) (out none (withHandler d (setToWork v (length rs)) (burstWords rs)) Answer.Done)
-  unfolding takes setToWork
-  posted-kept i rs least most known some-slot e = by-room (leb (length rs) (room v)) refl
+  unfolding takes setToWork fits
+  posted-kept i rs least most known some-slot e = by-room (fits v (length rs)) refl
     where
-      by-room : (b : Bool) → leb (length rs) (room v) ≡ b
-          → Kept p v z k (Post rs) (out none (withHandler d (pick (leb (length rs) (room v)) (Storing (length rs) 0) Dropping) (burstWords rs)) Answer.Done)
-      by-room true f = rw (pick-true {b = leb (length rs) (room v)} (Storing (length rs) 0) Dropping f) (fits-kept i rs least most known (leb-true _ _ f))
+      by-room : (b : Bool) → fits v (length rs) ≡ b
+          → Kept p v z k (Post rs) (out none (withHandler d (pick (fits v (length rs)) (Storing (length rs) 0) Dropping) (burstWords rs)) Answer.Done)
+      by-room true f = rw (pick-true (Storing (length rs) 0) Dropping f) (fits-kept i rs least most known (leb-true _ _ f))
       by-room false f =
           let g = or-right _ _ f e in
-          rw (pick-false {b = leb (length rs) (room v)} (Storing (length rs) 0) Dropping f)
+          rw (pick-false (Storing (length rs) 0) Dropping f)
           (drops-kept i rs (eqb-true _ _ (and-left _ _ g)) some-slot (may-drop-is p v rs known (and-right _ _ g)))

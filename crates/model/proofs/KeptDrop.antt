@@ -1,9 +1,9 @@
 -- A handler about to drop stores head: the invariant is kept, and the serial run drops its oldest record. Assumes nothing.
-use Prim.Native.Nat.{ℕ, suc, _+_, _<_}
+use Prim.Native.Nat.{ℕ, suc, _<_}
 use mathlib.Core.Path.{_≡_, refl, sym, ap, subst, _∙_}
 use mathlib.Core.Logic.{inl, inr, _≢_}
-use mathlib.Core.Bool.{true, false}
-use mathlib.Core.List.{List, [], _∷_, _++_}
+use mathlib.Core.Bool.{true}
+use mathlib.Core.List.{List, _∷_}
 use mathlib.Core.Option.{Option, some}
 use native.Mathlib.Omega.{arith}
 use borrow.Author.Tests.{lt-ltb, ne-eqb}
@@ -19,11 +19,11 @@ use Rattle.model.specs.Burst.{carried, recordsAt}
 use Rattle.model.specs.Calls.{Step}
 use Rattle.model.specs.Device.{judged, withHandler, recordStores, taskStores, eventStores, taskLastStores, kindOf, begunOf, recordSound, dropStep}
 use Rattle.model.specs.Program.{tasks, bodyNumber, effectAt}
-use Rattle.model.specs.Serial.{Serial, PostState, withRecords, dropOldest, afterStored, tell}
+use Rattle.model.specs.Serial.{Serial, withRecords, afterDrop, dropOldest, afterStored, tell}
 use Rattle.model.specs.Store.{Store, Record, Head, to, slotAfter, slot, recordsFrom, distance, firstWaiting}
 use Rattle.model.specs.Test.{pick}
 use Rattle.model.specs.Turns.{begunAfter}
-use Rattle.model.specs.Types.{Body, Checked, Device, Dropped, Effect, Free, Half, Place, Replacing, Run}
+use Rattle.model.specs.Types.{Body, Checked, Device, Effect, Free, Half, Place, Replacing, Run}
 
 module _ (p : List ℕ) (sound : Sound p) (v : Store) (d : Device) (z : Serial) (k : ℕ) (i : On p v d z k)
     (m : MayDrop p (v .queueRecords) (v .phase) (v .head) (v .tail) (v .begun) (carried (d .burst) 1)) (some-record : v .head ≢ v .tail)
@@ -51,17 +51,8 @@ module _ (p : List ℕ) (sound : Sound p) (v : Store) (d : Device) (z : Serial) 
   records-are : z .records ≡ oldest ∷ rest
   records-are = sym (from-head .same) ∙ records-head (v .queue) q (v .head) (v .tail) (i .held .head-in) (from-head .tail-in) some-record
 
-  abbrev dropping : PostState
-  dropping =
-      record {
-        posted = z .posting .posted;
-        foundFull = false;
-        droppedFor = Dropped.Record (oldest .event) (oldest .datum);
-        dropped = z .posting .dropped ++ oldest ∷ [];
-      }
-
   abbrev fewer : Serial
-  fewer = withRecords z rest dropping
+  fewer = afterDrop z oldest rest
 
   drops : afterStored z ≡ some fewer
   unfolding afterStored dropOldest
@@ -101,7 +92,7 @@ module _ (p : List ℕ) (sound : Sound p) (v : Store) (d : Device) (z : Serial) 
   ending-stays n j c below Effect.Unknown leads e = absurd leads
 
   placed-stays : (x : Place) → Placed p v d z k x → Placed p stored (withHandler d (Replacing 0) (d .burst)) fewer (suc k) x
-  unfolding apply withHandler withRecords bodyNumber kindOf
+  unfolding apply withHandler afterDrop withRecords bodyNumber kindOf
   placed-stays (Free c) (inl s) = inl s
   placed-stays (Free c) (inr (copies, inl t)) =
       inr (
@@ -126,8 +117,8 @@ module _ (p : List ℕ) (sound : Sound p) (v : Store) (d : Device) (z : Serial) 
   placed-stays (Half (Body.Event n) j) ((s, (x, chosen, r)), e) = absurd (m .event-not-begun (chosen .1))
 
   -- the record that was dropped stands in the slot after tail
-  attends : AtWork p (v .queue) q next (v .tail) dropping 0 (carried (d .burst) 1) (droppedAt (v .queue) (slotAfter q (v .tail)))
-  unfolding recordsAt recordStores slot
+  attends : AtWork p (v .queue) q next (v .tail) (fewer .posting) 0 (carried (d .burst) 1) (droppedAt (v .queue) (slotAfter q (v .tail)))
+  unfolding afterDrop withRecords recordsAt recordStores slot
   attends =
       let fewer-by-one = distance-head q (v .head) (v .tail) (i .held .head-in) (from-head .tail-in) some-record in
       record {
@@ -146,7 +137,7 @@ module _ (p : List ℕ) (sound : Sound p) (v : Store) (d : Device) (z : Serial) 
   passes = must-true _ (lt-ltb _ _ (known-waiting from-head (v .head) (i .held .head-in) (between-first (v .head) (v .tail) some-record)))
 
   pub drop-kept : Kept p v z k Step (dropStep p v d)
-  unfolding dropStep judged tell begunAfter apply withHandler withRecords firstWaiting
+  unfolding dropStep judged tell begunAfter apply withHandler afterDrop withRecords firstWaiting
   drop-kept =
       rw passes
       (record {

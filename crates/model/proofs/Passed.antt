@@ -18,7 +18,7 @@ use Rattle.model.specs.Accepted.{Contents, Registers, Legal, Sizes, Shap
 use Rattle.model.specs.Burst.{carried}
 use Rattle.model.specs.Check.{fieldsFit, instructionRule}
 use Rattle.model.specs.Control.{obeyAll, phaseRule, taskRule, openServing, countRule, pendingTaskRule, headRule, tailRule, pendingHeadRule, pendingMoveRule, begunRule, begunEventRule, earlyRules, Rule, upTo, openRule, pendingOpenRule, addressRule, recordRule, controlRules, rules, earlyOf}
-use Rattle.model.specs.Device.{eligible, mayRun, placeSound, recordsSound, handlerSound, deviceSound, look, bootCheck, bodySound}
+use Rattle.model.specs.Device.{eligible, mayRun, placeSound, recordsSound, handlerSound, deviceSound, look, bootCheck, bodySound, fits}
 use Rattle.model.specs.Program.{word, tasks, memoryWords, instructions, bodyNumber, opcode, fieldA, fieldB, code, operand, bounds, decode}
 use Rattle.model.specs.Store.{Store, view, room, logAt, queueAt, storeLength, storeRule, sizesRule, Record}
 use Rattle.model.specs.Test.{_and_, _or_, pick}
@@ -210,7 +210,7 @@ stands p v l (Half b j) e =
 
 attends-to : (p : List ℕ) (v : Store) (c : ℕ) (rs : List Record) → recordsSound p v c rs ≡ true
     → AttendsTo p (v .queueRecords) (v .head) (v .tail) c rs
-unfolding recordsSound room
+unfolding recordsSound fits room
 attends-to p v c rs e =
     let (least, most) = burst-passed rs (and-left _ _ e) in
     let f = and-right _ _ e in

@@ -17,7 +17,7 @@ use Rattle.model.specs.Calls.{Call, Boot, Step, Cut, Post, Line, isAccep
 use Rattle.model.specs.AllOrNone.{committedEvent, eventsOf, Gone, wasCommitted, wasDropped, goneRecords, committedOf, droppedOf}
 use Rattle.model.specs.Demand3.{RunsTask, RunsEvent, RunsBody, SerialDetermined, committedTask, committedTasks, namedAtEnd, namedBy, fromState, namedTasks, TasksFollow}
 use Rattle.model.specs.Program.{firstRegisters, word, memoryWords, instructions, bodyNumber, effectAt}
-use Rattle.model.specs.Serial.{Serial, Formatting, Walked, went, served, lost, advance, walk, walkBody, afterTask, afterEvent, serveOldest, runBody, afterDone, withRecords, accept, tell, andThen, serialFrom, serial, serialStart, afterStored, dropOldest, unchanged, afterPost, noPost}
+use Rattle.model.specs.Serial.{Serial, Formatting, Walked, went, served, lost, advance, walk, walkBody, afterTask, afterEvent, serveOldest, runBody, afterDone, withRecords, accept, tell, andThen, serialFrom, serial, serialStart, afterStored, afterDrop, dropOldest, unchanged, afterPost, noPost}
 use Rattle.model.specs.Store.{Record}
 use Rattle.model.specs.Test.{pick, _and_}
 use Rattle.model.specs.Types.{Answer, Body, Effect}
@@ -146,7 +146,7 @@ accept-leaves z y (r ∷ rs) e =
     none-left (ap (λ (x : Serial). x .records) (some-same e)) (ap (λ (x : Serial). x .posting .dropped) (sym (some-same e)))
 
 drop-leaves : (z y : Serial) (rs : List Record) → dropOldest z rs ≡ some y → CallLeaves z y rs []
-unfolding dropOldest withRecords eventsOf goneRecords committedOf droppedOf
+unfolding dropOldest afterDrop withRecords eventsOf goneRecords committedOf droppedOf
 drop-leaves z y [] e = not-some e
 drop-leaves z y (r ∷ rs) e =
     record {
@@ -208,7 +208,7 @@ done-task q z Cut = refl
 done-task q z (Post rs) = refl
 
 stored-task : (z y : Serial) → afterStored z ≡ some y → y .task ≡ z .task
-unfolding afterStored unchanged withRecords dropOldest
+unfolding afterStored unchanged withRecords dropOldest afterDrop
 stored-task z y =
     pick-case (λ (o : Option Serial). o ≡ some y → y .task ≡ z .task) (λ _ e. dropped-task (z .records) e) (λ _ e. ap (λ (u : Serial). u .task) (sym (some-same e)))
   where

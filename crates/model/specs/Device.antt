@@ -140,9 +140,13 @@ placeSound p v n (Free c) = pick (eqb (v .phase) 0) (eqb c 0 and eqb (v .begun) 
 placeSound p v n (Run b j c) = eqb (v .phase) 0 and mayRun p v b and ltb c (endStores b)
 placeSound p v n (Half b j) = eqb (v .phase) 0 and mayRun p v b and ltb n (v .logPairs)
 
+-- n records fit behind tail
+unfoldable pub fits : Store → ℕ → Bool
+fits v n = leb n (room v)
+
 -- N6: "25 meets a handler whose burst doesn't fit, is past its tail store or has a length or an event out of range", c of whose stores are made
 unfoldable pub recordsSound : List ℕ → Store → ℕ → List Record → Bool
-recordsSound p v c rs = isBurst rs and knownEvents p rs and leb (length rs) (room v) and ltb c (length (handlerStores v rs))
+recordsSound p v c rs = isBurst rs and knownEvents p rs and fits v (length rs) and ltb c (length (handlerStores v rs))
 
 -- the first n words are 0
 unfoldable pub zeros : List ℕ → ℕ → Bool
@@ -208,7 +212,7 @@ cut = out none off Answer.Done
 -- N6: "21 when the whole burst doesn't fit"; N7: "A single post to a full queue now drops the record at head .., unless word 16 or the phase
 -- is 2; then it is 21"
 unfoldable pub takes : Store → ℕ → Bool
-takes v n = leb n (room v) or (eqb n 1 and mayDrop v)
+takes v n = fits v n or (eqb n 1 and mayDrop v)
 
 -- "post then 8, 20, 21"; N6: "33 burst of zero or over four, checked just before 8"
 unfoldable pub postCheck : List ℕ → List ℕ → Device → List Record → Checked
@@ -221,7 +225,7 @@ postCheck p s d rs =
 
 -- the handler that a post of n records sets to work: where they don't fit, one that drops
 unfoldable pub setToWork : Store → ℕ → Handler
-setToWork v n = pick (leb n (room v)) (Storing n 0) Dropping
+setToWork v n = pick (fits v n) (Storing n 0) Dropping
 
 -- "A post makes no store, sets the handler to work": on the records that it carries
 unfoldable pub post : List ℕ → List ℕ → Device → List Record → Outcome

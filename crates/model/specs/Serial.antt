@@ -119,7 +119,7 @@ unfoldable pub runBody : ℕ → List ℕ → Serial → Body → Option Serial
 runBody fuel p z (Body.Task t) = pick (eqb t (z .task)) (afterTask p z (walkBody fuel p (Body.Task t) 0 (z .memory))) none
 runBody fuel p z (Body.Event e) = serveOldest fuel p z e (z .records)
 
--- other records
+-- other records, and another state of posts
 unfoldable pub withRecords : Serial → List Record → PostState → Serial
 withRecords z rs posting =
     record {
@@ -134,7 +134,7 @@ withRecords z rs posting =
 unfoldable pub unchanged : Serial → Serial
 unchanged z = withRecords z (z .records) (noPost (z .posting))
 
--- a post that was answered done, of a run whose queue holds q records
+-- a post that was answered done, where the queue takes q records at most
 unfoldable pub afterPost : ℕ → Serial → List Record → Serial
 afterPost q z rs =
     withRecords z (z .records)
@@ -151,19 +151,22 @@ unfoldable pub accept : Serial → List Record → Option Serial
 accept z [] = none
 accept z (first ∷ rs) = some (withRecords z (z .records ++ first ∷ rs) (noPost (z .posting)))
 
--- N7: "drops its oldest record at a stored answer when the last call before it that wasn't refused is a post that found Q records"
-unfoldable pub dropOldest : Serial → List Record → Option Serial
-dropOldest z [] = none
-dropOldest z (oldest ∷ rest) =
-    some
-    (withRecords z rest
+-- with its oldest record dropped, and these left
+unfoldable pub afterDrop : Serial → Record → List Record → Serial
+afterDrop z oldest rest =
+    withRecords z rest
     (record {
       posted = z .posting .posted;
       foundFull = false;
       droppedFor = Dropped.Record (oldest .event) (oldest .datum);
       dropped = z .posting .dropped ++ oldest ∷ [];
-    }))
+    })
 
+unfoldable pub dropOldest : Serial → List Record → Option Serial
+dropOldest z [] = none
+dropOldest z (oldest ∷ rest) = some (afterDrop z oldest rest)
+
+-- N7: "drops its oldest record at a stored answer when the last call before it that wasn't refused is a post that found Q records"
 unfoldable pub afterStored : Serial → Option Serial
 afterStored z = pick (z .posting .foundFull) (dropOldest z (z .records)) (some (unchanged z))
 

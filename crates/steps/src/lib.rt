@@ -1,13 +1,12 @@
 // A step past its early checks: document 01's four cases, "first that applies". Each makes its own store, at most one, on the lent words.
 // A commit's stores in phases 1 and 2 are in copying.rt, a running body's in the crate body.
 ghost use Prim.Native.Nat.{ℕ, _+_, _*_, _≤_};
-ghost use mathlib.Core.Bool.{false};
 ghost use mathlib.Core.List.{List};
 ghost use mathlib.Core.Path.{_≡_};
-ghost use Rattle.model.specs.Device.{atRest, handlerStep, dropStep, droppedRecord, eventNext, chooseStep, placeStep};
+ghost use Rattle.model.specs.Device.{handlerStep, dropStep, droppedRecord, eventNext, chooseStep, placeStep};
 ghost use Rattle.model.specs.Program.{word};
 ghost use Rattle.model.specs.Store.{view};
-ghost use Rattle.model.specs.Accepted.{Contents, Shaped, ShapedFor, Attends, Looked};
+ghost use Rattle.model.specs.Accepted.{Contents, Shaped, ShapedFor, Looked};
 ghost use Rattle.model.specs.declared.Handler.{Handler};
 ghost use Rattle.device.specs.Result.{Eight, deviceWith, device, stepResult, ofStep, ofCore, leaves, placeStepOf, nextStepOf};
 use body;
@@ -15,7 +14,6 @@ use control::single;
 use device::Core;
 use device::CoreResult;
 use device::StepResult;
-use device::look;
 use device::results;
 use model::Answer;
 use model::Body;
@@ -218,38 +216,7 @@ fn rested(left: CoreResult) -> StepResult
     }
 }
 
-// The step of a handler at work.
-fn work_step(
-    program: &[u16],
-    store: &mut [u16],
-    burst: &mut [u16; 8],
-    handler: Handler,
-    core: Core,
-) -> StepResult
-    requires { ⌜ Contents (now program) ⌝ }
-    requires { ⌜ ShapedFor (now program) (now store) ⌝ }
-    requires { ⌜ (word (now store) 14 ≤ word (now store) 3) × (word (now store) 15 ≤ word (now store) 3) ⌝ }
-    requires { ⌜ Attends (now program) (view (now store)) (now burst) handler ⌝ }
-    requires { ⌜ atRest handler ≡ false ⌝ }
-    requires { ⌜ Eight (now burst) ⌝ }
-    ensures { λ r. ⌜ ((registers : List ℕ) → ofStep r registers (now (burst .exit)) (now (store .exit))
-        ≡ leaves (nextStepOf (now (program .entry))) (now (store .entry)) (deviceWith core registers handler (now (burst .entry)))) ⌝ }
-    ensures { λ _. ⌜ Eight (now (burst .exit)) ⌝ }
-{
-    match handler {
-        // One at rest doesn't come here.
-        Handler::Resting => handler_result(core, handler, Answer::Done, Stored::Nothing),
-        Handler::Storing(length, made) => {
-            let later = Handler::Storing(length, made + 1);
-            let dropped = Dropped::Nothing;
-            handler_step(store, burst, core, length, made, later, dropped)
-        }
-        Handler::Dropping => drop_step(program, store, core),
-        Handler::Replacing(made) => replacing_step(store, burst, core, made),
-    }
-}
-
-// "First that applies", after the early checks. A handler at rest, the usual case, is asked for first; it has no burst.
+// "First that applies", after the early checks. A handler at rest has no burst.
 pub fn next_step(
     program: &[u16],
     store: &mut [u16],
@@ -265,8 +232,14 @@ pub fn next_step(
         (deviceWith core (now (registers .entry)) handler (now (burst .entry))) ⌝ }
     ensures { λ _. ⌜ Eight (now (burst .exit)) ⌝ }
 {
-    if look::at_rest(handler) {
-        return rested(place_step(program, store, registers, core));
+    match handler {
+        Handler::Resting => rested(place_step(program, store, registers, core)),
+        Handler::Storing(length, made) => {
+            let later = Handler::Storing(length, made + 1);
+            let dropped = Dropped::Nothing;
+            handler_step(store, burst, core, length, made, later, dropped)
+        }
+        Handler::Dropping => drop_step(program, store, core),
+        Handler::Replacing(made) => replacing_step(store, burst, core, made),
     }
-    work_step(program, store, burst, handler, core)
 }

@@ -1,35 +1,19 @@
 -- `post_at_once` meets its contract. Assumes nothing.
-use Prim.Native.Nat.{ℕ}
-use mathlib.Core.List.{List}
-use mathlib.Core.Path.{ap, _∙_}
-use lib.ListN.{replicate}
+use mathlib.Core.Path.{_∙_}
 use Rattle.cases.proofs.Shown.{cases}
-use Rattle.cases.specs.Seen.{furtherPost}
 use borrow.Author.Needs.{needs}
 use Rattle.cases.proofs.post_at_once.Statement.{statement}
 use Rattle.cases.proofs.post_at_once.Tie as tie
 
-counting-requires : tie.Need-counting-requires
-counting-requires c κs = search needs
-
-slice-aggregate-post-in : tie.Need-slice-aggregate-post-in
-slice-aggregate-post-in c = search needs
-
-slice-aggregate-post-in-2 : tie.Need-slice-aggregate-post-in-2
-slice-aggregate-post-in-2 c = search needs
-
-post-in-requires : tie.Need-post-in-requires
-post-in-requires c κs = search needs
+post-after-requires : tie.Need-post-after-requires
+post-after-requires c κs = search needs
 
 returns : tie.Need-returns
-returns c = c .before .post-in .ensures ∙ ap (λ (p : List ℕ). furtherPost p (replicate 25 0) 3) (c .before .before .before .before .counting .ensures) ∙ cases .at-once
+returns c = c .post-after .ensures ∙ cases .at-once
 
 pub post-at-once-spec : {M : Type 1} → statement M
 post-at-once-spec =
     tie.close
     (tie.spec
-    counting-requires
-    slice-aggregate-post-in
-    slice-aggregate-post-in-2
-    post-in-requires
+    post-after-requires
     returns)
