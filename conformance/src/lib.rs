@@ -1,7 +1,9 @@
 //! A second, independent implementation of the split-phase task runtime, the serial run that its histories
 //! are held against, a generator of programs, schedules and line tables, and a driver that compares two
-//! implementations call by call. Above it, exam sheets and their comparison with another program's.
+//! implementations call by call. Above it, exam sheets, an assembler and a disassembler, and their comparison with other
+//! programs'.
 
+pub mod assembly;
 pub mod begun;
 pub mod bursts;
 pub mod cases;

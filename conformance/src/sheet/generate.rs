@@ -97,7 +97,7 @@ fn valid(random: &mut Random) -> (Sizes, Vec<u16>) {
 }
 
 /// Some words of a valid program changed, those of contents and rows as often as those of bodies.
-fn damage(random: &mut Random, words: &mut [u16]) {
+pub fn damage(random: &mut Random, words: &mut [u16]) {
     let rows_end = 6 + 3 * (words[1] + words[2]) as usize;
     for _ in 0..random.pick(&[1, 1, 1, 2, 3]) {
         let index = match random.below(4) {
@@ -120,7 +120,7 @@ fn damage(random: &mut Random, words: &mut [u16]) {
 }
 
 /// Another number of words; word 5 says so, or doesn't.
-fn resize(random: &mut Random, words: &mut Vec<u16>) {
+pub fn resize(random: &mut Random, words: &mut Vec<u16>) {
     let rows_end = 6 + 3 * (words[1] + words[2]) as usize;
     let length = match random.below(8) {
         0 => random.below(8),

@@ -1,4 +1,5 @@
 pub mod TestLaws
+pub mod Range
 pub mod ProgramLaws
 pub mod FirstStores
 pub mod RuleLaws

@@ -1,4 +1,4 @@
--- What the library's inner functions promise: what was put into the text, and the state after a byte, a line and a call. No promise to a host
+-- What the library's inner functions promise: the state after a byte, a line and a call. No promise to a host
 -- rests on it. Assumes nothing.
 use Prim.Native.Nat.{ℕ, _+_, _^_, _≤_, _<_}
 use mathlib.Core.Bool.{Bool, false}
@@ -7,7 +7,7 @@ use mathlib.Core.Logic.{_⊎_}
 use mathlib.Core.Option.{Option, none, some}
 use mathlib.Core.Path.{_≡_}
 use lib.Dec.{eqb}
-use lib.ListN.{length, take, replicate}
+use lib.ListN.{length, replicate}
 use Rattle.model.specs.Answer.{RefusalNumber}
 use Rattle.model.specs.Burst.{single}
 use Rattle.model.specs.Calls.{Call, Boot, Step, Cut, Post}
@@ -21,11 +21,7 @@ use Rattle.sheet.specs.declared.Printed.{Printed}
 use Rattle.sheet.specs.declared.Scheduled.{Scheduled}
 use Rattle.sheet.specs.declared.State.{State}
 use Rattle.sheet.specs.Printed.{SheetState, Reached, Ready, linesLeft, Feeds}
-
--- xs was put at place n of the text t, which became u; it ends at m
-pub record Puts (t : List ℕ) (n : ℕ) (u : List ℕ) (m : ℕ) (xs : List ℕ) : Type 0 where
-  pub ends : m ≡ n + length xs
-  pub text : take m u ≡ take n t ++ xs
+use Rattle.text.specs.Puts.{Puts}
 
 abbrev pub callOf : Scheduled → Option Call
 callOf Scheduled.Boot = some Boot

@@ -1,7 +1,7 @@
 -- Document 02, N1, "Exam sheets from a schedule": from the bytes of program.img and of the schedule to the bytes of the sheet. A number
 -- below 256 is a byte; `code` is a character's. Assumes nothing.
 use Prim.Native.Char.{code}
-use Prim.Native.Nat.{ℕ, zero, suc, _+_, _-_, _*_, _/_, _%_}
+use Prim.Native.Nat.{ℕ, _+_, _-_, _*_, _/_, _%_}
 use mathlib.Core.List.{List, [], _∷_, _++_}
 use mathlib.Core.Option.{Option, none, some}
 use lib.Dec.{eqb, leb, ltb}
@@ -19,7 +19,8 @@ use Rattle.model.specs.declared.Answer.{Answer}
 use Rattle.model.specs.declared.Checked.{Checked}
 use Rattle.model.specs.declared.Device.{Device}
 use Rattle.model.specs.declared.Dropped.{Dropped}
-use Rattle.sheet.specs.Ascii.{ascii}
+use Rattle.text.specs.Ascii.{ascii}
+use Rattle.text.specs.Text.{space, decimal, spaced}
 
 -- ---- "b boot, s step, c cut, p, an event digit and four data digits, in hex of either case, unspaced"
 
@@ -64,22 +65,7 @@ unfoldable pub linesFrom : List ℕ → List ℕ → List (List ℕ)
 linesFrom begun [] = lastLine begun
 linesFrom begun (byte ∷ bytes) = pick (eqb byte lineFeed) (begun ∷ linesFrom [] bytes) (linesFrom (begun ++ (byte ∷ [])) bytes)
 
--- ---- Numbers and words: "in decimal", "in four capital hex digits, all parted by single spaces"
-
-abbrev pub space : ℕ
-space = code " "
-
--- with so many digits in front of the last at most
-unfoldable pub decimalOf : ℕ → ℕ → List ℕ
-decimalOf zero n = (code "0" + n % 10) ∷ []
-decimalOf (suc k) n = pick (ltb n 10) ((code "0" + n) ∷ []) (decimalOf k (n / 10) ++ ((code "0" + n % 10) ∷ []))
-
-unfoldable pub decimal : ℕ → List ℕ
-decimal n = decimalOf n n
-
--- behind a space
-unfoldable pub spaced : ℕ → List ℕ
-spaced n = space ∷ decimal n
+-- ---- Words: "in four capital hex digits, all parted by single spaces"
 
 unfoldable pub hexDigit : ℕ → ℕ
 hexDigit n = pick (ltb n 10) (code "0" + n) (code "A" + (n - 10))

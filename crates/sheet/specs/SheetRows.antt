@@ -5,8 +5,8 @@ use mathlib.Core.Path.{_≡_}
 use mathlib.Core.List.{List, [], _∷_, _++_}
 use lib.ListN.{set}
 use Rattle.model.specs.Starred.{counting}
-use Rattle.sheet.specs.Ascii.{ascii}
 use Rattle.sheet.specs.Sheet.{sheet}
+use Rattle.text.specs.Ascii.{ascii}
 
 -- program.img of these words
 unfoldable pub imageOf : List ℕ → List ℕ

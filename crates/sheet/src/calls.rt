@@ -16,8 +16,8 @@ ghost use Rattle.sheet.specs.Printed.{holding};
 use crate::Printed;
 use crate::Scheduled;
 use crate::State;
+use crate::printing;
 use crate::schedule;
-use crate::text;
 use device::CallResult;
 use device::calls;
 use model::Device;
@@ -123,7 +123,7 @@ fn store_line(text: &mut [u8], at: usize, number: u64, store: &[u16]) -> usize
     if end > store.len() {
         return at;
     }
-    text::memory_line(text, at, number, &store[start..end])
+    printing::memory_line(text, at, number, &store[start..end])
 }
 
 // A cut: what uncut recovery of a copy leaves. The sheet's own device goes on from the cut.
@@ -156,7 +156,7 @@ fn answered(text: &mut [u8], at: usize, number: u64, result: CallResult) -> Prin
 {
     let answer = result.answer;
     let device = result.device;
-    let end = text::answer_line(text, at, number, answer);
+    let end = printing::answer_line(text, at, number, answer);
     let state = next(device, number, false);
     Printed { state, end }
 }
@@ -165,7 +165,7 @@ fn unread(text: &mut [u8], at: usize, state: State) -> Printed
     requires { ⌜ at + 5141 ≤ length (now text) ⌝ }
     ensures { λ r. ⌜ Prints (now (text .entry)) at (now (text .exit)) r (unreadLine (state .number)) (afterCall (state .device) (state .number) true) ⌝ }
 {
-    let end = text::unread_line(text, at, state.number);
+    let end = printing::unread_line(text, at, state.number);
     let device = state.device;
     let state = next(device, state.number, true);
     Printed { state, end }

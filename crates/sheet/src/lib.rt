@@ -3,8 +3,8 @@
 // it takes, `finish` that of a last line without a line feed; the host writes the text out each time. That the texts, one behind the other,
 // are the sheet is said in specs/Printed.antt. No call has a `requires`.
 mod calls;
+mod printing;
 mod schedule;
-mod text;
 
 ghost use Prim.Native.Nat.{_+_, _≤_, _<_};
 ghost use lib.ListN.{length, take};
@@ -13,6 +13,7 @@ ghost use Rattle.sheet.specs.Printed.{holding, Ready, Fits, Begins, Feed
 use model::Checked;
 use model::Device;
 use store::format;
+use text::put;
 
 // The most bytes of a sheet's line: a call's number, 1024 words, a line feed.
 const LONGEST: usize = 5141;
@@ -61,9 +62,9 @@ pub fn begin(
         → Begins checked (now (program .entry)) (length (now (store .entry))) (take (r .end) (now (text .exit)))
         (holding (r .state) (now (store .exit)))) ⌝ }
 {
-    let end = text::put(text, 0, b"call memory\n");
+    let end = put(text, 0, b"call memory\n");
     let Checked::Accepted = checked else {
-        let end = text::check_line(text, end, checked);
+        let end = printing::check_line(text, end, checked);
         return Printed {
             state: calls::start(true),
             end,

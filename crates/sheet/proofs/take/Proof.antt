@@ -3,7 +3,7 @@ use mathlib.Core.List.{[], _∷_}
 use denote.Ref.{now}
 use native.Mathlib.Omega.{arith}
 use lib.ListN.{length}
-use Rattle.sheet.proofs.TextLaws.{puts-nothing}
+use Rattle.text.proofs.TextLaws.{puts-nothing}
 use Rattle.sheet.proofs.SheetLaws.{feeds-ended, feeds-held, feeds-line}
 use borrow.Author.Needs.{needs}
 use Rattle.sheet.proofs.take.Statement.{statement}

@@ -7,7 +7,7 @@ use lib.ListN.{List·getD-eq-default}
 use Rattle.model.specs.Program.{bounds}
 use Rattle.model.specs.Test.{pick}
 use Rattle.program.specs.Fields.{asBounds}
-use Rattle.program.proofs.Range.{within, past}
+use Rattle.model.proofs.Range.{within, past}
 use Rattle.program.proofs.code.bounds.Statement.{statement}
 use Rattle.program.proofs.code.bounds.Tie as tie
 

@@ -2,7 +2,7 @@
 use Prim.Native.Nat.{_≤_, zero-le}
 use lib.ListN.{List·getD-eq-default}
 use Rattle.model.specs.Program.{decode}
-use Rattle.program.proofs.Range.{past}
+use Rattle.model.proofs.Range.{past}
 use Rattle.program.proofs.code.decode.Statement.{statement}
 use Rattle.program.proofs.code.decode.Tie as tie
 

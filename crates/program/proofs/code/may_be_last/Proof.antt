@@ -6,7 +6,7 @@ use native.Mathlib.Omega.{arith}
 use borrow.Author.Tests.{ne-eqb}
 use Rattle.model.specs.Program.{mayBeLast}
 use Rattle.model.specs.Test.{pick}
-use Rattle.program.proofs.Range.{within}
+use Rattle.model.proofs.Range.{within}
 use Rattle.program.proofs.code.may_be_last.Statement.{statement}
 use Rattle.program.proofs.code.may_be_last.Tie as tie
 

@@ -6,7 +6,7 @@ use native.Mathlib.Omega.{arith}
 use denote.Ref.{now}
 use lib.ListN.{take, drop}
 use Rattle.model.specs.Program.{word}
-use Rattle.sheet.proofs.TextLaws.{puts-nothing}
+use Rattle.text.proofs.TextLaws.{puts-nothing}
 use Rattle.sheet.specs.Sheet.{memoryLine}
 use borrow.Author.Needs.{needs}
 use Rattle.sheet.proofs.calls.store_line.Statement.{statement}

@@ -1,0 +1,20 @@
+-- `rules::either` meets its contract. Assumes nothing.
+use Rattle.model.specs.Test.{_or_}
+use borrow.Author.Needs.{needs}
+use Rattle.assembly.proofs.rules.either.Statement.{statement}
+use Rattle.assembly.proofs.rules.either.Tie as tie
+
+returns : tie.Need-returns
+unfolding _or_
+returns c = rw (c .if1 .taken)
+
+returns-2 : tie.Need-returns-2
+unfolding _or_
+returns-2 c = rw (c .if1 .left)
+
+pub either-spec : {M : Type 1} → statement M
+either-spec =
+    tie.close
+    (tie.spec
+    returns
+    returns-2)

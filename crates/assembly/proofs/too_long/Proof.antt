@@ -1,0 +1,14 @@
+-- `too_long` meets its contract. Assumes nothing.
+use mathlib.Core.Path.{refl}
+use borrow.Author.Needs.{needs}
+use Rattle.assembly.proofs.too_long.Statement.{statement}
+use Rattle.assembly.proofs.too_long.Tie as tie
+
+returns : tie.Need-returns
+returns c = refl
+
+pub too-long-spec : {M : Type 1} → statement M
+too-long-spec =
+    tie.close
+    (tie.spec
+    returns)

@@ -1,0 +1,37 @@
+-- `transaction_word` meets its contract. Assumes nothing.
+use mathlib.Core.Path.{sym}
+use native.Mathlib.Omega.{arith}
+use borrow.Author.Tests.{eq-eqb, ne-eqb}
+use Rattle.listing.specs.Listing.{transactionName, transactionWord}
+use Rattle.model.proofs.TestLaws.{pick-true, pick-false}
+use Rattle.text.proofs.TextLaws.{puts-nothing, puts-as}
+use borrow.Author.Needs.{needs}
+use Rattle.listing.proofs.transaction_word.Statement.{statement}
+use Rattle.listing.proofs.transaction_word.Tie as tie
+
+returns : tie.Need-returns
+unfolding transactionWord
+returns c = (puts-as (puts-nothing _ _) (sym (pick-true _ _ (eq-eqb _ _ (c .if1 .taken)))), omega arith)
+
+slice-aggregate-numbered : tie.Need-slice-aggregate-numbered
+slice-aggregate-numbered c = search needs
+
+numbered-requires : tie.Need-numbered-requires
+numbered-requires c κs = search needs
+
+same-length : tie.Need-same-length
+same-length c = search needs
+
+returns-2 : tie.Need-returns-2
+unfolding transactionWord transactionName
+returns-2 c = (puts-as (c .before .before .numbered .ensures .0) (sym (pick-false _ _ (ne-eqb _ _ (c .before .before .before .before .before .if1 .left)))), omega (arith, c .before .before .numbered .ensures .1))
+
+pub transaction-word-spec : {M : Type 1} → statement M
+transaction-word-spec =
+    tie.close
+    (tie.spec
+    returns
+    slice-aggregate-numbered
+    numbered-requires
+    same-length
+    returns-2)

@@ -1,0 +1,2 @@
+-- A mistake in words.
+pub mod Told
