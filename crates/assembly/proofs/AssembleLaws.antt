@@ -1,13 +1,13 @@
 -- Laws of the first mistake of all: where there is none, the words fit and the check accepts them. Assumes nothing.
-use Prim.Native.Nat.{ℕ, suc, _+_, _*_, _≤_, _<_, min}
+use Prim.Native.Nat.{ℕ, suc, _*_, _≤_, _<_, min}
 use mathlib.Core.Bool.{Bool, true, false}
 use mathlib.Core.List.{List}
 use mathlib.Core.Logic.{_≢_}
 use mathlib.Core.Path.{_≡_, refl, sym, ap, _∙_}
 use native.Mathlib.Omega.{arith}
-use borrow.Author.Tests.{eqb-true, eqb-false, eq-eqb, ne-eqb, leb-true, leb-false, le-leb, lt-leb, ltb-false}
-use lib.Dec.{eqb, leb, ltb}
-use lib.ListN.{length, take, length-take}
+use borrow.Author.Tests.{eqb-true, eqb-false, eq-eqb, ne-eqb, leb-true, leb-false, ltb-false}
+use lib.Dec.{eqb, leb}
+use lib.ListN.{length, length-take}
 use Rattle.model.proofs.TestLaws.{pick-true, pick-false}
 use Rattle.model.specs.Test.{pick}
 use Rattle.model.specs.declared.Checked.{Checked}

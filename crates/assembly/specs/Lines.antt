@@ -4,7 +4,7 @@ use mathlib.Core.Bool.{Bool, true, false}
 use mathlib.Core.List.{List, [], _∷_}
 use lib.Dec.{eqb, leb, ltb}
 use Rattle.model.specs.Program.{word}
-use Rattle.model.specs.Test.{pick, _and_, _or_}
+use Rattle.model.specs.Test.{pick, _and_}
 use Rattle.assembly.specs.declared.Line.{Line}
 
 -- ---- Lines: what is wrong in it, its label, its statement, and the words behind that

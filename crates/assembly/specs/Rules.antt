@@ -1,5 +1,5 @@
 -- docs/ASSEMBLY.md, "Rules that the check finds broken, by its number and place". Assumes nothing.
-use Prim.Native.Nat.{ℕ, suc, _+_, _-_, min}
+use Prim.Native.Nat.{ℕ, suc, _-_, min}
 use mathlib.Core.Bool.{Bool, not}
 use mathlib.Core.List.{List}
 use lib.Dec.{eqb, leb, ltb}

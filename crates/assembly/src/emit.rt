@@ -1,14 +1,14 @@
 // The program words of a text's lines: contents, rows, bodies.
-ghost use Prim.Native.Nat.{_+_, _*_, _-_, _≤_, _<_, min};
-ghost use lib.ListN.{length, take};
+ghost use Prim.Native.Nat.{_+_, _*_, _-_, _≤_, _<_};
+ghost use lib.ListN.{length};
 ghost use mathlib.Core.Path.{_≡_};
 ghost use Rattle.text.specs.Puts.{Puts};
-ghost use Rattle.assembly.specs.Lines.{lineAt, linesAt, bodyLine, instructionLine, count as countOf, bodyStart};
+ghost use Rattle.assembly.specs.Lines.{lineAt, linesAt, bodyLine, instructionLine, count as countOf};
 ghost use Rattle.assembly.specs.Lines.{one as oneOf};
 ghost use Rattle.assembly.specs.Mistakes.{opcodeOf, operandOf, programLength};
 ghost use Rattle.model.specs.Test.{pick};
 ghost use Rattle.tokens.specs.Uses.{usesK};
-ghost use Rattle.assembly.specs.Words.{asWord as asWordOf, asRegister as asRegisterOf, taskOf, labelOf, transactionOf, firstWord, secondWord, instructionWords, bodyWords, startOf, rowWords, rows as rowsOf, contents as contentsOf, words as wordsOf};
+ghost use Rattle.assembly.specs.Words.{asWord as asWordOf, asRegister as asRegisterOf, taskOf, labelOf, transactionOf, firstWord, secondWord, instructionWords, bodyWords, rowWords, rows as rowsOf, contents as contentsOf, words as wordsOf};
 use crate::Line;
 use crate::lines;
 use crate::mistakes;

@@ -1,5 +1,5 @@
 // The assembler: program words from a text, or its first mistake.
-ghost use Prim.Native.Nat.{_+_, _*_, _≤_};
+ghost use Prim.Native.Nat.{_*_, _≤_};
 ghost use lib.ListN.{length, take};
 ghost use mathlib.Core.Path.{_≡_};
 ghost use Rattle.model.specs.Check.{check as checkOf};

@@ -3,7 +3,7 @@ ghost use Prim.Native.Nat.{_+_, _*_, _-_, _≤_, _<_};
 ghost use mathlib.Core.Path.{_≡_};
 ghost use lib.ListN.{length};
 ghost use Rattle.model.specs.Test.{pick, _and_};
-ghost use Rattle.assembly.specs.Lines.{lineAt, isBody, isInstruction as isInstructionLine, bodyStart};
+ghost use Rattle.assembly.specs.Lines.{lineAt, isBody, isInstruction as isInstructionLine};
 ghost use Rattle.assembly.specs.Mistakes.{opcodeOf, operandOf, taskWord, labelWord, transactionWord, missingTask, missingLabel, missingTransaction, nameMistake, amongMistake, ownMistake, firstOwn, firstAmong, programLength, textMistake, ofText, mistakeOf};
 ghost use Rattle.tokens.specs.Uses.{isJump};
 use crate::Line;

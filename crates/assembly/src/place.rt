@@ -5,7 +5,7 @@ ghost use mathlib.Core.Path.{_≡_};
 ghost use lib.Dec.{eqb, ltb};
 ghost use lib.ListN.{length};
 ghost use Rattle.model.specs.Test.{_and_, _or_};
-ghost use Rattle.assembly.specs.Lines.{lineAt, linesAt, isInstruction as isInstructionLine, memoryLine, entryLine, taskLine, eventLine, none, count as countOf, numbered as numberedOf};
+ghost use Rattle.assembly.specs.Lines.{linesAt, isInstruction as isInstructionLine, memoryLine, entryLine, taskLine, eventLine, none, count as countOf, numbered as numberedOf};
 ghost use Rattle.assembly.specs.Mistakes.{nameFirst, labelMistake, placeMistake};
 use crate::Line;
 use crate::lines;

@@ -1,9 +1,8 @@
 // The rules that the check finds broken, as mistakes of a text.
-ghost use Prim.Native.Nat.{ℕ, suc, _+_, _*_, _-_, _≤_, _<_, min};
+ghost use Prim.Native.Nat.{_+_, _*_, _-_, _≤_, _<_, min};
 ghost use mathlib.Core.Path.{_≡_};
-ghost use lib.Dec.{ltb};
 ghost use lib.ListN.{length};
-ghost use Rattle.model.specs.Program.{word as wordOf, tasks, memoryWords, instructions, code, operand};
+ghost use Rattle.model.specs.Program.{word as wordOf, tasks};
 ghost use Rattle.model.specs.Test.{_and_, _or_};
 ghost use Rattle.assembly.specs.Rules.{sizeMistake, rowMistake, operandMistake, instructionMistake, instructionRule, ruleNumber, sizePlace, bodyPlace, instructionPlace, rulePlace, explainedBy, ruleMistake};
 use crate::Mistake;

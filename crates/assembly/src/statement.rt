@@ -2,7 +2,6 @@
 ghost use Prim.Native.Nat.{_+_, _-_, _≤_, _<_};
 ghost use mathlib.Core.Bool.{not};
 ghost use mathlib.Core.Path.{_≡_};
-ghost use lib.Dec.{ltb};
 ghost use Rattle.model.specs.Test.{_and_, _or_};
 ghost use Rattle.assembly.specs.Mistakes.{bit as bitOf, operands as operandsOf, wordsLeast, wordsMost, wordsBehind, nameFirst, numberOnly, numberFirst, numberSecond, numberThird, kindMistake, countMistake, statementMistake};
 ghost use Rattle.assembly.specs.Lines.{isName};

@@ -1,6 +1,6 @@
 -- Laws of what is printed of a program: clause by clause, as the loops go through it; a test that one of the first numbers meets. What is put
 -- has so many bytes at most. Assumes nothing.
-use Prim.Native.Nat.{ℕ, zero, suc, _+_, _≤_, _<_}
+use Prim.Native.Nat.{ℕ, zero, suc, _≤_, _<_}
 use mathlib.Core.Bool.{Bool, true, false}
 use mathlib.Core.List.{List, [], _++_, append-assoc}
 use mathlib.Core.Path.{_≡_, refl, sym, subst, ap, _∙_}

@@ -1,5 +1,5 @@
 -- docs/ASSEMBLY.md, "What disassemble prints": from program words to the bytes of a text. A number below 256 is a byte. Assumes nothing.
-use Prim.Native.Nat.{ℕ, zero, suc, _+_, _-_}
+use Prim.Native.Nat.{ℕ, zero, suc, _-_}
 use mathlib.Core.Bool.{Bool, false}
 use mathlib.Core.List.{List, [], _++_}
 use lib.Dec.{eqb, ltb}

@@ -1,8 +1,7 @@
 // A mistake in words.
-ghost use Prim.Native.Nat.{_+_, _-_, _≤_};
+ghost use Prim.Native.Nat.{_+_, _≤_};
 ghost use lib.ListN.{length, getD};
 ghost use mathlib.Core.List.{[]};
-ghost use mathlib.Core.Path.{_≡_};
 ghost use Rattle.text.specs.Puts.{Puts};
 ghost use Rattle.mistakes.specs.Told.{mistakeTexts, told as toldOf};
 use assembly::Mistake;

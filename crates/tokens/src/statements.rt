@@ -4,7 +4,7 @@ ghost use mathlib.Core.List.{[]};
 ghost use mathlib.Core.Path.{_≡_};
 ghost use lib.ListN.{length, getD};
 ghost use Rattle.text.specs.Puts.{Puts};
-ghost use Rattle.tokens.specs.Tokens.{spelled as spelledOf, named as namedOf, statement as statementOf, statementNames, statementWord};
+ghost use Rattle.tokens.specs.Tokens.{named as namedOf, statement as statementOf, statementNames, statementWord};
 use crate::line;
 use text::put;
 

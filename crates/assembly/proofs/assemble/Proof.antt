@@ -1,18 +1,17 @@
 -- `assemble` meets its contract. Assumes nothing.
-use Prim.Native.Nat.{ℕ, _*_, _≤_, _<_, zero-le}
+use Prim.Native.Nat.{ℕ}
 use mathlib.Core.List.{List}
 use mathlib.Core.Path.{_≡_, sym, ap, subst, _∙_}
 use borrow.Author.Tests.{le-leb, lt-leb}
 use native.Mathlib.Omega.{arith}
 use denote.Ref.{now}
-use lib.ListN.{length, take}
+use lib.ListN.{length}
 use Rattle.model.proofs.TestLaws.{pick-true, pick-false}
 use Rattle.model.specs.Test.{_and_}
 use Rattle.tokens.specs.Tokens.{lines, lineCount}
 use Rattle.assembly.proofs.AssembleLaws.{read-all, read-none}
 use Rattle.assembly.specs.Assembles.{AssemblesLines, assembleMistake, assembled}
 use Rattle.assembly.specs.declared.Assembled.{Assembled}
-use Rattle.assembly.specs.declared.Mistake.{Mistake}
 use borrow.Author.Needs.{needs}
 use Rattle.assembly.proofs.assemble.Statement.{statement}
 use Rattle.assembly.proofs.assemble.Tie as tie

@@ -1,17 +1,15 @@
 -- `assemble_lines` meets its contract. Assumes nothing.
-use Prim.Native.Nat.{ℕ, _≤_, zero-le}
+use Prim.Native.Nat.{ℕ, zero-le}
 use mathlib.Core.List.{List}
-use mathlib.Core.Path.{_≡_, sym, ap, _∙_}
+use mathlib.Core.Path.{sym, ap, _∙_}
 use native.Mathlib.Omega.{arith}
 use denote.Ref.{now}
-use lib.ListN.{take}
 use Rattle.model.specs.Check.{check}
 use Rattle.assembly.proofs.AssembleLaws.{next-is, first-is, short-enough, rule-accepted, put-inside}
 use Rattle.assembly.specs.Mistakes.{mistakeOf}
 use Rattle.assembly.specs.Rules.{ruleMistake, linesMistake}
 use Rattle.assembly.specs.Words.{words}
 use Rattle.assembly.specs.declared.Mistake.{Mistake}
-use borrow.Author.Needs.{needs}
 use Rattle.assembly.proofs.assemble_lines.Statement.{statement}
 use Rattle.assembly.proofs.assemble_lines.Tie as tie
 

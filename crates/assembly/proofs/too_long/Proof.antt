@@ -1,6 +1,5 @@
 -- `too_long` meets its contract. Assumes nothing.
 use mathlib.Core.Path.{refl}
-use borrow.Author.Needs.{needs}
 use Rattle.assembly.proofs.too_long.Statement.{statement}
 use Rattle.assembly.proofs.too_long.Tie as tie
 

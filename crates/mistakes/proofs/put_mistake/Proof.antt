@@ -1,5 +1,4 @@
 -- `put_mistake` meets its contract. Assumes nothing.
-use native.Mathlib.Omega.{arith}
 use Rattle.text.proofs.TextLaws.{puts-then}
 use Rattle.mistakes.specs.Told.{told}
 use borrow.Author.Needs.{needs}

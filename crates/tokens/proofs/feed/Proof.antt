@@ -2,7 +2,6 @@
 use native.Mathlib.Omega.{arith}
 use Rattle.model.proofs.TestLaws.{tests}
 use Rattle.model.specs.Test.{pick}
-use borrow.Author.Needs.{needs}
 use Rattle.tokens.proofs.feed.Statement.{statement}
 use Rattle.tokens.proofs.feed.Tie as tie
 

@@ -6,7 +6,7 @@ use borrow.Author.Tests.{le-leb, lt-leb}
 use native.Mathlib.Numerals.{add-one}
 use native.Mathlib.Omega.{arith}
 use denote.Ref.{now}
-use lib.ListN.{length, getD, take, drop}
+use lib.ListN.{length, take, drop}
 use lib.Seq.{drop-cons, drop-length}
 use Rattle.model.proofs.TestLaws.{pick-true, pick-false}
 use Rattle.tokens.proofs.LineLaws.{count-least}

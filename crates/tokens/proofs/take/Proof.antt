@@ -1,6 +1,6 @@
 -- `take` meets its contract: a line feed ends the line, any other byte goes on with it. Assumes nothing.
 use Prim.Native.Nat.{ℕ, _+_, _*_}
-use mathlib.Core.List.{List, _∷_, _++_, append-assoc}
+use mathlib.Core.List.{List, _++_, append-assoc}
 use mathlib.Core.Path.{_≡_, sym, ap, _∙_}
 use borrow.Author.Tests.{eq-eqb, ne-eqb}
 use native.Mathlib.Omega.{arith}
@@ -8,7 +8,7 @@ use denote.Ref.{now}
 use lib.ListN.{take}
 use Rattle.model.proofs.TestLaws.{pick-true, pick-false}
 use Rattle.tokens.proofs.LineLaws.{count-of, feed-ends, other-goes-on}
-use Rattle.tokens.specs.Tokens.{finished, linesFrom, lineCount, numbers}
+use Rattle.tokens.specs.Tokens.{finished, linesFrom, numbers}
 use Rattle.tokens.specs.declared.Reading.{Reading}
 use borrow.Author.Needs.{needs}
 use Rattle.tokens.proofs.take.Statement.{statement}

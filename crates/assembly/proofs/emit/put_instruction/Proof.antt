@@ -1,16 +1,14 @@
 -- `emit::put_instruction` meets its contract. Assumes nothing.
-use Prim.Native.Nat.{ℕ, _+_, _*_, _≤_}
-use mathlib.Core.List.{List, [], _∷_}
-use mathlib.Core.Path.{_≡_, sym, ap, _∙_}
+use Prim.Native.Nat.{ℕ}
+use mathlib.Core.List.{[], _∷_}
+use mathlib.Core.Path.{sym, ap, _∙_}
 use native.Mathlib.Omega.{arith}
 use denote.Ref.{now}
-use lib.ListN.{length}
 use Rattle.model.proofs.TestLaws.{pick-true, pick-false}
 use Rattle.text.proofs.TextLaws.{puts-nothing, puts-as}
 use Rattle.assembly.proofs.LineLaws.{instruction-in, one-instruction}
 use Rattle.assembly.specs.Lines.{lineAt, isInstruction}
 use Rattle.assembly.specs.Words.{firstWord, secondWord, instructionWords}
-use Rattle.assembly.specs.declared.Line.{Line}
 use borrow.Author.Needs.{needs}
 use Rattle.assembly.proofs.emit.put_instruction.Statement.{statement}
 use Rattle.assembly.proofs.emit.put_instruction.Tie as tie

@@ -1,11 +1,10 @@
 -- `emit::put_row` meets its contract. Assumes nothing.
-use Prim.Native.Nat.{ℕ, suc, _+_, _*_, _-_, _≤_}
-use mathlib.Core.List.{List, [], _∷_}
+use Prim.Native.Nat.{ℕ, suc, _+_, _*_, _-_}
+use mathlib.Core.List.{[], _∷_}
 use mathlib.Core.Path.{_≡_, sym, ap, _∙_}
 use native.Mathlib.Numerals.{add-one}
 use native.Mathlib.Omega.{arith}
 use denote.Ref.{now}
-use lib.ListN.{length}
 use Rattle.model.proofs.TestLaws.{pick-true, pick-false}
 use Rattle.text.proofs.TextLaws.{puts-nothing, puts-as}
 use Rattle.assembly.proofs.LineLaws.{one-body}

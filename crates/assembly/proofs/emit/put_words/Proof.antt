@@ -1,11 +1,9 @@
 -- `emit::put_words` meets its contract. Assumes nothing.
-use mathlib.Core.Path.{_≡_, sym, ap, _∙_}
+use mathlib.Core.Path.{_∙_}
 use native.Mathlib.Omega.{arith}
-use denote.Ref.{now}
 use Rattle.text.proofs.TextLaws.{puts-then}
 use Rattle.assembly.specs.Mistakes.{programLength}
 use Rattle.assembly.specs.Words.{words}
-use borrow.Author.Needs.{needs}
 use Rattle.assembly.proofs.emit.put_words.Statement.{statement}
 use Rattle.assembly.proofs.emit.put_words.Tie as tie
 

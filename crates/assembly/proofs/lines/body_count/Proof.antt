@@ -2,14 +2,13 @@
 use Prim.Native.Nat.{ℕ, suc, _+_, _-_, _≤_, zero-le}
 use mathlib.Core.List.{List}
 use mathlib.Core.Path.{_≡_, refl, sym, ap, _∙_}
-use borrow.Author.Tests.{eq-eqb, ne-eqb}
 use native.Mathlib.Numerals.{add-one}
 use native.Mathlib.Omega.{arith}
 use denote.Ref.{now}
 use Rattle.model.proofs.TestLaws.{pick-true, pick-false}
 use Rattle.assembly.proofs.LineLaws.{lines-step, lines-end}
 use Rattle.assembly.specs.declared.Line.{Line}
-use Rattle.assembly.specs.Lines.{lineAt, linesAt, bodyCount, isBody, one, instructionLine}
+use Rattle.assembly.specs.Lines.{linesAt, bodyCount, isBody, one, instructionLine}
 use borrow.Author.Needs.{needs}
 use Rattle.assembly.proofs.lines.body_count.Statement.{statement}
 use Rattle.assembly.proofs.lines.body_count.Tie as tie

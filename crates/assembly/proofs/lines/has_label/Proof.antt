@@ -1,5 +1,5 @@
 -- `lines::has_label` meets its contract: The invariant: what is looked for stands in the lines from i on. The measure is how many are left. Assumes nothing.
-use Prim.Native.Nat.{ℕ, suc, _+_, _-_, _≤_, zero-le}
+use Prim.Native.Nat.{_-_, _≤_}
 use mathlib.Core.List.{List}
 use mathlib.Core.Path.{_≡_, refl, sym, ap, _∙_}
 use borrow.Author.Tests.{eq-eqb, ne-eqb}
@@ -9,7 +9,7 @@ use denote.Ref.{now}
 use Rattle.model.proofs.TestLaws.{pick-true, pick-false}
 use Rattle.assembly.proofs.LineLaws.{lines-step, lines-end}
 use Rattle.assembly.specs.declared.Line.{Line}
-use Rattle.assembly.specs.Lines.{lineAt, linesAt, hasLabel}
+use Rattle.assembly.specs.Lines.{linesAt, hasLabel}
 use borrow.Author.Needs.{needs}
 use Rattle.assembly.proofs.lines.has_label.Statement.{statement}
 use Rattle.assembly.proofs.lines.has_label.Tie as tie

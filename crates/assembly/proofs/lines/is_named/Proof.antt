@@ -2,7 +2,6 @@
 use Rattle.model.proofs.TestLaws.{tests}
 use Rattle.model.specs.Test.{_and_}
 use Rattle.assembly.specs.Lines.{isNamed}
-use borrow.Author.Needs.{needs}
 use Rattle.assembly.proofs.lines.is_named.Statement.{statement}
 use Rattle.assembly.proofs.lines.is_named.Tie as tie
 

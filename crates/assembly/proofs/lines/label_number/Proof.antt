@@ -7,9 +7,9 @@ use native.Mathlib.Numerals.{add-one}
 use native.Mathlib.Omega.{arith}
 use denote.Ref.{now}
 use Rattle.model.proofs.TestLaws.{pick-true, pick-false}
-use Rattle.assembly.proofs.LineLaws.{lines-step, lines-end, lines-all}
+use Rattle.assembly.proofs.LineLaws.{lines-step, lines-end}
 use Rattle.assembly.specs.declared.Line.{Line}
-use Rattle.assembly.specs.Lines.{lineAt, linesAt, labelNumber, isBody, one, instructionLine}
+use Rattle.assembly.specs.Lines.{linesAt, labelNumber, isBody, one, instructionLine}
 use borrow.Author.Needs.{needs}
 use Rattle.assembly.proofs.lines.label_number.Statement.{statement}
 use Rattle.assembly.proofs.lines.label_number.Tie as tie

@@ -1,6 +1,5 @@
 -- `lines::left_of` meets its contract. Assumes nothing.
 use Prim.Native.Nat.{_≤_}
-use mathlib.Core.Path.{sym, _∙_}
 use native.Mathlib.Omega.{arith}
 use borrow.Author.Needs.{needs}
 use Rattle.assembly.proofs.lines.left_of.Statement.{statement}

@@ -1,5 +1,5 @@
 -- `lines::place_of` meets its contract: The invariant: what is looked for stands in the lines from i on. The measure is how many are left. Assumes nothing.
-use Prim.Native.Nat.{ℕ, suc, _+_, _-_, _≤_, zero-le}
+use Prim.Native.Nat.{ℕ, suc, _-_, _≤_}
 use mathlib.Core.List.{List}
 use mathlib.Core.Path.{_≡_, refl, sym, ap, _∙_}
 use native.Mathlib.Numerals.{add-one}
@@ -9,7 +9,7 @@ use lib.Dec.{eqb}
 use Rattle.model.proofs.TestLaws.{pick-true, pick-false}
 use Rattle.model.specs.Test.{_and_}
 use Rattle.assembly.proofs.LineLaws.{lines-step, lines-end}
-use Rattle.assembly.specs.Lines.{lineAt, linesAt, isOf, one, placeOf}
+use Rattle.assembly.specs.Lines.{linesAt, isOf, one, placeOf}
 use Rattle.assembly.specs.declared.Line.{Line}
 use borrow.Author.Needs.{needs}
 use Rattle.assembly.proofs.lines.place_of.Statement.{statement}

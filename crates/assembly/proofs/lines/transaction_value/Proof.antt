@@ -1,15 +1,14 @@
 -- `lines::transaction_value` meets its contract: The invariant: what is looked for stands in the lines from i on. The measure is how many are left. Assumes nothing.
-use Prim.Native.Nat.{ℕ, suc, _+_, _-_, _≤_, zero-le}
+use Prim.Native.Nat.{_-_, _≤_, zero-le}
 use mathlib.Core.List.{List}
-use mathlib.Core.Path.{_≡_, refl, sym, ap, _∙_}
-use borrow.Author.Tests.{eq-eqb, ne-eqb}
+use mathlib.Core.Path.{_≡_, sym, ap, _∙_}
 use native.Mathlib.Numerals.{add-one}
 use native.Mathlib.Omega.{arith}
 use denote.Ref.{now}
 use Rattle.model.proofs.TestLaws.{pick-true, pick-false}
 use Rattle.assembly.proofs.LineLaws.{lines-step, lines-end, lines-all}
 use Rattle.assembly.specs.declared.Line.{Line}
-use Rattle.assembly.specs.Lines.{lineAt, linesAt, isNamed, transactionValue, transactionLine, value}
+use Rattle.assembly.specs.Lines.{linesAt, isNamed, transactionValue, transactionLine, value}
 use borrow.Author.Needs.{needs}
 use Rattle.assembly.proofs.lines.transaction_value.Statement.{statement}
 use Rattle.assembly.proofs.lines.transaction_value.Tie as tie

@@ -3,7 +3,6 @@ use mathlib.Core.Path.{sym, _∙_}
 use native.Mathlib.Omega.{arith}
 use Rattle.assembly.proofs.MistakeLaws.{first-counts, next-counts}
 use Rattle.assembly.specs.Mistakes.{amongMistake}
-use borrow.Author.Needs.{needs}
 use Rattle.assembly.proofs.mistakes.among_mistake.Statement.{statement}
 use Rattle.assembly.proofs.mistakes.among_mistake.Tie as tie
 

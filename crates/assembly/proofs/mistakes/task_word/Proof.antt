@@ -2,7 +2,6 @@
 use Rattle.model.proofs.TestLaws.{tests}
 use Rattle.model.specs.Test.{pick, _or_}
 use Rattle.assembly.specs.Mistakes.{taskWord}
-use borrow.Author.Needs.{needs}
 use Rattle.assembly.proofs.mistakes.task_word.Statement.{statement}
 use Rattle.assembly.proofs.mistakes.task_word.Tie as tie
 

@@ -1,7 +1,6 @@
 -- `mistakes::text_mistake` meets its contract. Assumes nothing.
-use Prim.Native.Nat.{ℕ}
 use denote.Ref.{now}
-use mathlib.Core.Path.{sym, ap, _∙_}
+use mathlib.Core.Path.{sym, _∙_}
 use borrow.Author.Tests.{eq-eqb, ne-eqb, lt-ltb, le-ltb}
 use native.Mathlib.Omega.{arith}
 use Rattle.assembly.proofs.MistakeLaws.{is-made, not-made, made-first, not-made-first}

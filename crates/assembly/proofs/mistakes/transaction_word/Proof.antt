@@ -2,7 +2,6 @@
 use Rattle.model.proofs.TestLaws.{tests}
 use Rattle.model.specs.Test.{pick}
 use Rattle.assembly.specs.Mistakes.{transactionWord}
-use borrow.Author.Needs.{needs}
 use Rattle.assembly.proofs.mistakes.transaction_word.Statement.{statement}
 use Rattle.assembly.proofs.mistakes.transaction_word.Tie as tie
 

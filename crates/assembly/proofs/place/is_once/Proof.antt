@@ -1,7 +1,6 @@
 -- `place::is_once` meets its contract. Assumes nothing.
 use Rattle.model.proofs.TestLaws.{tests}
 use Rattle.model.specs.Test.{_or_}
-use borrow.Author.Needs.{needs}
 use Rattle.assembly.proofs.place.is_once.Statement.{statement}
 use Rattle.assembly.proofs.place.is_once.Tie as tie
 

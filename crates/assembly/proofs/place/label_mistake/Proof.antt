@@ -1,15 +1,15 @@
 -- `place::label_mistake` meets its contract. Assumes nothing.
-use Prim.Native.Nat.{ℕ, _-_}
-use mathlib.Core.Bool.{Bool, not}
+use Prim.Native.Nat.{_-_}
+use mathlib.Core.Bool.{not}
 use mathlib.Core.Path.{sym, ap, _∙_}
 use borrow.Author.Tests.{eq-eqb, ne-eqb}
 use denote.Ref.{now}
-use lib.Dec.{eqb, ltb}
+use lib.Dec.{eqb}
 use Rattle.model.proofs.TestLaws.{pick-true, pick-false}
 use Rattle.model.specs.Test.{_and_, _or_}
 use Rattle.assembly.proofs.MistakeLaws.{is-made, not-made, made-first, not-made-first}
 use Rattle.assembly.specs.declared.Line.{Line}
-use Rattle.assembly.specs.Lines.{lineAt, linesAt, isInstruction, hasLabel}
+use Rattle.assembly.specs.Lines.{linesAt, isInstruction, hasLabel}
 use Rattle.assembly.specs.Mistakes.{labelMistake}
 use borrow.Author.Needs.{needs}
 use Rattle.assembly.proofs.place.label_mistake.Statement.{statement}

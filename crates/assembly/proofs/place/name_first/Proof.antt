@@ -2,7 +2,6 @@
 use Rattle.model.proofs.TestLaws.{tests}
 use Rattle.model.specs.Test.{_and_}
 use Rattle.assembly.specs.Mistakes.{nameFirst}
-use borrow.Author.Needs.{needs}
 use Rattle.assembly.proofs.place.name_first.Statement.{statement}
 use Rattle.assembly.proofs.place.name_first.Tie as tie
 

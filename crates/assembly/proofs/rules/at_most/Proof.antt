@@ -1,6 +1,5 @@
 -- `rules::at_most` meets its contract. Assumes nothing.
 use native.Mathlib.Omega.{arith}
-use borrow.Author.Needs.{needs}
 use Rattle.assembly.proofs.rules.at_most.Statement.{statement}
 use Rattle.assembly.proofs.rules.at_most.Tie as tie
 

@@ -1,5 +1,5 @@
 -- `rules::body_place` meets its contract. Assumes nothing.
-use Prim.Native.Nat.{ℕ, _-_, zero-le}
+use Prim.Native.Nat.{_-_, zero-le}
 use mathlib.Core.List.{List}
 use mathlib.Core.Path.{ap, _∙_}
 use native.Mathlib.Omega.{arith}

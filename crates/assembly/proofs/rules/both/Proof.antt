@@ -1,6 +1,5 @@
 -- `rules::both` meets its contract. Assumes nothing.
 use Rattle.model.specs.Test.{_and_}
-use borrow.Author.Needs.{needs}
 use Rattle.assembly.proofs.rules.both.Statement.{statement}
 use Rattle.assembly.proofs.rules.both.Tie as tie
 

@@ -1,6 +1,5 @@
 -- `rules::either` meets its contract. Assumes nothing.
 use Rattle.model.specs.Test.{_or_}
-use borrow.Author.Needs.{needs}
 use Rattle.assembly.proofs.rules.either.Statement.{statement}
 use Rattle.assembly.proofs.rules.either.Tie as tie
 

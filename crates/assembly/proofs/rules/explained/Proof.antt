@@ -2,7 +2,6 @@
 use Prim.Native.Nat.{ℕ, suc}
 use mathlib.Core.Path.{ap, _∙_}
 use native.Mathlib.Numerals.{add-one}
-use native.Mathlib.Omega.{arith}
 use denote.Ref.{now}
 use Rattle.assembly.specs.Mistakes.{mistakeAt}
 use Rattle.assembly.specs.Rules.{rulePlace, explainedBy}

@@ -4,7 +4,7 @@ use mathlib.Core.Path.{ap, _∙_}
 use native.Mathlib.Omega.{arith}
 use denote.Ref.{now}
 use Rattle.assembly.specs.Lines.{linesAt, instructionLine, placeOf}
-use Rattle.assembly.specs.Rules.{bodyPlace, instructionPlace}
+use Rattle.assembly.specs.Rules.{instructionPlace}
 use borrow.Author.Needs.{needs}
 use Rattle.assembly.proofs.rules.instruction_place.Statement.{statement}
 use Rattle.assembly.proofs.rules.instruction_place.Tie as tie

@@ -1,9 +1,9 @@
 -- `rules::instruction_rule` meets its contract. Assumes nothing.
 use Prim.Native.Nat.{ℕ, _+_, _*_}
-use mathlib.Core.Path.{sym, ap, _∙_}
+use mathlib.Core.Path.{ap, _∙_}
 use denote.Ref.{now}
 use lib.Dec.{ltb}
-use Rattle.model.specs.Program.{word, tasks, memoryWords, instructions, start, code}
+use Rattle.model.specs.Program.{word, tasks, memoryWords, instructions, code}
 use Rattle.assembly.specs.Rules.{instructionMistake, instructionRule}
 use borrow.Author.Needs.{needs}
 use Rattle.assembly.proofs.rules.instruction_rule.Statement.{statement}

@@ -2,7 +2,6 @@
 use Rattle.model.proofs.TestLaws.{tests}
 use Rattle.model.specs.Test.{pick}
 use Rattle.assembly.specs.Rules.{sizeMistake}
-use borrow.Author.Needs.{needs}
 use Rattle.assembly.proofs.rules.size_mistake.Statement.{statement}
 use Rattle.assembly.proofs.rules.size_mistake.Tie as tie
 

@@ -3,7 +3,6 @@ use native.Mathlib.Omega.{arith}
 use mathlib.Core.Path.{sym}
 use Rattle.model.proofs.TestLaws.{pick-true, pick-false}
 use Rattle.assembly.specs.Mistakes.{bit}
-use borrow.Author.Needs.{needs}
 use Rattle.assembly.proofs.statement.bit.Statement.{statement}
 use Rattle.assembly.proofs.statement.bit.Tie as tie
 

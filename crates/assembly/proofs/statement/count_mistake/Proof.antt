@@ -1,6 +1,6 @@
 -- `statement::count_mistake` meets its contract. Assumes nothing.
 use Prim.Native.Nat.{_<_, _≤_}
-use mathlib.Core.Path.{sym, _∙_}
+use mathlib.Core.Path.{sym}
 use borrow.Author.Tests.{lt-ltb, le-ltb}
 use native.Mathlib.Omega.{arith}
 use Rattle.model.specs.Test.{_or_}

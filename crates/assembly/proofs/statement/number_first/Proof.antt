@@ -1,7 +1,6 @@
 -- `statement::number_first` meets its contract. Assumes nothing.
 use mathlib.Core.Path.{sym, _∙_}
 use borrow.Author.Tests.{eq-eqb, ne-eqb}
-use Prim.Native.Nat.{_≤_}
 use native.Mathlib.Omega.{arith}
 use Rattle.model.specs.Test.{_and_, _or_}
 use Rattle.assembly.proofs.LineLaws.{instruction-in}

@@ -1,6 +1,5 @@
 -- `statement::number_only` meets its contract. Assumes nothing.
-use mathlib.Core.Path.{sym, ap, _∙_}
-use mathlib.Core.Bool.{not}
+use mathlib.Core.Path.{sym, _∙_}
 use Rattle.model.specs.Test.{_and_}
 use Rattle.assembly.specs.Mistakes.{numberOnly}
 use borrow.Author.Needs.{needs}

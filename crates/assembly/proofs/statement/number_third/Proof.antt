@@ -1,6 +1,5 @@
 -- `statement::number_third` meets its contract. Assumes nothing.
 use mathlib.Core.Path.{sym, _∙_}
-use Prim.Native.Nat.{_≤_}
 use native.Mathlib.Omega.{arith}
 use Rattle.model.specs.Test.{_and_}
 use Rattle.assembly.proofs.LineLaws.{instruction-in}

@@ -1,6 +1,5 @@
 -- `statement::statement_mistake` meets its contract. Assumes nothing.
-use Prim.Native.Nat.{ℕ}
-use mathlib.Core.Path.{sym, ap, _∙_}
+use mathlib.Core.Path.{sym, _∙_}
 use borrow.Author.Tests.{eq-eqb, ne-eqb}
 use Rattle.assembly.proofs.MistakeLaws.{first-counts, next-counts, made-first, not-made-first}
 use Rattle.assembly.specs.Mistakes.{statementMistake}

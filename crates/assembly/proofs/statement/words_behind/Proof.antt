@@ -2,7 +2,6 @@
 use Rattle.model.proofs.TestLaws.{tests}
 use Rattle.model.specs.Test.{pick}
 use Rattle.assembly.specs.Mistakes.{wordsBehind}
-use borrow.Author.Needs.{needs}
 use Rattle.assembly.proofs.statement.words_behind.Statement.{statement}
 use Rattle.assembly.proofs.statement.words_behind.Tie as tie
 

@@ -1,5 +1,5 @@
 -- `line::decimal_digit` meets its contract. Assumes nothing.
-use Prim.Native.Nat.{_+_, _*_, _-_, _<_, _≤_}
+use Prim.Native.Nat.{_+_, _*_, _-_, _<_}
 use native.Mathlib.Omega.{arith}
 use Rattle.model.proofs.TestLaws.{tests}
 use Rattle.model.specs.Test.{pick}

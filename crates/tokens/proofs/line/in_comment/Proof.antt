@@ -1,7 +1,6 @@
 -- `line::in_comment` meets its contract. Assumes nothing.
 use mathlib.Core.Path.{refl}
 use Rattle.tokens.specs.Tokens.{inComment}
-use borrow.Author.Needs.{needs}
 use Rattle.tokens.proofs.line.in_comment.Statement.{statement}
 use Rattle.tokens.proofs.line.in_comment.Tie as tie
 

@@ -2,7 +2,6 @@
 use Rattle.model.proofs.TestLaws.{tests}
 use Rattle.model.specs.Test.{_or_}
 use Rattle.tokens.specs.Tokens.{isSpace}
-use borrow.Author.Needs.{needs}
 use Rattle.tokens.proofs.line.is_space.Statement.{statement}
 use Rattle.tokens.proofs.line.is_space.Tie as tie
 

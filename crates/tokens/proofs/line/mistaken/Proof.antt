@@ -1,7 +1,6 @@
 -- `line::mistaken` meets its contract. Assumes nothing.
 use mathlib.Core.Path.{refl}
 use Rattle.tokens.specs.Tokens.{mistaken}
-use borrow.Author.Needs.{needs}
 use Rattle.tokens.proofs.line.mistaken.Statement.{statement}
 use Rattle.tokens.proofs.line.mistaken.Tie as tie
 

@@ -1,7 +1,6 @@
 -- `line::with_word` meets its contract. Assumes nothing.
 use mathlib.Core.Path.{refl}
 use Rattle.tokens.specs.Tokens.{withWord}
-use borrow.Author.Needs.{needs}
 use Rattle.tokens.proofs.line.with_word.Statement.{statement}
 use Rattle.tokens.proofs.line.with_word.Tie as tie
 

@@ -1,15 +1,13 @@
 -- `statements::statement` meets its contract: The invariant: the statement stands at n or behind. The measure is how many names are left. Assumes nothing.
-use Prim.Native.Nat.{ℕ, suc, _+_, _-_, _<_, _≤_, zero-le}
-use mathlib.Core.List.{List, [], _∷_}
+use Prim.Native.Nat.{ℕ, _+_, _-_, _<_, _≤_, zero-le}
+use mathlib.Core.List.{List}
 use mathlib.Core.Path.{_≡_, refl, sym, ap, _∙_}
 use borrow.Author.Tests.{eq-eqb, ne-eqb}
 use native.Mathlib.Numerals.{add-one}
 use native.Mathlib.Omega.{arith}
-use lib.Dec.{eqb}
-use lib.ListN.{length, getD, drop}
+use lib.ListN.{length, drop}
 use lib.Seq.{drop-cons, drop-length}
-use Rattle.model.proofs.TestLaws.{pick-true, pick-false, tests}
-use Rattle.model.specs.Test.{pick}
+use Rattle.model.proofs.TestLaws.{pick-true, pick-false}
 use Rattle.tokens.proofs.LineLaws.{table-length}
 use Rattle.tokens.specs.Tokens.{statementNames, allNamed, numberOf, statement as statementOf}
 use borrow.Author.Needs.{needs}
