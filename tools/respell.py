@@ -5,7 +5,8 @@ usage: tools/respell.py            at the top of a checkout, once, behind the ki
        tools/respell.py --list     prints each name with its new spelling, and the names that stay as they are because two would fall together
 
 A definition, a field or a part of a lemma's name in camel case goes to snake case: slotAfter, slot_after. A dash in a lemma's name stays
-where it joins names of definitions or of the library, as in length-append, and is an underscore where a part is a plain word; a lemma that
+where it joins names of definitions or of the library, as in length-append, and is an underscore where a part is a plain word, and in every
+field and constructor; a lemma that
 would have a definition's name ends in _lem. Types, constructors, modules, functions of src/, exported names, strings, inputs and outputs keep
 their names. Edits in must-fail/ are respelled too.
 """
@@ -16,7 +17,7 @@ import sys
 
 TOP = os.path.dirname(os.path.dirname(os.path.abspath(__file__)))
 NAME = r"[A-Za-z_][\w'\-]*"
-SIGNATURE = re.compile(r"^(\s*)((?:abbrev|unfoldable|mutual|private)\s+)*(?:pub\s+)?((?:" + NAME + r")(?:\s+" + NAME + r")*)\s+:(?=\s|$)")
+SIGNATURE = re.compile(r"^(\s*)((?:abbrev|unfoldable|mutual|private)\s+)*(?:pub\s+)?((?:" + NAME + r")(?:\s+" + NAME + r")*)(?:\s+\{[^}]*\})?\s+:(?=\s|$)")
 TOKEN = re.compile(r"(?<![\w'\-])" + NAME)
 # names of the library that lemmas of the repository join with a dash
 LIBRARY = set("length append take drop set get_or replicate map reverse ltb leb eqb mul add sub pow suc zero false true pick".split())
@@ -34,6 +35,8 @@ CHOSEN = {
     "rowsInside": "rows_inside_rule",
     "stepWords": "step_words",
 }
+# names of the library too
+FOREIGN = {"not-false"}
 # words that are no names
 RESERVED = set("data record deriving module where use mod pub package open as unfoldable abbrev axiom unfold unfolding ruleset mutual infix infixl infixr elim let in do Type coe fcoe".split())
 
@@ -54,23 +57,26 @@ def snake(name):
 
 
 def declared():
-    """The names that specs/ and proofs/ declare: all, those of definitions and fields in specs/, and types."""
+    """The names that specs/ and proofs/ declare: all, those of specs/, and fields and constructors."""
     every, specs, fields = set(), set(), set()
     for path in files("specs/**/*.antt", "proofs/**/*.antt"):
         if function_proof(path):
             continue
+        inside = False
         for line in open(path, encoding="utf-8"):
+            if line.strip() and not line.startswith((" ", "--")):
+                inside = bool(re.match(r"(pub )?(data|record) ", line))
             m = SIGNATURE.match(line)
             if not m or line.lstrip().startswith("--"):
                 continue
             for name in m.group(3).split():
-                if name in RESERVED or name in ("pub", "abbrev"):
+                if name in RESERVED or name in ("pub", "abbrev") or name in FOREIGN:
                     continue
                 every.add(name)
                 if "/specs/" in path:
                     specs.add(name)
-                    if m.group(1):
-                        fields.add(name)
+                if m.group(1) and inside:
+                    fields.add(name)
     return every, specs, fields
 
 
@@ -82,7 +88,7 @@ def respelt(name, words):
 
 
 def table():
-    every, specs, _ = declared()
+    every, specs, fields = declared()
     words = {snake(n) for n in specs if "-" not in n} | LIBRARY
     taken = {n for n in every if snake(n) == n and "-" not in n}
     for path in files("specs/**/*.antt", "proofs/**/*.antt"):
@@ -95,14 +101,16 @@ def table():
     for name in sorted(every, key=lambda n: ("-" in n, n)):
         if name[0].isupper() and "-" not in name:
             continue
-        to = CHOSEN.get(name) or respelt(name, words)
+        to = CHOSEN.get(name) or respelt(name, set() if name in fields else words)
         if to == name:
             continue
         if name in CHOSEN:
             new[name] = to
             continue
         if to in taken and "-" in name:
-            to += "_lem"
+            to = "-".join(snake(p) for p in name.split("-")) if name in fields else to + "_lem"
+        if to == name:
+            continue
         if to in taken:
             stays[name] = to
             continue

@@ -1,7 +1,15 @@
 // assemble: a text to program words. What it prints and writes is the libraries'; the program only reads, lends and writes.
+
+#![tactic(auto)]
+
 use assembly::Assembled;
 use command::{Command, Got};
-use libc::STDERR_FILENO;
+use libc::{STDERR_FILENO, STDOUT_FILENO};
+
+fn usage(file: i32) {
+    io::write_all(file, b"assemble [--verbose] [TEXT [IMAGE]]\n");
+    io::write_all(file, b"disassemble [--verbose] [IMAGE [TEXT]]\n");
+}
 
 fn low(word: u16) -> u8 {
     (word % 256) as u8
@@ -110,7 +118,13 @@ fn run(command: Command) {
 
 fn main() {
     let command = command::read_command();
-    if command::is_plain(command) {
-        run(command);
+    if command.help {
+        usage(STDOUT_FILENO);
+        return;
     }
+    if command.wrong {
+        usage(STDERR_FILENO);
+        return;
+    }
+    run(command);
 }

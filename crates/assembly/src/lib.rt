@@ -1,4 +1,7 @@
 // The assembler: program words from a text, or its first mistake.
+
+#![tactic(auto)]
+
 ghost use Rattle.std.specs.Prelude.{◌*◌, ◌≤◌, length, take, ◌≡◌};
 ghost use Rattle.model.specs.Check.{check as checkOf};
 ghost use Rattle.assembly.specs.Assembles.{text_long, assembled_as, AssemblesLines, Assembles};
@@ -6,7 +9,7 @@ ghost use Rattle.assembly.specs.Mistakes.{mistake_at};
 ghost use Rattle.assembly.specs.Rules.{rule_mistake as ruleMistakeOf};
 
 mod emit;
-mod lines;
+pub mod lines;
 mod mistakes;
 mod place;
 mod rules;

@@ -1,5 +1,8 @@
 // A running body's step: fetching.rt has the checks that are left for it and what its instruction does, acting.rt what comes of that, and
 // ending.rt the stores of its end. Each step makes its own store; the registers are lent, and the rest of the device goes by value.
+
+#![tactic(auto)]
+
 ghost use Rattle.std.specs.Prelude.{◌≡◌};
 ghost use Rattle.model.specs.Accepted.{Looked};
 ghost use Rattle.device.specs.Result.{device, of_core, leaves, place_step_of};

@@ -1,5 +1,8 @@
 // Starred cases of document 01 as programs over the calls. What these programs return is proved from the calls' contracts alone: no proof
 // here looks into a call.
+
+#![tactic(auto)]
+
 ghost use Rattle.std.specs.Prelude.{[], ◌∷◌, ◌≡◌, replicate};
 ghost use Rattle.model.specs.Starred.{counting};
 ghost use Rattle.cases.specs.Seen.{none, store_after_cut, cut_after, further_post};

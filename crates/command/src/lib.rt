@@ -1,4 +1,7 @@
 // The command line of the programs that read one file and write another: options, the two names, and reading and writing.
+
+#![tactic(auto)]
+
 use libc::{STDERR_FILENO, STDIN_FILENO, STDOUT_FILENO};
 
 // What was asked for. A name is an argument's number, and 0 where it is standard input or output.
@@ -122,24 +125,6 @@ pub fn read_command() -> Command {
         i += 1;
     }
     command
-}
-
-fn usage(file: i32) {
-    io::write_all(file, b"assemble [--verbose] [TEXT [IMAGE]]\n");
-    io::write_all(file, b"disassemble [--verbose] [IMAGE [TEXT]]\n");
-}
-
-// Whether there is something to do: --help and a command line that can't be are told here.
-pub fn is_plain(command: Command) -> bool {
-    if command.help {
-        usage(STDOUT_FILENO);
-        return false;
-    }
-    if command.wrong {
-        usage(STDERR_FILENO);
-        return false;
-    }
-    true
 }
 
 fn failed(number: usize) {

@@ -1,5 +1,8 @@
 // Refusal 7: the rules of the control words, of the log's addresses and of the waiting records, in the order of their words.
 // Each rule is a function of its own; `early` is what a step and a post look at, `whole` what a boot does.
+
+#![tactic(auto)]
+
 ghost use Rattle.std.specs.Prelude.{◌≡◌, List, ℕ, ◌+◌, ◌<◌, ◌≤◌, eqb};
 ghost use Rattle.model.specs.Control.{obey, obey_all, committing, phase_rule, task_rule, open_rule, open_serving, count_rule, pending_task_rule, pending_head_rule, pending_move_rule, pending_open_rule, head_rule, tail_rule, begun_rule, begun_event_rule, address_rule, start_kept, record_rule, rules, early_rules};
 ghost use Rattle.model.specs.Program.{word, tasks, transaction};

@@ -2,6 +2,9 @@
 // nothing: boot, post and cut; burst.rt what a post carries and a handler keeps; results.rt what a step answers and leaves.
 // A call that a host makes takes the device by value and refuses what it must: none has a `requires`. Inside, the
 // registers and the handler's burst are lent and the rest goes by value, the handler apart from the `Core`, so that a step copies nothing that it leaves.
+
+#![tactic(auto)]
+
 ghost use Rattle.std.specs.Prelude.{◌≡◌};
 ghost use Rattle.device.specs.Result.{core_of};
 

@@ -1,9 +1,17 @@
 // disassemble: program words to a text. What it prints is the library's; the program only reads, lends and writes.
+
+#![tactic(auto)]
+
 use command::{Command, Got};
 use image::Loaded;
-use libc::STDERR_FILENO;
+use libc::{STDERR_FILENO, STDOUT_FILENO};
 use listing::Listed;
 use model::Checked;
+
+fn usage(file: i32) {
+    io::write_all(file, b"assemble [--verbose] [TEXT [IMAGE]]\n");
+    io::write_all(file, b"disassemble [--verbose] [IMAGE [TEXT]]\n");
+}
 
 fn print_number(number: u16) {
     io::write_all(STDERR_FILENO, b" ");
@@ -90,7 +98,13 @@ fn run(command: Command) {
 
 fn main() {
     let command = command::read_command();
-    if command::is_plain(command) {
-        run(command);
+    if command.help {
+        usage(STDOUT_FILENO);
+        return;
     }
+    if command.wrong {
+        usage(STDERR_FILENO);
+        return;
+    }
+    run(command);
 }

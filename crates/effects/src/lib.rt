@@ -1,4 +1,7 @@
 // What an instruction does, memory and log aside: the opcode table's column "meaning".
+
+#![tactic(auto)]
+
 ghost use Rattle.std.specs.Prelude.{◌≡◌, ◌+◌, ◌-◌, ◌%◌, ◌<◌};
 ghost use Rattle.model.specs.Program.{reg, effect, effect_at};
 ghost use Rattle.model.specs.Test.{pick};

@@ -1,5 +1,8 @@
 // Prints an exam sheet: program.img of the current folder, the schedule from standard input, the sheet to standard output.
 // What is printed is the library's (crate sheet); the program only reads, lends and writes.
+
+#![tactic(auto)]
+
 use image::Loaded;
 use libc::{STDIN_FILENO, STDOUT_FILENO};
 use model::Checked;

@@ -71,7 +71,7 @@ module _ (p : List ℕ) (ps : TypedWords p) (l q : ℕ) (before : List ℕ) (e :
     T = totals_after p s off cs no_totals
 
     has_words : HasWords D
-    has_words = record { registers = at.device-words.registers-length; burst = at.device-words.burst-length; unused = at.device-words.unused }
+    has_words = record { registers = at.device-words.registers_length; burst = at.device-words.burst-length; unused = at.device-words.unused }
 
     read : device_of h.device ≡ known D
     read = ap device_of at.device ∙ back D has_words

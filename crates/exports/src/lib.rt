@@ -1,5 +1,8 @@
 // The functions that a bench links, from C or Rust: include/runtime.h declares them and docs/USING.md explains them.
 // No enum crosses: a device state is 26 words, an answer 5, a step's answer 6, the totals are 3 numbers (crates/words, specs/Exported.antt).
+
+#![tactic(auto)]
+
 ghost use Rattle.std.specs.Prelude.{◌≡◌};
 ghost use Rattle.exports.specs.Exported.{host_state, Checks, Formats, Boots, Posts, Cuts, Steps, Runs, totals_of, totals_words};
 ghost use Rattle.exports.specs.Exported.{LinesChecks, Raises};

@@ -1,5 +1,8 @@
 // What a host calls that lends its totals: "one record that the host lends and a step updates". The program and the words are lent too;
 // the device goes by value. The call has no `requires`. A run takes its totals and returns them by value (crate runtime).
+
+#![tactic(auto)]
+
 ghost use Rattle.host.specs.Counts.{StepCounts};
 
 use device::CallResult;

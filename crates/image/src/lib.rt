@@ -1,4 +1,7 @@
 // program.img: its words, low byte first, what the check says of them, and how many words a store for them has.
+
+#![tactic(auto)]
+
 ghost use Rattle.std.specs.Prelude.{◌+◌, ◌*◌, ◌≤◌, length, take, ◌≡◌};
 ghost use Rattle.model.specs.Check.{check as checkOf};
 ghost use Rattle.image.specs.Image.{first_words};

@@ -155,18 +155,18 @@ module _ (f : ℕ → Checked) (k : ℕ) (r : Refusal) where
   first_refuses j h = refuses_from f 0 k j r h.there (λ m l. rw zero-add (h.before m l)) (rw zero-add h.refuses)
 
 -- a refusal of two checks in a row is the first's, or the second's where the first accepts
-pub then-refused {ℓ} : {X : Type ℓ} (a b : Checked) (r : Refusal) → (a then b) ≡ Checked.Refused r → (a ≡ Checked.Refused r → X)
+pub then_refused {ℓ} : {X : Type ℓ} (a b : Checked) (r : Refusal) → (a then b) ≡ Checked.Refused r → (a ≡ Checked.Refused r → X)
     → (a ≡ Checked.Accepted → b ≡ Checked.Refused r → X) → X
 unfolding ◌then◌
-then-refused Checked.Accepted b r e f g = g refl e
-then-refused (Checked.Refused q) b r e f g = f e
+then_refused Checked.Accepted b r e f g = g refl e
+then_refused (Checked.Refused q) b r e f g = f e
 
 refused_from : (f : ℕ → Checked) (i k : ℕ) (r : Refusal) → each f i k ≡ Checked.Refused r
     → (j : ℕ) × FirstRefuses (λ m. f (i + m)) k j r
 unfolding each
 refused_from f i zero r e = impossible (cc)
 refused_from f i (suc k) r e =
-    then-refused (f i) (each f (suc i) k) r e
+    then_refused (f i) (each f (suc i) k) r e
     (λ here. (0, record { there = omega arith; refuses = rw add-zero here; before = λ m l. absurd (omega arith) }))
     (λ here rest.
     let (j, h) = refused_from f (suc i) k r rest in
@@ -184,7 +184,7 @@ refused_from f i (suc k) r e =
       },
     ))
 
-pub refused-first : (f : ℕ → Checked) (k : ℕ) (r : Refusal) → each f 0 k ≡ Checked.Refused r → (j : ℕ) × FirstRefuses f k j r
-refused-first f k r e =
+pub refused_first : (f : ℕ → Checked) (k : ℕ) (r : Refusal) → each f 0 k ≡ Checked.Refused r → (j : ℕ) × FirstRefuses f k j r
+refused_first f k r e =
     let (j, h) = refused_from f 0 k r e in
     (j, record { there = h.there; refuses = rw zero-add at h.refuses; before = λ m l. rw zero-add at (h.before m l) })

@@ -9,7 +9,7 @@ use Rattle.model.proofs.TestLaws.{impossible, below_or, must-passed, then_first,
 use Rattle.model.specs.Test.{must}
 use Rattle.model.specs.declared.Checked.{Checked}
 use Rattle.model.specs.declared.Refusal.{Refusal}
-use Rattle.lines.proofs.CountLaws.{by_test, all-accept, accepted-all, FirstRefuses, refused-first, then-refused}
+use Rattle.lines.proofs.CountLaws.{by_test, all-accept, accepted-all, FirstRefuses, refused_first, then_refused}
 use Rattle.lines.proofs.LineLaws.{covered_counts, counted_covered, twice_counts, counted_twice, named-true, named_is, no_gap, no_overlap, unnamed_accepts, named-each, line-accepts}
 use Rattle.lines.proofs.RowLaws.{accepted-row, good_row_accepted, accepted-rows, good_rows_accepted}
 use Rattle.lines.specs.Claims.{Named, Covered, CoveredTwice, InOneRow, AcceptedIsGood, GoodIsAccepted, Blames, row, gap, overlap, RefusedIsBlamed}
@@ -41,18 +41,18 @@ module _ (t : List ℕ) (rule : ℕ → ℕ → Checked) where
     level : x < levels
     refuses : rule n x ≡ Checked.Refused r
     below : (y : ℕ) → y < x → rule n y ≡ Checked.Accepted
-    lines-before : (m y : ℕ) → m < n → Named t m → y < levels → rule m y ≡ Checked.Accepted
+    lines_before : (m y : ℕ) → m < n → Named t m → y < levels → rule m y ≡ Checked.Accepted
 
   line_refused : (n : ℕ) (r : Refusal) → line_rule t rule n ≡ Checked.Refused r → Named t n × ((x : ℕ) × FirstRefuses (rule n) levels x r)
   line_refused n r e =
       by_test (named t n)
-      (λ yes. (named_is t n yes, refused-first (rule n) levels r (sym (named-each t rule n yes) ∙ e)))
+      (λ yes. (named_is t n yes, refused_first (rule n) levels r (sym (named-each t rule n yes) ∙ e)))
       (λ no. accepted-refused (unnamed_accepts t rule n no) e)
 
   first-place : (r : Refusal) → line_rules t rule ≡ Checked.Refused r → (n : ℕ) × (x : ℕ) × FirstPlace r n x
   unfolding line_rules
   first-place r e =
-      let (n, h) = refused-first (line_rule t rule) lines r e in
+      let (n, h) = refused_first (line_rule t rule) lines r e in
       let (names, (x, g)) = line_refused n r h.refuses in (
         n,
         x,
@@ -61,7 +61,7 @@ module _ (t : List ℕ) (rule : ℕ → ℕ → Checked) where
           level = g.there;
           refuses = g.refuses;
           below = g.before;
-          lines-before = λ m y l named inside.
+          lines_before = λ m y l named inside.
               accepted-all (rule m) levels y (sym (named-each t rule m (named-true t m named)) ∙ h.before m l) inside;
         },
       )
@@ -134,15 +134,15 @@ good_is_accepted t good =
 row_blamed : (t : List ℕ) (i : ℕ) (r : Refusal) → row_rule t i ≡ Checked.Refused r → Refusal.LinesRow i ≡ r
 unfolding row_rule
 row_blamed t i r e =
-    then-refused _ _ r e (λ h. (must-refused _ _ r h).1)
+    then_refused _ _ r e (λ h. (must-refused _ _ r h).1)
     (λ _ e1.
-    then-refused _ _ r e1 (λ h. (must-refused _ _ r h).1)
-    (λ _ e2. then-refused _ _ r e2 (λ h. (must-refused _ _ r h).1) (λ _ e3. (must-refused _ _ r e3).1)))
+    then_refused _ _ r e1 (λ h. (must-refused _ _ r h).1)
+    (λ _ e2. then_refused _ _ r e2 (λ h. (must-refused _ _ r h).1) (λ _ e3. (must-refused _ _ r e3).1)))
 
 rows_blamed : (t : List ℕ) (r : Refusal) → row_rules t ≡ Checked.Refused r → Blames t r
 unfolding row_rules
 rows_blamed t r e =
-    let (i, h) = refused-first (row_rule t) (rows t) r e in
+    let (i, h) = refused_first (row_rule t) (rows t) r e in
     subst (Blames t) (row_blamed t i r h.refuses)
     (row i
     (record {
@@ -163,7 +163,7 @@ gaps_blamed t r good e =
       level = h.level;
       gap = uncovered;
       below = λ y l. gap-passed t n y (h.below y l);
-      lines-before = λ m y l named inside. gap-passed t m y (h.lines-before m y l named inside);
+      lines_before = λ m y l named inside. gap-passed t m y (h.lines_before m y l named inside);
     }))
 
 overlaps_blamed : (t : List ℕ) (r : Refusal) → row_rules t ≡ Checked.Accepted → line_rules t (gap_rule t) ≡ Checked.Accepted
@@ -183,16 +183,16 @@ overlaps_blamed t r good covered e =
           gap-passed t m y (rules-accepted t (gap_rule t) covered m y below (i, there, same) inside);
       overlap = twice;
       below = λ y l. overlap-passed t n y (h.below y l);
-      lines-before = λ m y l inside (i, j, before, c, d).
-          overlap-passed t m y (h.lines-before m y l (i, c.there, c.line_is) inside) (i, j, before, c, d);
+      lines_before = λ m y l inside (i, j, before, c, d).
+          overlap-passed t m y (h.lines_before m y l (i, c.there, c.line_is) inside) (i, j, before, c, d);
     }))
 
 pub refused_is_blamed : RefusedIsBlamed
 unfolding check
 refused_is_blamed t r e =
-    then-refused _ _ r e
+    then_refused _ _ r e
     (rows_blamed t r)
     (λ good rest.
-    then-refused _ _ r rest
+    then_refused _ _ r rest
     (gaps_blamed t r good)
     (λ covered last. overlaps_blamed t r good covered last))

@@ -16,20 +16,20 @@ use Rattle.lines.specs.Lines.{line, low, high, rows, lines, levels, gap_rule, ov
 
 -- The first i rows stand in order: they are of lines below n, each of which but n - 1 has every level, once; line n - 1 has those below x.
 pub record Ordered (t : List ℕ) (i n x : ℕ) : Type 0 where
-  pub lines-below : (j : ℕ) → j < i → line t j < n
-  pub last-below : (j : ℕ) → j < i → line t j + 1 ≡ n → high t j < x
+  pub lines_below : (j : ℕ) → j < i → line t j < n
+  pub last_below : (j : ℕ) → j < i → line t j + 1 ≡ n → high t j < x
   pub full : (j y : ℕ) → j < i → line t j + 1 < n → y < 65536 → (m : ℕ) × (m < i) × Covers t (line t j) y m
-  pub last-full : (m y : ℕ) → m + 1 ≡ n → y < x → (k : ℕ) × (k < i) × Covers t m y k
+  pub last_full : (m y : ℕ) → m + 1 ≡ n → y < x → (k : ℕ) × (k < i) × Covers t m y k
   pub apart : (j k y : ℕ) → j < k → k < i → line t j ≡ line t k → y ≤ high t j → low t k ≤ y → y ≤ high t k → low t j ≤ y → ⊥
 
 module _ (t : List ℕ) where
   pub ordered_none : Ordered t 0 0 65536
   ordered_none =
       record {
-        lines-below = λ j l. absurd (omega arith);
-        last-below = λ j l. absurd (omega arith);
+        lines_below = λ j l. absurd (omega arith);
+        last_below = λ j l. absurd (omega arith);
         full = λ j y l. absurd (omega arith);
-        last-full = λ m y e. absurd (omega arith);
+        last_full = λ m y e. absurd (omega arith);
         apart = λ j k y l h. absurd (omega arith);
       }
 
@@ -47,9 +47,9 @@ module _ (t : List ℕ) where
     new_line : x ≡ 65536 → n ≤ line t i → low t i ≡ 0 → Ordered t (i + 1) (line t i + 1) (high t i + 1)
     new_line all higher from-0 =
         record {
-          lines-below = λ j l. same_or j i (λ same. omega (arith, line-at j same)) (λ differ. let u = h.lines-below j (omega arith) in omega arith);
-          last-below = λ j l e.
-              same_or j i (λ same. omega (arith, high-at j same)) (λ differ. let u = h.lines-below j (omega arith) in absurd (omega arith));
+          lines_below = λ j l. same_or j i (λ same. omega (arith, line-at j same)) (λ differ. let u = h.lines_below j (omega arith) in omega arith);
+          last_below = λ j l e.
+              same_or j i (λ same. omega (arith, high-at j same)) (λ differ. let u = h.lines_below j (omega arith) in absurd (omega arith));
           full = λ j y l e u.
               same_or j i
               (λ same. absurd (omega (arith, line-at j same)))
@@ -57,15 +57,15 @@ module _ (t : List ℕ) where
               below_or (line t j + 1) n
               (λ v. let (m, w, c) = h.full j y (omega arith) v u in (m, omega arith, c))
               (λ v.
-              let w = h.lines-below j (omega arith) in
-              let (m, k, c) = h.last-full (line t j) y (omega arith) (omega arith) in
+              let w = h.lines_below j (omega arith) in
+              let (m, k, c) = h.last_full (line t j) y (omega arith) (omega arith) in
               (m, omega arith, c)));
-          last-full = λ m y e u.
+          last_full = λ m y e u.
               let same : line t i ≡ m = omega arith in
               (i, omega arith, record { there = there; line_is = same; from_low = omega arith; to_high = omega arith });
           apart = λ j k y l u same a b c d.
               same_or k i
-              (λ e. let v = h.lines-below j (omega arith) in absurd (omega (arith, line-at k e)))
+              (λ e. let v = h.lines_below j (omega arith) in absurd (omega (arith, line-at k e)))
               (λ differ. h.apart j k y l (omega arith) same a b c d);
         }
 
@@ -73,23 +73,23 @@ module _ (t : List ℕ) where
     same_line : line t i + 1 ≡ n → low t i ≡ x → Ordered t (i + 1) (line t i + 1) (high t i + 1)
     same_line next from-x =
         record {
-          lines-below = λ j l. same_or j i (λ same. omega (arith, line-at j same)) (λ differ. let u = h.lines-below j (omega arith) in omega arith);
-          last-below = λ j l e.
-              same_or j i (λ same. omega (arith, high-at j same)) (λ differ. let u = h.last-below j (omega arith) (omega arith) in omega arith);
+          lines_below = λ j l. same_or j i (λ same. omega (arith, line-at j same)) (λ differ. let u = h.lines_below j (omega arith) in omega arith);
+          last_below = λ j l e.
+              same_or j i (λ same. omega (arith, high-at j same)) (λ differ. let u = h.last_below j (omega arith) (omega arith) in omega arith);
           full = λ j y l e u.
               same_or j i
               (λ same. absurd (omega (arith, line-at j same)))
               (λ differ. let (m, w, c) = h.full j y (omega arith) (omega arith) u in (m, omega arith, c));
-          last-full = λ m y e u.
+          last_full = λ m y e u.
               below_or y x
-              (λ v. let (k, w, c) = h.last-full m y (omega arith) v in (k, omega arith, c))
+              (λ v. let (k, w, c) = h.last_full m y (omega arith) v in (k, omega arith, c))
               (λ v.
               let same : line t i ≡ m = omega arith in
               (i, omega arith, record { there = there; line_is = same; from_low = omega arith; to_high = omega arith }));
           apart = λ j k y l u same a b c d.
               same_or k i
               (λ e.
-              let v = h.last-below j (omega arith) (omega (arith, line-at k e)) in
+              let v = h.last_below j (omega arith) (omega (arith, line-at k e)) in
               absurd (omega (arith, low-at k e)))
               (λ differ. h.apart j k y l (omega arith) same a b c d);
         }
@@ -115,11 +115,11 @@ module _ (t : List ℕ) where
             (λ m _. line-accepts t (gap_rule t) m
             (λ y (j, there, e) u.
             let v : y < 65536 = u in
-            let w = h.lines-below j there in
+            let w = h.lines_below j there in
             no_gap t m y
             (below_or (line t j + 1) n
             (λ less. let (k, _, c) = h.full j y there less v in (k, subst (λ (q : ℕ). Covers t q y k) e c))
-            (λ last. let (k, _, c) = h.last-full m y (omega arith) v in (k, c)))));
+            (λ last. let (k, _, c) = h.last_full m y (omega arith) v in (k, c)))));
         no_overlaps =
             all-accept (line_rule t (overlap_rule t)) lines
             (λ m _. line-accepts t (overlap_rule t) m

@@ -6,7 +6,7 @@ use mathlib.Core.Logic.{inl, inr, ◌≢◌}
 use mathlib.Core.Path.{◌≡◌, refl, sym, ap, ◌∙◌}
 use native.Mathlib.Omega.{arith}
 use borrow.Author.Tests.{eq-eqb, ne_eqb, lt-ltb, le-ltb}
-use Rattle.model.proofs.TestLaws.{pick-case, pick_true, pick-false, below_or}
+use Rattle.model.proofs.TestLaws.{pick_case, pick_true, pick-false, below_or}
 use Rattle.model.specs.Burst.{single}
 use Rattle.model.specs.Calls.{call, after_calls}
 use Rattle.model.specs.Claims.{TypedWords}
@@ -101,12 +101,12 @@ TypedPosting (Posting.Event e) = e < 2 ^ 16
 
 event_typed : (t : List ℕ) (n x : ℕ) → TypedWords t → event_of t n x < 2 ^ 16
 unfolding event_of no_event
-event_typed t n x ws = pick-case (λ (e : ℕ). e < 2 ^ 16) (λ _. ws _) (λ _. omega arith)
+event_typed t n x ws = pick_case (λ (e : ℕ). e < 2 ^ 16) (λ _. ws _) (λ _. omega arith)
 
 typed : (c : Checked) (e : ℕ) → e < 2 ^ 16 → TypedPosting (posting_of c e)
 unfolding posting_of
 typed (Checked.Refused r) e l = tt
-typed Checked.Accepted e l = pick-case TypedPosting (λ _. tt) (λ _. l)
+typed Checked.Accepted e l = pick_case TypedPosting (λ _. tt) (λ _. l)
 
 pub posting_typed : (t : List ℕ) (n x : ℕ) → TypedWords t → TypedPosting (posting t n x)
 unfolding posting

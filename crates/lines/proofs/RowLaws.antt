@@ -23,7 +23,7 @@ module _ (t : List ℕ) where
         at_most_64 = ltb-true i 64 a;
         complete = leb-true (4 * i + 4) (length t) b;
         line_to_15 = leb-true (line t i) 15 c;
-        low-to-high = leb-true (low t i) (high t i) (must-passed _ _ e3);
+        low_to_high = leb-true (low t i) (high t i) (must-passed _ _ e3);
       }
 
   pub good_row_accepted : (i : ℕ) → GoodRow t i → row_rule t i ≡ Checked.Accepted
@@ -31,7 +31,7 @@ module _ (t : List ℕ) where
   good_row_accepted i h =
       then_passed (must-true _ (lt-ltb i 64 h.at_most_64))
       (then_passed (must-true _ (le-leb (4 * i + 4) (length t) h.complete))
-      (then_passed (must-true _ (le-leb (line t i) 15 h.line_to_15)) (must-true _ (le-leb (low t i) (high t i) h.low-to-high))))
+      (then_passed (must-true _ (le-leb (line t i) 15 h.line_to_15)) (must-true _ (le-leb (low t i) (high t i) h.low_to_high))))
 
   pub accepted-rows : row_rules t ≡ Checked.Accepted → (i : ℕ) → i < rows t → GoodRow t i
   unfolding row_rules
@@ -45,12 +45,12 @@ module _ (t : List ℕ) where
   rows_whole e =
       let good = accepted-rows e in
       same_or (rows t) 0
-      (λ none. record { words = omega arith; most = omega arith; named-lines = λ i l. (good i l).line_to_15; in_order = λ i l. (good i l).low-to-high })
+      (λ none. record { words = omega arith; most = omega arith; named_lines = λ i l. (good i l).line_to_15; in_order = λ i l. (good i l).low_to_high })
       (λ some.
       let last = good (rows t - 1) (omega arith) in
       let within = last.at_most_64 in
       let complete = last.complete in
-      record { words = omega arith; most = omega arith; named-lines = λ i l. (good i l).line_to_15; in_order = λ i l. (good i l).low-to-high })
+      record { words = omega arith; most = omega arith; named_lines = λ i l. (good i l).line_to_15; in_order = λ i l. (good i l).low_to_high })
 
   pub check_whole : check t ≡ Checked.Accepted → Whole t
   unfolding check

@@ -19,7 +19,7 @@ pub record GoodRow (t : List ℕ) (i : ℕ) : Type 0 where
   pub at_most_64 : i < 64
   pub complete : 4 * i + 4 ≤ length t
   pub line_to_15 : line t i ≤ 15
-  pub low-to-high : low t i ≤ high t i
+  pub low_to_high : low t i ≤ high t i
 
 -- line n has a row
 abbrev pub Named : List ℕ → ℕ → Type 0
@@ -68,7 +68,7 @@ pub record LowestGap (t : List ℕ) (n x : ℕ) : Type 0 where
   pub level : x < levels
   pub gap : Covered t n x → ⊥
   pub below : (y : ℕ) → y < x → Covered t n y
-  pub lines-before : (m y : ℕ) → m < n → Named t m → y < levels → Covered t m y
+  pub lines_before : (m y : ℕ) → m < n → Named t m → y < levels → Covered t m y
 
 -- "then 32 likewise": no line has a gap
 pub record LowestOverlap (t : List ℕ) (n x : ℕ) : Type 0 where
@@ -76,7 +76,7 @@ pub record LowestOverlap (t : List ℕ) (n x : ℕ) : Type 0 where
   pub no_gap : (m y : ℕ) → Named t m → y < levels → Covered t m y
   pub overlap : CoveredTwice t n x
   pub below : (y : ℕ) → y < x → CoveredTwice t n y → ⊥
-  pub lines-before : (m y : ℕ) → m < n → y < levels → CoveredTwice t m y → ⊥
+  pub lines_before : (m y : ℕ) → m < n → y < levels → CoveredTwice t m y → ⊥
 
 -- what is so where the check refuses with this
 pub data Blames (t : List ℕ) : Refusal → Type 0 where

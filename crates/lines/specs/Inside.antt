@@ -9,7 +9,7 @@ use Rattle.lines.specs.Lines.{line, low, high, rows, coverage, gap_rule, overlap
 pub record Whole (t : List ℕ) : Type 0 where
   pub words : length t ≡ 4 * rows t
   pub most : rows t ≤ 64
-  pub named-lines : (i : ℕ) → i < rows t → line t i ≤ 15
+  pub named_lines : (i : ℕ) → i < rows t → line t i ≤ 15
   pub in_order : (i : ℕ) → i < rows t → low t i ≤ high t i
 
 -- Row i goes on where the rows before it end: those are of lines below n, the last of them has the levels below x of line n - 1, and a line

@@ -38,7 +38,7 @@ pub record LinesRows : Type 0 where
   pub incomplete_64 : RefusesWith (whole_rows 64 ++ (7 ∷ [])) (Refusal.LinesRow 64)
   pub rows_64 : row_rules (whole_rows 64) ≡ Checked.Accepted
   pub one_word : RefusesWith (3 ∷ []) (Refusal.LinesRow 0)
-  pub three-words : RefusesWith (band 0 0 65535 0 ++ (1 ∷ 0 ∷ 65535 ∷ [])) (Refusal.LinesRow 1)
+  pub three_words : RefusesWith (band 0 0 65535 0 ++ (1 ∷ 0 ∷ 65535 ∷ [])) (Refusal.LinesRow 1)
   -- "a line past 15 or low above high": the first such row, and before any gap
   pub line_15 : row_rules (band 15 0 65535 0) ≡ Checked.Accepted
   pub line_16 : RefusesWith (band 0 5 65535 0 ++ band 16 0 65535 0) (Refusal.LinesRow 1)
@@ -46,22 +46,22 @@ pub record LinesRows : Type 0 where
   pub low_above : RefusesWith (band 2 8 7 0 ++ band 16 0 0 0) (Refusal.LinesRow 0)
   pub first_of_two : RefusesWith (band 16 0 0 0 ++ band 2 8 7 0) (Refusal.LinesRow 0)
   -- "31 .., then 32": a gap comes before an overlap below it
-  pub gap-first : RefusesWith (band 1 0 6 0 ++ band 1 3 8 0) (Refusal.LinesGap 1 9)
+  pub gap_first : RefusesWith (band 1 0 6 0 ++ band 1 3 8 0) (Refusal.LinesGap 1 9)
   -- "31 an uncovered level .. (place: line, lowest level)", of "levels 0 to 65535": at the start, in the middle, the last one
   pub levels_are : levels ≡ 65536
   pub gap_at_65535 : gap_rule (band 4 0 65534 0) 4 65535 ≡ Checked.Refused (Refusal.LinesGap 4 65535)
   pub gap_at_0 : GapIs (band 3 1 65535 0) 3 0
   pub gap_of_one : GapIs (band 3 0 9 0 ++ band 3 11 65535 0) 3 10
   -- "over all lines in rising order", not the table's; a silent row covers as any other
-  pub lowest-line : GapIs (band 8 2 65535 0 ++ band 5 4 65535 0) 5 0
-  pub silent-covers : GapIs (band 4 0 9 65535) 4 10
+  pub lowest_line : GapIs (band 8 2 65535 0 ++ band 5 4 65535 0) 5 0
+  pub silent_covers : GapIs (band 4 0 9 65535) 4 10
   -- what is posted: the event of the level's row, the silent row's none, a line without rows none, a line above 15 none; the check's refusal first
-  pub first-level : event_of probe 0 0 ≡ 0
+  pub first_level : event_of probe 0 0 ≡ 0
   pub last_of_band : event_of probe 0 29999 ≡ 0
   pub silent : event_of probe 0 30000 ≡ 65535
   pub other_line_lem : event_of probe 1 65535 ≡ 1
   pub no_rows : event_of probe 2 7 ≡ 65535
   pub past_15 : event_of probe 16 7 ≡ 65535
-  pub event-posted : posting_of Checked.Accepted 65534 ≡ Posting.Event 65534
-  pub none-posted : posting_of Checked.Accepted 65535 ≡ Posting.Nothing
-  pub refused-first : posting (band 3 1 65535 0) 7 7 ≡ Posting.Refused (Refusal.LinesGap 3 0)
+  pub event_posted : posting_of Checked.Accepted 65534 ≡ Posting.Event 65534
+  pub none_posted : posting_of Checked.Accepted 65535 ≡ Posting.Nothing
+  pub refused_first : posting (band 3 1 65535 0) 7 7 ≡ Posting.Refused (Refusal.LinesGap 3 0)

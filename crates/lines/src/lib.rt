@@ -1,6 +1,9 @@
 // Line tables, in which a maker says which event an interrupt line posts at which level: the check of a table (30, 31, 32), and raising
 // a line. A table is lent words, four to a row. rows.rt has refusal 30, levels.rt 31 and 32.
 // What a host calls refuses what it must: none has a `requires`.
+
+#![tactic(auto)]
+
 ghost use Rattle.std.specs.Prelude.{◌≡◌};
 ghost use Rattle.lines.specs.Lines.{check, event_of, posting, raise};
 ghost use Rattle.lines.specs.Inside.{Whole};

@@ -12,11 +12,11 @@ pub listing-rows : ListingRows
 unfolding definitions counting branching decimal_of decimal spaced statement_names uses_a uses_b uses_k is_jump task_name event_name transaction_name label_name has_number transaction_line transaction_lines is_target spaces margin register target instruction_text instruction_line instruction_lines transaction_word heading body_lines first_lines listing
 listing-rows =
     record {
-      counting-listed = refl;
-      branching-accepted = refl;
-      branching-listed = refl;
-      one-digit = refl;
+      counting_listed = refl;
+      branching_accepted = refl;
+      branching_listed = refl;
+      one_digit = refl;
       two_digits = refl;
       three_digits = refl;
-      all-fields = refl;
+      all_fields = refl;
     }

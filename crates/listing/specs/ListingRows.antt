@@ -24,14 +24,14 @@ branching =
     ∷ []
 
 pub record ListingRows : Type 0 where
-  pub counting-listed :
+  pub counting_listed :
       listing counting
       ≡ ascii "memory 2\nentry task0\n\ntask task0\n        LOAD 0 0\n        SET 1 1\n        ADD 0 1\n        SAVE 0 0\n        GO task0\n\nevent event0\n        SAVE 0 1\n        DONE\n"
-  pub branching-accepted : check branching ≡ Checked.Accepted
-  pub branching-listed :
+  pub branching_accepted : check branching ≡ Checked.Accepted
+  pub branching_listed :
       listing branching
       ≡ ascii "memory 4\nentry task1\ntransaction trans7 7\n\ntask task0 trans7\nat0:    JLT 1 2 at2\n        JUMP at0\nat2:    LOADX 3 4 1\n        GO task1\n\ntask task1\n        SHR 5 15\n        GO task0\n\nevent event0\n        JZ 0 at1\nat1:    DONE\n"
-  pub one-digit : label_name 9 ++ ascii ":" ++ spaces 9 ≡ ascii "at9:    "
+  pub one_digit : label_name 9 ++ ascii ":" ++ spaces 9 ≡ ascii "at9:    "
   pub two_digits : label_name 10 ++ ascii ":" ++ spaces 10 ≡ ascii "at10:   "
   pub three_digits : label_name 255 ++ ascii ":" ++ spaces 255 ≡ ascii "at255:  "
-  pub all-fields : instruction_text 2935 1023 ≡ ascii "SAVEX 7 7 1023\n"
+  pub all_fields : instruction_text 2935 1023 ≡ ascii "SAVEX 7 7 1023\n"

@@ -1,5 +1,8 @@
 // A program as text: `disassemble` checks program words and prints them, if the check accepts them, as docs/ASSEMBLY.md says. A line has 40 bytes
 // at most and a body 257 lines, 10280 bytes, so that the text has room for every program.
+
+#![tactic(auto)]
+
 ghost use Rattle.std.specs.Prelude.{◌+◌, ◌≤◌, length, ◌++◌, ◌≡◌};
 ghost use Rattle.listing.specs.Listing.{has_number, transaction_line, transaction_lines, instruction_lines, transaction_word, heading, body_lines, first_lines};
 ghost use Rattle.listing.specs.Lists.{Lists, PrintableBody, Printable};

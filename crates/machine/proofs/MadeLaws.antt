@@ -9,7 +9,7 @@ use borrow.Author.Tests.{ne_eqb}
 use lib.ListN.{length, drop}
 use Rattle.exports.specs.Exported.{HostState, host_state, OnDevice, Boots, Posts, PostsAs, Steps, Runs}
 use Rattle.lines.specs.declared.Posting.{Posting}
-use Rattle.model.proofs.TestLaws.{pick-case, pick_true, pick-false}
+use Rattle.model.proofs.TestLaws.{pick_case, pick_true, pick-false}
 use Rattle.model.specs.Program.{word}
 use Rattle.model.specs.Store.{Record}
 use Rattle.model.specs.Test.{pick, ◌or◌}
@@ -35,7 +35,7 @@ pub on-device : (h : HostState) {K : Device → Type 0} {U : Type 0} {m : Made} 
     → OnDevice h.device K U → ((d : Device) → K d → m ≡ call d) → (U → m ≡ none) → m ≡ on_device h call none
 unfolding on_device
 on-device h {m = m} call none on told untold =
-    pick-case (λ (x : Made). m ≡ x)
+    pick_case (λ (x : Made). m ≡ x)
     (λ e. told (state_of h.device) (on.state (state_of h.device) (state-read h.device e)))
     (λ e. untold (on.none (none_read h.device e)))
 

@@ -1,4 +1,7 @@
 // What a list of calls is played on: the calls of the exported library, and changes that stand for damage.
+
+#![tactic(auto)]
+
 ghost use Rattle.std.specs.Prelude.{◌≤◌, min, length, take, set, ◌≢◌, ◌≡◌};
 ghost use Rattle.exports.specs.Exported.{host_state};
 ghost use Rattle.model.specs.Program.{word as word_of};

@@ -1,4 +1,7 @@
 // A mistake in words.
+
+#![tactic(auto)]
+
 ghost use Rattle.std.specs.Prelude.{◌+◌, ◌≤◌, length, get_or, []};
 ghost use Rattle.text.specs.Puts.{Puts};
 ghost use Rattle.mistakes.specs.Told.{mistake_texts, told as toldOf};
@@ -75,7 +78,8 @@ fn put_text(text: &mut [u8], at: usize, n: u64) -> usize
 }
 
 // A mistake with its line, and where it ends.
-pub fn put_mistake(text: &mut [u8; 128], mistake: Mistake) -> usize
+pub fn put_mistake(text: &mut [u8], mistake: Mistake) -> usize
+    requires { 128 ≤ length text.old }
     ensures { Puts text.old 0 text.new result (toldOf mistake) }
 {
     let end = put(text, 0, b"line ");

@@ -7,7 +7,7 @@ use native.Mathlib.Omega.{arith}
 use borrow.Author.Tests.{ltb-true, leb-true, eqb-true, le-leb, lt-ltb, eqb-false, eq-eqb, not-true, ne_eqb}
 use lib.Dec.{ltb}
 use lib.ListN.{length, replicate}
-use Rattle.model.proofs.TestLaws.{below_or, and_true, and_left, and_right, must-true, then_passed, then_skip, not_false, pick-case, or_right}
+use Rattle.model.proofs.TestLaws.{below_or, and_true, and_left, and_right, must-true, then_passed, then_skip, not_false, pick_case, or_right}
 use Rattle.model.specs.Accepted.{Known, MayDrop}
 use Rattle.model.specs.Burst.{is_burst, records_at, carried, record_words, no_burst, burst_words, known_events, events_rule}
 use Rattle.model.specs.Device.{zeros, may_drop, takes, set_to_work, burst_length}
@@ -40,7 +40,7 @@ known-passed p (r ∷ rs) e = (ltb-true _ _ (and_left _ _ e), known-passed p rs 
 
 pub data EventsFound (p : List ℕ) (i : ℕ) (rs : List Record) : Type 0 where
   all_known : Known p rs → events_rule p i rs ≡ Checked.Accepted → EventsFound p i rs
-  bad-event : (j : ℕ) → events_rule p i rs ≡ Checked.Refused (Refusal.NoEvent j) → EventsFound p i rs
+  bad_event : (j : ℕ) → events_rule p i rs ≡ Checked.Refused (Refusal.NoEvent j) → EventsFound p i rs
 
 pub events-found : (p : List ℕ) (i : ℕ) (rs : List Record) → EventsFound p i rs
 unfolding events_rule must ◌then◌
@@ -49,8 +49,8 @@ events-found p i (r ∷ rs) = by_first (ltb r.event (events p)) refl (events-fou
   where
     by_first : (b : Bool) → ltb r.event (events p) ≡ b → EventsFound p (suc i) rs → EventsFound p i (r ∷ rs)
     by_first true e (all_known k f) = all_known (ltb-true _ _ e, k) (then_passed (must-true _ e) f)
-    by_first true e (bad-event j f) = bad-event j (then_skip _ (must-true _ e) ∙ f)
-    by_first false e rest = bad-event i (ap (λ (b : Bool). must b (Refusal.NoEvent i) then events_rule p (suc i) rs) e)
+    by_first true e (bad_event j f) = bad_event j (then_skip _ (must-true _ e) ∙ f)
+    by_first false e rest = bad_event i (ap (λ (b : Bool). must b (Refusal.NoEvent i) then events_rule p (suc i) rs) e)
 
 -- ---- records from words and back
 
@@ -111,4 +111,4 @@ may_drop_lem p v rs m =
 pub set_to_work_length : (v : Store) (n : ℕ) → takes v n ≡ true → burst_length (set_to_work v n) ≡ n
 unfolding takes set_to_work burst_length
 set_to_work_length v n e =
-    pick-case (λ (h : Handler). burst_length h ≡ n) (λ _. refl) (λ no_room. sym (eqb-true _ _ (and_left _ _ (or_right _ _ no_room e))))
+    pick_case (λ (h : Handler). burst_length h ≡ n) (λ _. refl) (λ no_room. sym (eqb-true _ _ (and_left _ _ (or_right _ _ no_room e))))

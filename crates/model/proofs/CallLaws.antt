@@ -8,26 +8,26 @@ use mathlib.Core.List.{List, [], ◌∷◌, ◌++◌}
 use native.Mathlib.Nat.{not-suc-le-zero, le_of_suc-le-suc, add-zero}
 use native.Mathlib.Omega.{arith}
 use borrow.Author.Tests.{eqb-true, eqb-false}
-use Rattle.model.proofs.TestLaws.{pick-case, pick-false, impossible}
-use Rattle.model.specs.Calls.{Call, Boot, Now, call, history, after_calls, steps, count_by, unlessRefused, is_refusal, more_by, one_if, is_commit, is_accept, accepted_events, is_store, no_totals, counted, totals_after, events_accepted, stores_made, RunOutcome, run_from, run, recovered, refused, unfinished, finish, recovery}
+use Rattle.model.proofs.TestLaws.{pick_case, pick-false, impossible}
+use Rattle.model.specs.Calls.{Call, Boot, Now, call, history, after_calls, steps, count_by, unless_refused, is_refusal, more_by, one_if, is_commit, is_accept, accepted_events, is_store, no_totals, counted, totals_after, events_accepted, stores_made, RunOutcome, run_from, run, recovered, refused, unfinished, finish, recovery}
 use Rattle.model.specs.Claims.{EndedSo, RunIsSteps, TotalsAreCounts, ByCalls, RecoveryByCalls}
 use Rattle.model.specs.Device.{Outcome, out, judged, off, begun_of, taken_up, boot_check, boot, cut, post_check, post, step}
 use Rattle.model.specs.Store.{Record, view, none, settled}
 use Rattle.model.specs.Test.{pick}
 use Rattle.model.specs.Types.{Answer, Checked, Device, Ended, Handler, Refusal, Totals}
 
--- ---- unlessRefused: one law for every proof about an answer
+-- ---- unless_refused: one law for every proof about an answer
 
-pub answer-case {ℓ} : {A : Type ℓ} (P : A → Type 0) (a : Answer) (stop : Refusal → A) (rest : A)
-    → ((f : Refusal) → a ≡ Answer.Refused f → P (stop f)) → (is_refusal a ≡ false → P rest) → P (unlessRefused a stop rest)
-unfolding unlessRefused is_refusal
-answer-case P Answer.Done stop rest s g = g refl
-answer-case P (Answer.Chosen b) stop rest s g = g refl
-answer-case P Answer.Worked stop rest s g = g refl
-answer-case P Answer.Stored stop rest s g = g refl
-answer-case P (Answer.Committed b) stop rest s g = g refl
-answer-case P (Answer.Accepted d) stop rest s g = g refl
-answer-case P (Answer.Refused r) stop rest s g = s r refl
+pub answer_case {ℓ} : {A : Type ℓ} (P : A → Type 0) (a : Answer) (stop : Refusal → A) (rest : A)
+    → ((f : Refusal) → a ≡ Answer.Refused f → P (stop f)) → (is_refusal a ≡ false → P rest) → P (unless_refused a stop rest)
+unfolding unless_refused is_refusal
+answer_case P Answer.Done stop rest s g = g refl
+answer_case P (Answer.Chosen b) stop rest s g = g refl
+answer_case P Answer.Worked stop rest s g = g refl
+answer_case P Answer.Stored stop rest s g = g refl
+answer_case P (Answer.Committed b) stop rest s g = g refl
+answer_case P (Answer.Accepted d) stop rest s g = g refl
+answer_case P (Answer.Refused r) stop rest s g = s r refl
 
 -- ---- after_calls
 
@@ -98,7 +98,7 @@ run-made p zero n s d t =
     }
 run-made p (suc k) n s d t =
     let o = step p s d in
-    answer-case (Made p (suc k) n s d t) o.answer (λ f. record { steps = n; ended = Ended.Refused f; store = s; device = d; totals = t })
+    answer_case (Made p (suc k) n s d t) o.answer (λ f. record { steps = n; ended = Ended.Refused f; store = s; device = d; totals = t })
     (run_from p k (n + 1) (settled s o.write) o.device (counted t d.handler o))
     (λ f e.
     record {
@@ -240,22 +240,22 @@ module _ (p : List ℕ) (i n : ℕ) (s : List ℕ) (d : Device) (store : List �
       on zero l = e
       on (suc m) l = h.goes_on m (le_of_suc-le-suc l)
 
-never-refused {ℓ} : {X : Type ℓ} {f : Refusal} {n : ℕ} {store : List ℕ} → refused f ≡ recovered n store → X
-never-refused e = impossible (cc)
+never_refused {ℓ} : {X : Type ℓ} {f : Refusal} {n : ℕ} {store : List ℕ} → refused f ≡ recovered n store → X
+never_refused e = impossible (cc)
 
-never-unfinished {ℓ} : {X : Type ℓ} {n : ℕ} {store : List ℕ} → unfinished ≡ recovered n store → X
-never-unfinished e = impossible (cc)
+never_unfinished {ℓ} : {X : Type ℓ} {n : ℕ} {store : List ℕ} → unfinished ≡ recovered n store → X
+never_unfinished e = impossible (cc)
 
 finished : (p : List ℕ) (k i n : ℕ) (s : List ℕ) (d : Device) (store : List ℕ) → finish p k i s d ≡ recovered n store → Finished p i n s d store
 unfolding finish
 finished p zero i n s d store =
-    pick-case (λ x. x ≡ recovered n store → Finished p i n s d store) (λ b e. at_once p i n s d store (eqb-true _ _ b) e) (λ b e. never-unfinished e)
+    pick_case (λ x. x ≡ recovered n store → Finished p i n s d store) (λ b e. at_once p i n s d store (eqb-true _ _ b) e) (λ b e. never_unfinished e)
 finished p (suc k) i n s d store =
     let o = step p s d in
-    pick-case (λ x. x ≡ recovered n store → Finished p i n s d store) (λ b e. at_once p i n s d store (eqb-true _ _ b) e)
+    pick_case (λ x. x ≡ recovered n store → Finished p i n s d store) (λ b e. at_once p i n s d store (eqb-true _ _ b) e)
     (λ b.
-    answer-case (λ x. x ≡ recovered n store → Finished p i n s d store) o.answer refused (finish p k (i + 1) (settled s o.write) o.device)
-    (λ f a e. never-refused e)
+    answer_case (λ x. x ≡ recovered n store → Finished p i n s d store) o.answer refused (finish p k (i + 1) (settled s o.write) o.device)
+    (λ f a e. never_refused e)
     (λ a e. one_more p i n s d store (eqb-false _ _ b) (finished p k (i + 1) n (settled s o.write) o.device store e)))
 
 boot_stores_nothing : (p s : List ℕ) (d : Device) → (boot p s d).write ≡ none
@@ -275,8 +275,8 @@ pub recovery_by_calls : RecoveryByCalls
 unfolding recovery cut
 recovery_by_calls p s k n store =
     let o = boot p s off in
-    answer-case (λ x. x ≡ recovered n store → ByCalls p s n store) o.answer refused (finish p k 0 s o.device)
-    (λ f a e. never-refused e)
+    answer_case (λ x. x ≡ recovered n store → ByCalls p s n store) o.answer refused (finish p k 0 s o.device)
+    (λ f a e. never_refused e)
     (λ a e.
     let h = finished p k 0 n s o.device store e in
     let made_is : h.made ≡ n = omega (arith, h.made_is) in

@@ -11,7 +11,7 @@ use Rattle.model.proofs.SerialLaws.{Leaves, adds}
 use Rattle.model.proofs.TestLaws.{pick_true, pick-false}
 use Rattle.model.specs.AllOrNone.{way_after, came_from, joined, AllBursts, committed_event, committed_events, events_of, Gone, was_committed, was_dropped, gone_records, committed_of, dropped_of, AllOrNone}
 use Rattle.model.specs.Burst.{is_burst}
-use Rattle.model.specs.Calls.{Call, Boot, Step, Cut, Post, Line, count_by, unlessRefused, is_accept}
+use Rattle.model.specs.Calls.{Call, Boot, Step, Cut, Post, Line, count_by, unless_refused, is_accept}
 use Rattle.model.specs.Demand3.{is_completion}
 use Rattle.model.specs.Store.{Record}
 use Rattle.model.specs.Test.{pick}
@@ -117,8 +117,8 @@ module _ (rs : List Record) (c : Call) (a : Answer) (lines : List Line) where
 abbrev Stays : List Record → List Record → List Record → Type 0
 Stays rs after without = ((after ≡ rs) × (without ≡ [])) ⊎ (after ≡ without)
 
-unless_stays : (rs new : List Record) (a : Answer) → Stays rs (unlessRefused a (λ r. rs) new) (unlessRefused a (λ r. []) new)
-unfolding unlessRefused
+unless_stays : (rs new : List Record) (a : Answer) → Stays rs (unless_refused a (λ r. rs) new) (unless_refused a (λ r. []) new)
+unfolding unless_refused
 unless_stays rs new Answer.Done = inr refl
 unless_stays rs new (Answer.Chosen b) = inr refl
 unless_stays rs new Answer.Worked = inr refl

@@ -14,7 +14,7 @@ use Rattle.model.proofs.Kept.{chosen-begins, known-waiting, first_head, first-pe
 use Rattle.model.proofs.LogLaws.{addr}
 use Rattle.model.proofs.BurstLaws.{burst_passes, known_passes, may_drop_lem}
 use Rattle.model.proofs.RingLaws.{Between, between_is, between_first}
-use Rattle.model.proofs.TestLaws.{pick-case, pick_true, pick-false, below_or, and_true, or_true_left, or_true_right, not_false, must-true, then_passed, and_false}
+use Rattle.model.proofs.TestLaws.{pick_case, pick_true, pick-false, below_or, and_true, or_true_left, or_true_right, not_false, must-true, then_passed, and_false}
 use Rattle.model.proofs.RuleLaws.{obey-kept, obey_unasked, obey-append, obey-up_to, obey-early}
 use Rattle.model.specs.Accepted.{LegalEffect, Sound}
 use Rattle.model.specs.Burst.{carried}
@@ -338,8 +338,8 @@ module _ (p : List ℕ) (v : Store) (d : Device) (z : Serial) (k : ℕ) (i : On 
   run_fits b j c (Effect.Jump a) t = pick_true _ _ (eq-eqb _ _ t)
   run_fits b j c (Effect.Load a x) t = pick_true _ _ (eq-eqb _ _ t)
   run_fits b j c (Effect.Save x y) t = pick_true _ _ (eq-eqb _ _ t)
-  run_fits b j c (Effect.EndTask a) t = pick-case (λ (o : Bool). o ≡ true) (λ e. refl) (λ e. refl)
-  run_fits b j c Effect.EndEvent t = pick-case (λ (o : Bool). o ≡ true) (λ e. refl) (λ e. refl)
+  run_fits b j c (Effect.EndTask a) t = pick_case (λ (o : Bool). o ≡ true) (λ e. refl) (λ e. refl)
+  run_fits b j c Effect.EndEvent t = pick_case (λ (o : Bool). o ≡ true) (λ e. refl) (λ e. refl)
   run_fits b j c Effect.Unknown t = absurd t
 
   pub half_fits : (b : Body) (j l : ℕ) (f : Effect) → HalfSaved p v.log v.log_pairs l f → place_fits (Half b j) f ≡ true

@@ -14,10 +14,10 @@ use Rattle.model.proofs.FirstStores.{storing_goes, storing-ends}
 use Rattle.model.proofs.ProgramLaws.{instruction_leads}
 use Rattle.model.proofs.RingLaws.{RecordStore, record_store, tail-store, record_stores_lem}
 use Rattle.model.proofs.Passed.{look-passed, body-passed}
-use Rattle.model.proofs.TestLaws.{pick-case, pick_true, pick-false, clash, same_or, below_or}
+use Rattle.model.proofs.TestLaws.{pick_case, pick_true, pick-false, clash, same_or, below_or}
 use Rattle.model.specs.Accepted.{LegalEffect, MayRun, Stands, Attends, Looked, AttendsTo}
 use Rattle.model.specs.Burst.{carried}
-use Rattle.model.specs.Calls.{unlessRefused, is_refusal}
+use Rattle.model.specs.Calls.{unless_refused, is_refusal}
 use Rattle.model.specs.Device.{Outcome, out, refuse, judged, turned_on, with_place, with_handler, resting, storing, record_stores, task_stores, event_stores, task_last_stores, event_last_stores, last_stores, current_task, oldest_event, end_stores, look, boot_check, boot, post_check, post, handler_step, pair_sound, copy_step, record_sound, event_next, choosing, choose_step, saves, place_fits, body_sound, shown, save_step, act, save_rest, place_step, next_step, step, drop_step, dropped_record}
 use Rattle.model.specs.Program.{events, memory_words, transaction, body_number, effect_at, new_open}
 use Rattle.model.specs.Store.{Store, view, address, value, event, empty, Record, slot_after, forward, find, log_at, queue_at, Phase, Task, Open, Count, Pending, PendingOpen, Head, Tail, Begun, Memory, Address, Value, Event, Write, none, to}
@@ -184,7 +184,7 @@ pub record Chooses (v : Store) (d : Device) : Type 0 where
   pub rests : d.handler ≡ Resting
   pub place : d.place ≡ Free 0
   pub phase : v.phase ≡ 0
-  pub none-begun : v.begun ≡ 0
+  pub none_begun : v.begun ≡ 0
 
 -- body b at place x, whose instruction j does f, with all its checks passed
 pub record Acts (p : List ℕ) (v : Store) (d : Device) (x : Place) (b : Body) (j : ℕ) (f : Effect) : Type 0 where
@@ -211,7 +211,7 @@ AttendsAt p v d n c = AttendsTo p v.queue_records v.head v.tail c (carried d.bur
 pub data HandlerMade (p : List ℕ) (v : Store) (d : Device) (n c : ℕ) (later : Handler) (dropped : Dropped) : Outcome → Type 0 where
   record_made : {w : Write} → AttendsAt p v d n (c + 1) → RecordStore v.queue_records v.tail (carried d.burst n) w
       → HandlerMade p v d n c later dropped (out w (with_handler d later d.burst) Answer.Stored)
-  tail-made : AttendsAt p v d n c
+  tail_made : AttendsAt p v d n c
       → HandlerMade p v d n c later dropped (out (to Tail (forward v.queue_records v.tail (length (carried d.burst n)))) (resting d) (Answer.Accepted dropped))
 
 module _ (p : List ℕ) (v : Store) (d : Device) (n c : ℕ) (later : Handler) (dropped : Dropped) (a : AttendsAt p v d n c) where
@@ -232,7 +232,7 @@ module _ (p : List ℕ) (v : Store) (d : Device) (n c : ℕ) (later : Handler) (
 
   ends : c ≡ 2 * length rs → HandlerMade p v d n c later dropped (handler_step v d n c later dropped)
   unfolding handler_step
-  ends l = rw (storing-ends stores c _ _ _ (omega (arith, stores_are)), tail-store v.queue_records rs v.tail c l) (tail-made a)
+  ends l = rw (storing-ends stores c _ _ _ (omega (arith, stores_are)), tail-store v.queue_records rs v.tail c l) (tail_made a)
 
   pub handler-made : HandlerMade p v d n c later dropped (handler_step v d n c later dropped)
   handler-made = below_or c (2 * length rs) goes (λ l. ends (omega (arith, stores_are, a.inside)))
@@ -244,24 +244,24 @@ pub data Made (p : List ℕ) (v : Store) (d : Device) : Outcome → Type 0 where
   handler : {h : Handler} {n c : ℕ} {later : Handler} {dropped : Dropped} {o : Outcome} → d.handler ≡ h → Works v h n c later dropped
       → HandlerMade p v d n c later dropped o → Made p v d o
   -- N7: "drops the record at head by storing head first"
-  head-dropped : d.handler ≡ Dropping → Attends p v d.burst Dropping → event v v.head < events p
+  head_dropped : d.handler ≡ Dropping → Attends p v d.burst Dropping → event v v.head < events p
       → Made p v d (out (to Head (slot_after v.queue_records v.head)) (with_handler d (Replacing 0) d.burst) Answer.Stored)
   -- "n copies, 9 from 12, 10 from 13, 8 becomes 0", in phase 2 "14 from 12, 8 becomes 0"
   commit_copy : {c : ℕ} → Commits v d c → c < v.count → address v c < memory_words p
       → Made p v d (out (to (Memory (address v c)) (value v c)) (at_place d (Free (c + 1))) Answer.Stored)
-  commit-task : {c : ℕ} → Commits v d c → v.phase ≡ 1 → c ≡ v.count
+  commit_task : {c : ℕ} → Commits v d c → v.phase ≡ 1 → c ≡ v.count
       → Made p v d (out (to Task v.pending) (at_place d (Free (c + 1))) Answer.Stored)
   commit_open : {c : ℕ} → Commits v d c → v.phase ≡ 1 → c ≡ v.count + 1
       → Made p v d (out (to Open v.pending_open) (at_place d (Free (c + 1))) Answer.Stored)
-  commit-head : {c : ℕ} → Commits v d c → v.phase ≡ 2 → c ≡ v.count
+  commit_head : {c : ℕ} → Commits v d c → v.phase ≡ 2 → c ≡ v.count
       → Made p v d (out (to Head v.pending) (at_place d (Free (c + 1))) Answer.Stored)
-  commit-begun : {c : ℕ} → Commits v d c → c + 2 ≡ v.count + length (last_stores v)
+  commit_begun : {c : ℕ} → Commits v d c → c + 2 ≡ v.count + length (last_stores v)
       → Made p v d (out (to Begun 0) (at_place d (Free (c + 1))) Answer.Stored)
-  commit-phase : {c : ℕ} → Commits v d c → c + 1 ≡ v.count + length (last_stores v) → Made p v d (out (to Phase 0) turned_on Answer.Stored)
+  commit_phase : {c : ℕ} → Commits v d c → c + 1 ≡ v.count + length (last_stores v) → Made p v d (out (to Phase 0) turned_on Answer.Stored)
   -- "With no body running, one is chosen"
-  chosen-event : Chooses v d → v.open_number ≡ 0 → v.head ≢ v.tail → event v v.head < events p
+  chosen_event : Chooses v d → v.open_number ≡ 0 → v.head ≢ v.tail → event v v.head < events p
       → Made p v d (choosing v d (oldest_event v))
-  chosen-task : Chooses v d → (v.open_number ≡ 0 → v.head ≡ v.tail) → Made p v d (choosing v d (current_task v))
+  chosen_task : Chooses v d → (v.open_number ≡ 0 → v.head ≡ v.tail) → Made p v d (choosing v d (current_task v))
   -- "One instruction runs."
   computed : {b : Body} {j c a x : ℕ} → RunsAt p v d b j c (Effect.Compute a x)
       → Made p v d (out none (with_place d (set d.registers a x) (Run b (j + 1) 0) d.count) Answer.Worked)
@@ -336,35 +336,35 @@ module _ (p s : List ℕ) (d : Device) (early : Looked p s d) where
 
   handler_outcome : {h : Handler} {n c : ℕ} {later : Handler} {dropped : Dropped} → d.handler ≡ h → Works v h n c later dropped → (o : Outcome)
       → HandlerMade p v d n c later dropped o → Is o
-  unfolding is_refusal unlessRefused
+  unfolding is_refusal unless_refused
   handler_outcome q w o (record_made a s) = made early (handler q w (record_made a s)) refl
-  handler_outcome q w o (tail-made a) = made early (handler q w (tail-made a)) refl
+  handler_outcome q w o (tail_made a) = made early (handler q w (tail_made a)) refl
 
   drop_outcome : d.handler ≡ Dropping → Is (drop_step p v d)
-  unfolding is_refusal unlessRefused
+  unfolding is_refusal unless_refused
   drop_outcome q =
       below_or (event v v.head) (events p)
-      (λ l. rw (drop_passes p v d l) (made early (head-dropped q (subst (Attends p v d.burst) q early.handler) l) refl))
+      (λ l. rw (drop_passes p v d l) (made early (head_dropped q (subst (Attends p v d.burst) q early.handler) l) refl))
       (λ l. rw (drop-refused p v d l) (refused (by_dropped early q l)))
 
   module _ (c : ℕ) (h : Commits v d c) where
     task_last_outcome : (i : ℕ) → c ≡ v.count + i → v.phase ≡ 1 → Is (storing (task_last_stores v) i (at_place d (Free (c + 1))) turned_on Answer.Stored)
-    unfolding storing task_last_stores pick is_refusal unlessRefused
-    task_last_outcome zero e one = made early (commit-task h one (omega arith)) refl
+    unfolding storing task_last_stores pick is_refusal unless_refused
+    task_last_outcome zero e one = made early (commit_task h one (omega arith)) refl
     task_last_outcome (suc zero) e one = made early (commit_open h one e) refl
-    task_last_outcome (suc (suc zero)) e one = made early (commit-begun h (omega (arith, task_lasts v one))) refl
-    task_last_outcome (suc (suc (suc zero))) e one = made early (commit-phase h (omega (arith, task_lasts v one))) refl
+    task_last_outcome (suc (suc zero)) e one = made early (commit_begun h (omega (arith, task_lasts v one))) refl
+    task_last_outcome (suc (suc (suc zero))) e one = made early (commit_phase h (omega (arith, task_lasts v one))) refl
     task_last_outcome (suc (suc (suc (suc i)))) e one = absurd (omega (arith, task_lasts v one, h.left))
 
     event_last_outcome : (i : ℕ) → c ≡ v.count + i → v.phase ≡ 2 → v.phase ≢ 1 → Is (storing (event_last_stores v) i (at_place d (Free (c + 1))) turned_on Answer.Stored)
-    unfolding storing event_last_stores pick is_refusal unlessRefused
-    event_last_outcome zero e two ne = made early (commit-head h two (omega arith)) refl
-    event_last_outcome (suc zero) e two ne = made early (commit-begun h (omega (arith, event_lasts v ne))) refl
-    event_last_outcome (suc (suc zero)) e two ne = made early (commit-phase h (omega (arith, event_lasts v ne))) refl
+    unfolding storing event_last_stores pick is_refusal unless_refused
+    event_last_outcome zero e two ne = made early (commit_head h two (omega arith)) refl
+    event_last_outcome (suc zero) e two ne = made early (commit_begun h (omega (arith, event_lasts v ne))) refl
+    event_last_outcome (suc (suc zero)) e two ne = made early (commit_phase h (omega (arith, event_lasts v ne))) refl
     event_last_outcome (suc (suc (suc i))) e two ne = absurd (omega (arith, event_lasts v ne, h.left))
 
     copy_outcome : Is (copy_step p v d c)
-    unfolding is_refusal unlessRefused
+    unfolding is_refusal unless_refused
     copy_outcome =
         below_or c v.count
         (λ l.
@@ -376,25 +376,25 @@ module _ (p s : List ℕ) (d : Device) (early : Looked p s d) where
         (λ ne. rw (event-last p v d c l ne) (event_last_outcome (c - v.count) e (omega (arith, h.phase, early.control.phase_in)) ne)))
 
   choose_outcome : Chooses v d → Is (choose_step p v d)
-  unfolding choosing is_refusal unlessRefused
+  unfolding choosing is_refusal unless_refused
   choose_outcome h =
       same_or v.open_number 0
       (λ o.
-      same_or v.head v.tail (λ e. rw (choose_empty p v d o (eq-eqb _ _ e)) (made early (chosen-task h (λ _. e)) refl))
+      same_or v.head v.tail (λ e. rw (choose_empty p v d o (eq-eqb _ _ e)) (made early (chosen_task h (λ _. e)) refl))
       (λ ne.
-      below_or (event v v.head) (events p) (λ l. rw (choose_event p v d o (ne_eqb _ _ ne) l) (made early (chosen-event h o ne l) refl))
+      below_or (event v v.head) (events p) (λ l. rw (choose_event p v d o (ne_eqb _ _ ne) l) (made early (chosen_event h o ne l) refl))
       (λ l. rw (choose_refused p v d o (ne_eqb _ _ ne) l) (refused (met early h.rests (by_record h o ne l))))))
-      (λ no-o. rw (choose_open p v d no-o) (made early (chosen-task h (λ o. absurd (no-o o))) refl))
+      (λ no-o. rw (choose_open p v d no-o) (made early (chosen_task h (λ o. absurd (no-o o))) refl))
 
   save_outcome : (b : Body) (j c x y : ℕ) → RunsAt p v d b j c (Effect.Save x y) → x < memory_words p → (f : Found) → find v.log d.count x ≡ f
       → Is (save_step v d b j x y f)
-  unfolding save_step is_refusal unlessRefused
+  unfolding save_step is_refusal unless_refused
   save_outcome b j c x y h l (Found.Pair i) e = made early (overwritten h l e) refl
   save_outcome b j c x y h l Found.Nothing e =
-      pick-case Is (λ q. made early (half_saved h l e (ltb-true _ _ q)) refl) (λ q. refused (met early h.rests (log-full h l e (ltb-false _ _ q))))
+      pick_case Is (λ q. made early (half_saved h l e (ltb-true _ _ q)) refl) (λ q. refused (met early h.rests (log-full h l e (ltb-false _ _ q))))
 
   go_outcome : (t j k c : ℕ) → c < 4 → RunsAt p v d (Body.Task t) j c (Effect.EndTask k) → Is (act p v d (Body.Task t) j c (Effect.EndTask k))
-  unfolding act storing task_stores body_number pick is_refusal unlessRefused
+  unfolding act storing task_stores body_number pick is_refusal unless_refused
   go_outcome t j k zero l h = made early (go_count h) refl
   go_outcome t j k (suc zero) l h = made early (go_pending h) refl
   go_outcome t j k (suc (suc zero)) l h = made early (go_open h) refl
@@ -402,20 +402,20 @@ module _ (p s : List ℕ) (d : Device) (early : Looked p s d) where
   go_outcome t j k (suc (suc (suc (suc c)))) l h = absurd (omega arith)
 
   done_outcome : (e j c : ℕ) → c < 3 → RunsAt p v d (Body.Event e) j c Effect.EndEvent → Is (act p v d (Body.Event e) j c Effect.EndEvent)
-  unfolding act storing event_stores pick is_refusal unlessRefused
+  unfolding act storing event_stores pick is_refusal unless_refused
   done_outcome e j zero l h = made early (done_count h) refl
   done_outcome e j (suc zero) l h = made early (done_pending h) refl
   done_outcome e j (suc (suc zero)) l h = made early (done_phase h) refl
   done_outcome e j (suc (suc (suc c))) l h = absurd (omega arith)
 
   act_outcome : (b : Body) (j c : ℕ) (f : Effect) → RunsAt p v d b j c f → Is (act p v d b j c f)
-  unfolding act body_number end_stores is_refusal unlessRefused
+  unfolding act body_number end_stores is_refusal unless_refused
   act_outcome b j c (Effect.Compute a x) h = made early (computed h) refl
   act_outcome b j c (Effect.Jump k) h = made early (jumped h) refl
   act_outcome b j c (Effect.Load a x) h =
-      pick-case Is (λ q. made early (loaded h (ltb-true _ _ q)) refl) (λ q. refused (met early h.rests (load_above h (ltb-false _ _ q))))
+      pick_case Is (λ q. made early (loaded h (ltb-true _ _ q)) refl) (λ q. refused (met early h.rests (load_above h (ltb-false _ _ q))))
   act_outcome b j c (Effect.Save x y) h =
-      pick-case Is (λ q. save_outcome b j c x y h (ltb-true _ _ q) (find v.log d.count x) refl)
+      pick_case Is (λ q. save_outcome b j c x y h (ltb-true _ _ q) (find v.log d.count x) refl)
       (λ q. refused (met early h.rests (save_above h (ltb-false _ _ q))))
   act_outcome (Body.Task t) j c (Effect.EndTask k) h = go_outcome t j k c h.stands.2 h
   act_outcome (Body.Event e) j c (Effect.EndTask k) h = absurd (omega (arith, h.legal.1))
@@ -425,7 +425,7 @@ module _ (p s : List ℕ) (d : Device) (early : Looked p s d) where
 
   -- "half a SAVE without a SAVE" is refused before
   rest_outcome : (b : Body) (j : ℕ) (f : Effect) → Acts p v d (Half b j) b j f → place_fits (Half b j) f ≡ true → Is (save_rest d b j f)
-  unfolding save_rest place_fits saves is_refusal unlessRefused
+  unfolding save_rest place_fits saves is_refusal unless_refused
   rest_outcome b j (Effect.Compute a x) h e = clash e refl
   rest_outcome b j (Effect.Jump k) h e = clash e refl
   rest_outcome b j (Effect.Load a x) h e = clash e refl
@@ -444,7 +444,7 @@ module _ (p s : List ℕ) (d : Device) (early : Looked p s d) where
     place_outcome : (x : Place) → d.place ≡ x → Stands p v d.count x → Is (place_step p v d x)
     unfolding place_step
     place_outcome (Free c) q h =
-        pick-case Is (λ z. let e = eqb-true _ _ z in choose_outcome (record { rests = rests; place = q ∙ ap Free (h.0 e).0; phase = e; none-begun = (h.0 e).1 }))
+        pick_case Is (λ z. let e = eqb-true _ _ z in choose_outcome (record { rests = rests; place = q ∙ ap Free (h.0 e).0; phase = e; none_begun = (h.0 e).1 }))
         (λ z. let ne = eqb-false _ _ z in copy_outcome c (record { rests = rests; place = q; phase = ne; left = h.1 ne }))
     place_outcome (Run b j c) q h =
         judged_case Is _ (λ r e. refused (met early rests (by_body (Run b j c) b j _ q running h.0 h.1 e))) (λ e. act_outcome b j c _ (acts (Run b j c) b j q h e))
@@ -466,7 +466,7 @@ step_outcome p s d =
 
 -- a refused step is its refusal and nothing else, for a reason
 pub why : (p s : List ℕ) (d : Device) (r : Refusal) → (step p s d).answer ≡ Answer.Refused r → Why p s d r × (step p s d ≡ refuse d r)
-unfolding is_refusal unlessRefused
+unfolding is_refusal unless_refused
 why p s d r = go (step p s d) (step_outcome p s d)
   where
     go : (o : Outcome) → StepOutcome p s d o → o.answer ≡ Answer.Refused r → Why p s d r × (o ≡ refuse d r)

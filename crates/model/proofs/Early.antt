@@ -11,7 +11,7 @@ use lib.Dec.{eqb}
 use Rattle.model.proofs.BurstLaws.{burst_passes, known_passes, may_drop_lem}
 use Rattle.model.proofs.Passed.{look-passed, early_are}
 use Rattle.model.proofs.RuleLaws.{obey_if}
-use Rattle.model.proofs.TestLaws.{pick-case, pick_true, clash, same_or, and_true, and_left, or_true_left, or_true_right, not_false, must-true, then_passed, then_first, then_rest}
+use Rattle.model.proofs.TestLaws.{pick_case, pick_true, clash, same_or, and_true, and_left, or_true_left, or_true_right, not_false, must-true, then_passed, then_first, then_rest}
 use Rattle.model.specs.Accepted.{ControlledBy, Controlled, EligibleBy, MayRun, Stands, Attends, Looked, AttendsTo}
 use Rattle.model.specs.Check.{contents_rule}
 use Rattle.model.specs.Control.{obey_all, phase_rule, task_rule, open_serving, count_rule, pending_task_rule, head_rule, tail_rule, pending_head_rule, pending_move_rule, begun_rule, begun_event_rule, early_rules}
@@ -37,8 +37,8 @@ control_passes p v h =
     (then_passed (obey_if _ (λ _. lt-ltb _ _ h.task_in))
     (then_passed (obey_if _ (λ e. eq-eqb _ _ (h.open_none (eqb-true _ _ e))))
     (then_passed (obey_if _ (λ e. le-leb _ _ (h.count_in (commits v.phase e))))
-    (then_passed (obey_if _ (λ e. lt-ltb _ _ (h.pending-task (eqb-true _ _ e))))
-    (then_passed (obey_if _ (λ e. le-leb _ _ (h.pending-head (eqb-true _ _ e))))
+    (then_passed (obey_if _ (λ e. lt-ltb _ _ (h.pending_task (eqb-true _ _ e))))
+    (then_passed (obey_if _ (λ e. le-leb _ _ (h.pending_head (eqb-true _ _ e))))
     (then_passed (obey_if _ (λ e. moves (eqb-true _ _ (and_left _ _ e))))
     (then_passed (obey_if _ (λ _. le-leb _ _ h.head_in))
     (then_passed (obey_if _ (λ _. le-leb _ _ h.tail_in))
@@ -51,7 +51,7 @@ control_passes p v h =
 
     begins : v.phase ≡ 0 → (begun_event_rule v).kept ≡ true
     begins q =
-        same_or v.begun 2 (λ two. let a = h.begun-event q two in or_true_right _ _ (and_true (not_false (ne_eqb _ _ a.0)) (eq-eqb _ _ a.1)))
+        same_or v.begun 2 (λ two. let a = h.begun_event q two in or_true_right _ _ (and_true (not_false (ne_eqb _ _ a.0)) (eq-eqb _ _ a.1)))
         (λ ne. or_true_left _ _ (not_false (ne_eqb _ _ ne)))
 
 -- in phase 0 the words 11 to 13 are free
@@ -64,12 +64,12 @@ control_still p l q phase task open' n pending h t g z a b c kind event =
       head_in = b;
       tail_in = c;
       count_in = λ ne. absurd (ne z);
-      pending-task = λ e. absurd (omega (arith, z, e));
-      pending-head = λ e. absurd (omega (arith, z, e));
+      pending_task = λ e. absurd (omega (arith, z, e));
+      pending_head = λ e. absurd (omega (arith, z, e));
       pending_is = λ e. absurd (omega (arith, z, e));
       open_none = λ e. absurd (omega (arith, z, e));
       begun_in = kind;
-      begun-event = λ e. event;
+      begun_event = λ e. event;
     }
 
 -- ---- 25: the device
@@ -86,7 +86,7 @@ may_pass p v b m = and_true (eligible_pass p v b m.0) (eq-eqb _ _ m.1)
 place_passes : (p : List ℕ) (v : Store) (l : ℕ) (x : Place) → Stands p v l x → place_sound p v l x ≡ true
 unfolding place_sound
 place_passes p v l (Free c) m =
-    pick-case (λ (b : Bool). b ≡ true) (λ e. let a = m.0 (eqb-true _ _ e) in and_true (eq-eqb _ _ a.0) (eq-eqb _ _ a.1)) (λ e. lt-ltb _ _ (m.1 (eqb-false _ _ e)))
+    pick_case (λ (b : Bool). b ≡ true) (λ e. let a = m.0 (eqb-true _ _ e) in and_true (eq-eqb _ _ a.0) (eq-eqb _ _ a.1)) (λ e. lt-ltb _ _ (m.1 (eqb-false _ _ e)))
 place_passes p v l (Run b j c) m = and_true (eq-eqb _ _ m.0) (and_true (may_pass p v b m.1) (lt-ltb _ _ m.2))
 place_passes p v l (Half b j) m = and_true (eq-eqb _ _ m.0) (and_true (may_pass p v b m.1) (lt-ltb _ _ m.2))
 

@@ -26,7 +26,7 @@ Each Holds (w ∷ ws) = Holds w × Each Holds ws
 pub first_as : (Made Also : Write → Type 0) (ws : List Write) → Each (λ w. Made w → Also w) ws → (n : ℕ) → First Made n ws → First Also n ws
 first_as Made Also ws h zero f = tt
 first_as Made Also [] h (suc n) f = absurd f
-first_as Made Also (w ∷ ws) (g, h) (suc n) (e, f) = (g e, first_as Made Also ws h n f)
+first_as Made Also (w ∷ ws) h (suc n) f = (h.0 f.0, first_as Made Also ws h.1 n f.1)
 
 module _ (ws : List Write) (c : ℕ) (d ended : Device) (a : Answer) where
   -- a store that isn't the last, and the last

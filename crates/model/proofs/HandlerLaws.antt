@@ -7,12 +7,12 @@ use mathlib.Core.List.{List, []}
 use mathlib.Core.Option.{Option}
 use lib.ListN.{length}
 use Rattle.model.proofs.BurstLaws.{burst-passed, carried-length, carried_back, set_to_work_length}
-use Rattle.model.proofs.DeviceLaws.{judged_case, record_made, tail-made, Made, handler, commit_copy, commit-task, commit_open, commit-head, commit-begun, commit-phase, chosen-event, chosen-task, computed, jumped, loaded, overwritten, half_saved, saved, go_count, go_pending, go_open, go_phase, done_count, done_pending, done_phase, StepOutcome, refused, made, step_outcome, Works, works_storing, works_replacing, head-dropped}
+use Rattle.model.proofs.DeviceLaws.{HandlerMade, judged_case, record_made, tail_made, Made, handler, commit_copy, commit_task, commit_open, commit_head, commit_begun, commit_phase, chosen_event, chosen_task, computed, jumped, loaded, overwritten, half_saved, saved, go_count, go_pending, go_open, go_phase, done_count, done_pending, done_phase, StepOutcome, refused, made, step_outcome, Works, works_storing, works_replacing, head_dropped}
 use Rattle.model.proofs.SerialLaws.{adds}
 use Rattle.model.proofs.TestLaws.{pick_true, pick-false, clash, must-passed, then_first, then_rest}
 use Rattle.model.specs.AllOrNone.{way_after}
 use Rattle.model.specs.Burst.{records_at, carried, burst_words}
-use Rattle.model.specs.Calls.{Call, Boot, Step, Cut, Post, call, unlessRefused, is_accept, accepted_events}
+use Rattle.model.specs.Calls.{Call, Boot, Step, Cut, Post, call, unless_refused, is_accept, accepted_events}
 use Rattle.model.specs.Device.{Outcome, fresh, with_place, with_handler, started, choosing, begun_of, taken_up, boot_check, boot, cut, post_check, post, burst_length, handled, step, takes, set_to_work}
 use Rattle.model.specs.Store.{Store, Record, view}
 use Rattle.model.specs.Test.{pick}
@@ -39,19 +39,24 @@ pub data HandlerGoes (d : Device) (o : Outcome) : Type 0 where
   stores : burst_length o.device.handler ≡ burst_length d.handler → o.device.burst ≡ d.burst → is_accept o.answer ≡ false → HandlerGoes d o
   accepts : {h : Handler} → d.handler ≡ h → Accepting h → o.device.handler ≡ Resting → is_accept o.answer ≡ true → HandlerGoes d o
 
+handling : (p : List ℕ) (v : Store) (d : Device) {h : Handler} {n c : ℕ} {later : Handler} {dropped : Dropped} (o : Outcome) → d.handler ≡ h
+    → Works v h n c later dropped → HandlerMade p v d n c later dropped o → HandlerGoes d o
+unfolding is_accept with_handler burst_length
+handling p v d o q w (record_made a s) = stores (works_length w ∙ ap burst_length (sym q)) refl refl
+handling p v d o q w (tail_made a) = accepts q (works_accepts w) refl refl
+
 handler_goes : (p : List ℕ) (v : Store) (d : Device) (o : Outcome) → Made p v d o → HandlerGoes d o
 unfolding is_accept fresh with_place with_handler started choosing burst_length
-handler_goes p v d o (handler q w (record_made a s)) = stores (works_length w ∙ ap burst_length (sym q)) refl refl
-handler_goes p v d o (handler q w (tail-made a)) = accepts q (works_accepts w) refl refl
-handler_goes p v d o (head-dropped q a l) = stores (ap burst_length (sym q)) refl refl
+handler_goes p v d o (handler q w m) = handling p v d o q w m
+handler_goes p v d o (head_dropped q a l) = stores (ap burst_length (sym q)) refl refl
 handler_goes p v d o (commit_copy h l m) = rests h.rests h.rests refl
-handler_goes p v d o (commit-task h one e) = rests h.rests h.rests refl
+handler_goes p v d o (commit_task h one e) = rests h.rests h.rests refl
 handler_goes p v d o (commit_open h one e) = rests h.rests h.rests refl
-handler_goes p v d o (commit-head h two e) = rests h.rests h.rests refl
-handler_goes p v d o (commit-begun h e) = rests h.rests h.rests refl
-handler_goes p v d o (commit-phase h e) = rests h.rests refl refl
-handler_goes p v d o (chosen-event h e ne l) = rests h.rests h.rests refl
-handler_goes p v d o (chosen-task h e) = rests h.rests h.rests refl
+handler_goes p v d o (commit_head h two e) = rests h.rests h.rests refl
+handler_goes p v d o (commit_begun h e) = rests h.rests h.rests refl
+handler_goes p v d o (commit_phase h e) = rests h.rests refl refl
+handler_goes p v d o (chosen_event h e ne l) = rests h.rests h.rests refl
+handler_goes p v d o (chosen_task h e) = rests h.rests h.rests refl
 handler_goes p v d o (computed h) = rests h.rests h.rests refl
 handler_goes p v d o (jumped h) = rests h.rests h.rests refl
 handler_goes p v d o (loaded h l) = rests h.rests h.rests refl
@@ -143,7 +148,7 @@ unfolding with_handler
 posted-handled v d rs most e = ap (carried (burst_words rs)) (set_to_work_length v (length rs) e) ∙ carried_back rs most
 
 pub call_way : (p s : List ℕ) (d : Device) (c : Call) → Way d c (call p s d c)
-unfolding call boot cut post post_check way_after unlessRefused is_accept pick fresh records_at burst_length
+unfolding call boot cut post post_check way_after unless_refused is_accept pick fresh records_at burst_length
 call_way p s d Boot =
     judged_case (Way d Boot) (boot_check p s d) (λ r e. refused_way d Boot _ r refl refl (λ rs. refl))
     (λ e. done_way d Boot _ refl (taken_up_handled (view s) (begun_of (view s))))

@@ -65,9 +65,9 @@ Has k (to (Datum i) x) = ⊥
 
 -- the parts have their lengths
 pub record Lengths (p : List ℕ) (v : Store) : Type 0 where
-  pub memory-length : length v.memory ≡ memory_words p
-  pub log-length : length v.log ≡ 2 * v.log_pairs
-  pub queue-length : length v.queue ≡ 2 * (v.queue_records + 1)
+  pub memory_length : length v.memory ≡ memory_words p
+  pub log_length : length v.log ≡ 2 * v.log_pairs
+  pub queue_length : length v.queue ≡ 2 * (v.queue_records + 1)
 
 -- the serial run's task and open number are a task's
 pub record Tasked (p : List ℕ) (task open' : ℕ) : Type 0 where

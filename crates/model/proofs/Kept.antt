@@ -14,9 +14,9 @@ use borrow.Author.Tests.{lt-ltb, le-ltb}
 use Rattle.model.proofs.FirstStores.{First, storing_goes, storing-ends}
 use Rattle.model.proofs.Invariant.{Controls, controls, Has, Lengths, Waiting, AtWork, HandlesAt, is_dropping, HeldAt, Lasting, Copying, CopyingAt, TaskCommitAt, EventCommitAt, CommitAt, ChosenAt, Running, Placed, Begins, On, Inv}
 use Rattle.model.proofs.LogLaws.{overlay, overlay_suc}
-use Rattle.model.proofs.RingLaws.{Between, known-between, forward_le, distance_some, distance-head, forward-distance, distance-forward, tail_apart, slot_apart, records-append, records-same, known-append, RecordStore, event-store, datum-store, record_store, tail-store, record_stores_lem, records-made, queue_after, slot_stays, next-made}
+use Rattle.model.proofs.RingLaws.{Between, known-between, forward_le, distance_some, distance-head, forward-distance, distance-forward, tail_apart, slot_apart, records-append, records-same, known-append, RecordStore, event_store, datum_store, record_store, tail-store, record_stores_lem, records-made, queue_after, slot_stays, next-made}
 use Rattle.model.proofs.StoreLaws.{apply, with_phase, with_begun, with_queue, with_next, Inside}
-use Rattle.model.proofs.TestLaws.{pick-case, pick_true, pick-false, below_or, must-true}
+use Rattle.model.proofs.TestLaws.{pick_case, pick_true, pick-false, below_or, must-true}
 use Rattle.model.specs.Demand3.{Expected}
 use Rattle.model.specs.Burst.{carried, no_burst}
 use Rattle.model.specs.Calls.{Call, Step}
@@ -83,7 +83,7 @@ stored-kept {z = z} w e unmarked inside same i =
 pub begun_nothing : (v : Store) → v.begun ≡ 0 → begun_of v ≡ Option.none
 unfolding begun_of
 begun_nothing v e =
-    pick-case (λ (g : Option Body). g ≡ Option.none) (λ _. pick-false _ _ (ap (λ (n : ℕ). eqb n 1) e) ∙ pick-false _ _ (ap (λ (n : ℕ). eqb n 2) e)) (λ _. refl)
+    pick_case (λ (g : Option Body). g ≡ Option.none) (λ _. pick-false _ _ (ap (λ (n : ℕ). eqb n 1) e) ∙ pick-false _ _ (ap (λ (n : ℕ). eqb n 2) e)) (λ _. refl)
 
 pub begun-committing : (v : Store) (n : ℕ) → v.phase ≡ n → eqb n 0 ≡ false → begun_of v ≡ Option.none
 unfolding begun_of
@@ -93,15 +93,15 @@ pub begun-task : (v : Store) → v.phase ≡ 0 → v.begun ≡ 1 → begun_of v 
 unfolding begun_of
 begun-task v e g = pick_true _ _ (ap (λ (x : ℕ). eqb x 0) e) ∙ pick_true _ _ (ap (λ (n : ℕ). eqb n 1) g)
 
-pub begun-event : (v : Store) → v.phase ≡ 0 → v.begun ≡ 2 → begun_of v ≡ Option.some (Body.Event (event v v.head))
+pub begun_event : (v : Store) → v.phase ≡ 0 → v.begun ≡ 2 → begun_of v ≡ Option.some (Body.Event (event v v.head))
 unfolding begun_of
-begun-event v e g =
+begun_event v e g =
     pick_true _ _ (ap (λ (x : ℕ). eqb x 0) e) ∙ pick-false _ _ (ap (λ (n : ℕ). eqb n 1) g) ∙ pick_true _ _ (ap (λ (n : ℕ). eqb n 2) g)
 
 pub begun-chosen : (v : Store) → v.phase ≡ 0 → (x : ℕ) (b : Body) → ChosenAt v x b → begun_of v ≡ Option.some b
 unfolding kind_of
 begun-chosen v e x (Body.Task t) (m, g) = begun-task v e g ∙ ap (λ (n : ℕ). Option.some (Body.Task n)) (sym m.0)
-begun-chosen v e x (Body.Event n) (m, g) = begun-event v e g ∙ ap (λ (n : ℕ). Option.some (Body.Event n)) m.1.1.0
+begun-chosen v e x (Body.Event n) (m, g) = begun_event v e g ∙ ap (λ (n : ℕ). Option.some (Body.Event n)) m.1.1.0
 
 pub chosen-begins : (v : Store) (b : Body) (x : ℕ) → ChosenAt v x b → Begins v
 unfolding kind_of
@@ -267,8 +267,8 @@ module _ (p : List ℕ) (v : Store) (lengths : Lengths p v) (d : Device) (z : Se
     store_is = go w s
       where
         go : (w : Write) → RecordStore v.queue_records v.tail rs w → apply v w ≡ with_queue v (queue_after v.queue w) v.tail
-        go w (event-store n r l m) = refl
-        go w (datum-store n r l m) = refl
+        go w (event_store n r l m) = refl
+        go w (datum_store n r l m) = refl
 
     store-inside : InsideOf p v w
     store-inside = go w s
@@ -277,8 +277,8 @@ module _ (p : List ℕ) (v : Store) (lengths : Lengths p v) (d : Device) (z : Se
         below n l = forward_le v.queue_records v.tail n i.held.waits.tail_in (omega (arith, a.room))
 
         go : (w : Write) → RecordStore v.queue_records v.tail rs w → InsideOf p v w
-        go w (event-store n r l m) = below n l
-        go w (datum-store n r l m) = below n l
+        go w (event_store n r l m) = below n l
+        go w (datum_store n r l m) = below n l
 
     chosen_stays : ChosenStays p v d z k queue' v.tail
     unfolding slot
@@ -433,7 +433,7 @@ module _ (p : List ℕ) (v : Store) (lengths : Lengths p v) (d : Device) (z : Se
         inside = omega (arith, stores_are);
         made =
             rw (add-one c)
-            (next-made v.queue v.queue_records lengths.queue-length rs v.tail c i.held.waits.tail_in (omega (arith, a.room)) before a.made);
+            (next-made v.queue v.queue_records lengths.queue_length rs v.tail c i.held.waits.tail_in (omega (arith, a.room)) before a.made);
       })) not-later)
 
   pub handler-kept : GoesOn → DroppedStays → Kept p v z k Step (handler_step v d n c later (dropped v.queue))
@@ -610,9 +610,9 @@ module _ (p : List ℕ) (v : Store) (d : Device) (rest : d.handler ≡ Resting) 
   -- ---- the last stores of an event's commit
 
   module _ (h : v.count ≤ c) (s : EventCommitAt v z c) where
-    head-stored : c - v.count ≡ 0 → Kept p v z k Step (out (to Head v.pending) further Answer.Stored)
+    head_stored : c - v.count ≡ 0 → Kept p v z k Step (out (to Head v.pending) further Answer.Stored)
     unfolding apply event_last_stores
-    head-stored at =
+    head_stored at =
         let u = apply v (to Head v.pending) in
         let waits : Waiting p v.queue v.queue_records (first_waiting u) v.tail z.records =
         rw (first-pending u s.phase_is) (rw (first-pending v s.phase_is) at i.held.waits) in
@@ -672,7 +672,7 @@ module _ (p : List ℕ) (v : Store) (d : Device) (rest : d.handler ≡ Resting) 
     event-last-kept : (j : ℕ) → c - v.count ≡ j → j < length (event_last_stores v) → First (Has (controls v)) j (event_last_stores v)
         → Kept p v z k Step (storing (event_last_stores v) j further (fresh true) Answer.Stored)
     unfolding event_last_stores storing pick
-    event-last-kept zero at more made = head-stored at
+    event-last-kept zero at more made = head_stored at
     event-last-kept (suc zero) at more (head, _) = begun-cleared at head
     event-last-kept (suc (suc zero)) at more (head, (begun, _)) = event-ended head begun
     event-last-kept (suc (suc (suc j))) at more made = absurd (omega arith)

@@ -17,7 +17,7 @@ use Rattle.model.proofs.Kept.{Kept, refused-kept, stored-kept, begun_nothing, be
 use Rattle.model.proofs.LogLaws.{addr, overlay, overlay_zero, overlay_other, overlay_elsewhere, overlay_pair, overlay_overwrite, overlay_append, Distinct, find_pair, find_nothing}
 use Rattle.model.proofs.RingLaws.{slot_after_le, distance_none, between_first, records-head}
 use Rattle.model.proofs.StoreLaws.{apply, with_phase, with_begun, with_data, with_commit, Inside}
-use Rattle.model.proofs.TestLaws.{pick-case, pick_true, pick-false, clash, below_or, and_true, and_left, and_right, must-true}
+use Rattle.model.proofs.TestLaws.{pick_case, pick_true, pick-false, clash, below_or, and_true, and_left, and_right, must-true}
 use Rattle.model.specs.Accepted.{Known, LegalEffect, Sound}
 use Rattle.model.specs.Answer.{refusal}
 use Rattle.model.specs.Calls.{Step}
@@ -175,7 +175,7 @@ module _ (p : List ℕ) (sound : Sound p) (v : Store) (d : Device) (z : Serial) 
   pub choose_kept : Kept p v z k Step (choose_step p v d)
   unfolding choose_step event_next judged record_sound data_for kind_of
   choose_kept =
-      pick-case (λ (o : Outcome). Kept p v z k Step o)
+      pick_case (λ (o : Outcome). Kept p v z k Step o)
       (λ e.
       let open' : v.open_number ≡ 0 = eqb-true _ _ (and_left _ _ e) in
       let some_record : v.head ≢ v.tail = eqb-false _ _ (not-true _ (and_right _ _ e)) in
@@ -296,7 +296,7 @@ module _ (p : List ℕ) (sound : Sound p) (v : Store) (lengths : Lengths p v) (d
             below,
             (
               room,
-              (get_or-set_same v.log (2 * l) y 0 (omega (arith, lengths.log-length)), λ m s. rw (keeps m s) (new m s)),
+              (get_or-set_same v.log (2 * l) y 0 (omega (arith, lengths.log_length)), λ m s. rw (keeps m s) (new m s)),
             ),
           ),
         );
@@ -315,10 +315,10 @@ module _ (p : List ℕ) (sound : Sound p) (v : Store) (lengths : Lengths p v) (d
       (λ g.
       pick_true _ _ (lt-ltb _ _ below)
       ∙ ap (λ (m : List ℕ). walk g p n (j + 1) d.registers m)
-      (sym (overlay_overwrite v.memory v.log d.count a w h.distinct (omega (arith, i.count_in, lengths.log-length)) pair.0
+      (sym (overlay_overwrite v.memory v.log d.count a w h.distinct (omega (arith, i.count_in, lengths.log_length)) pair.0
       ∙ ap (λ (c : ℕ). set seen c w) pair.1))))
   save_kept y w e place below Found.Nothing q =
-      pick-case (λ (o : Outcome). Kept p v z k Step o) (λ s. half_saved y w e below (find_nothing v.log d.count y q) (ltb-true _ _ s))
+      pick_case (λ (o : Outcome). Kept p v z k Step o) (λ s. half_saved y w e below (find_nothing v.log d.count y q) (ltb-true _ _ s))
       (λ s. refused-kept p v d z k Step Refusal.LogFull refl (inr i))
 
   pub rest-kept : (f : Effect) → effect_at p n j d.registers ≡ f → LegalEffect p n j f → HalfSaved p v.log v.log_pairs d.count f → Kept p v z k Step (save_rest d b j f)
@@ -350,7 +350,7 @@ module _ (p : List ℕ) (sound : Sound p) (v : Store) (lengths : Lengths p v) (d
             (λ g.
             pick_true _ _ (lt-ltb _ _ below)
             ∙ ap (λ (m : List ℕ). walk g p n (j + 1) d.registers m)
-            (sym (ap (overlay v.memory log) (add-one l) ∙ overlay_append v.memory v.log l y w (omega (arith, lengths.log-length)) stored)));
+            (sym (ap (overlay v.memory log) (add-one l) ∙ overlay_append v.memory v.log l y w (omega (arith, lengths.log_length)) stored)));
       }
   rest-kept (Effect.EndTask a) e leads t = absurd t
   rest-kept Effect.EndEvent e leads t = absurd t
@@ -407,7 +407,7 @@ module _ (p : List ℕ) (sound : Sound p) (v : Store) (lengths : Lengths p v) (d
 new_open_in : (p : List ℕ) (x a : ℕ) → (new_open x (transaction p a) ≡ 0) ⊎ (new_open x (transaction p a) ≡ transaction p a)
 unfolding new_open
 new_open_in p x a =
-    pick-case (λ (o : ℕ). (o ≡ 0) ⊎ (o ≡ transaction p a)) (λ e. inr (eqb-true _ _ e)) (λ e. inl refl)
+    pick_case (λ (o : ℕ). (o ≡ 0) ⊎ (o ≡ transaction p a)) (λ e. inr (eqb-true _ _ e)) (λ e. inl refl)
 
 task-commits : (p : List ℕ) (sound : Sound p) (v : Store) (lengths : Lengths p v) (d : Device) (z : Serial) (k : ℕ)
     (i : On p v d z k) (at_rest : d.handler ≡ Resting) (still : StillAt v z) (t j x : ℕ)
@@ -601,14 +601,14 @@ module _ (p : List ℕ) (sound : Sound p) (v : Store) (lengths : Lengths p v) (d
   act-kept c (Effect.Compute a y) e leads t = works p sound v lengths d z k i at_rest still b j x chosen h (Effect.Compute a y) e (j + 1) (set d.registers a y) leads.1 (λ g. refl)
   act-kept c (Effect.Jump a) e leads t = works p sound v lengths d z k i at_rest still b j x chosen h (Effect.Jump a) e a d.registers leads (λ g. refl)
   act-kept c (Effect.Load a y) e leads t =
-      pick-case (λ (o : Outcome). Kept p v z k Step o)
+      pick_case (λ (o : Outcome). Kept p v z k Step o)
       (λ s.
-      let below : y < length v.memory = omega (arith, ltb-true y (memory_words p) s, lengths.memory-length) in
+      let below : y < length v.memory = omega (arith, ltb-true y (memory_words p) s, lengths.memory_length) in
       works p sound v lengths d z k i at_rest still b j x chosen h (Effect.Load a y) e (j + 1) _ leads.1
       (λ g. pick_true _ _ s ∙ ap (λ (m : ℕ). walk g p (body_number p b) (j + 1) (set d.registers a m) (overlay v.memory v.log d.count)) (sym (shown_is v d.count y h.distinct below))))
       (λ s. refused-kept p v d z k Step Refusal.Address refl (inr i))
   act-kept c (Effect.Save y w) e leads t =
-      pick-case (λ (o : Outcome). Kept p v z k Step o) (λ s. save_kept p sound v lengths d z k i at_rest still b j x chosen h y w e leads (ltb-true _ _ s) (find v.log d.count y) refl)
+      pick_case (λ (o : Outcome). Kept p v z k Step o) (λ s. save_kept p sound v lengths d z k i at_rest still b j x chosen h y w e leads (ltb-true _ _ s) (find v.log d.count y) refl)
       (λ s. refused-kept p v d z k Step Refusal.Address refl (inr i))
   act-kept c (Effect.EndTask a) e leads t = task_end_kept a e leads c t
   act-kept c Effect.EndEvent e leads t = event_end_kept e leads c t

@@ -12,7 +12,7 @@ use lib.ListN.{length}
 use Rattle.model.proofs.BurstLaws.{carried_back, may_drop_is}
 use Rattle.model.proofs.Checks.{body-sound, run_fits, half_fits}
 use Rattle.model.proofs.Invariant.{Lengths, HeldAt, CopyingAt, TaskCommitAt, EventCommitAt, Placed, Resumes, On, Inv, HandlesAt, is_dropping, after_tail}
-use Rattle.model.proofs.Kept.{Kept, begun_nothing, begun-committing, begun-task, begun-event, chosen-begins, placed_queue, handler-kept, copies_left, commit-kept, first_head, room-first}
+use Rattle.model.proofs.Kept.{Kept, begun_nothing, begun-committing, begun-task, begun_event, chosen-begins, placed_queue, handler-kept, copies_left, commit-kept, first_head, room-first}
 use Rattle.model.proofs.KeptBody.{begins, task_in, event_in, choose_kept, act-kept, rest-kept}
 use Rattle.model.proofs.KeptDrop.{drop-kept}
 use Rattle.model.proofs.LogLaws.{overlay, overlay_zero, overlay_again}
@@ -147,7 +147,7 @@ module _ (p : List ℕ) (v : Store) (d : Device) (z : Serial) (k : ℕ) where
       subst Boots (sym (begun-task v s.phase_is g))
       (begins p sound v turned_on z k held s refl refl unmarked (Body.Task v.task) 0 ((refl, refl), g) (task_in p sound v turned_on z k held s))
   on_inv sound held unmarked (inl (s, inr (inr (g, (open', ne))))) =
-      subst Boots (sym (begun-event v s.phase_is g))
+      subst Boots (sym (begun_event v s.phase_is g))
       (begins p sound v turned_on z k held s refl refl unmarked (Body.Event (event v v.head)) (datum v v.head) ((open', (ne, (refl, refl))), g)
       (event_in p sound v turned_on z k held s ne))
   on_inv sound held unmarked (inr (m, inl t)) = subst Boots (sym (begun-committing v 1 t.phase_is refl)) (idle held unmarked (inr (m, inl t)))

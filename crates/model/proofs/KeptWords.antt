@@ -8,7 +8,7 @@ use mathlib.Core.List.{List}
 use mathlib.Core.Option.{some}
 use native.Mathlib.Omega.{arith}
 use lib.ListN.{length}
-use Rattle.model.proofs.BurstLaws.{burst-passed, EventsFound, all_known, bad-event, events-found}
+use Rattle.model.proofs.BurstLaws.{burst-passed, EventsFound, all_known, bad_event, events-found}
 use Rattle.model.proofs.Checks.{rules_obeyed, early_obeyed, device-sound}
 use Rattle.model.proofs.Invariant.{Lengths, On, Inv}
 use Rattle.model.proofs.Kept.{Kept, refused-kept, InsideOf, TellsDropped}
@@ -93,7 +93,7 @@ module _ (p : List ℕ) (sound : Sound p) (l q : ℕ) (s : List ℕ) (d : Device
       }
 
   lengths : Lengths p v
-  lengths = let e = lengths_are (memory_words p) l q s i.sized in record { memory-length = e.0; log-length = e.1; queue-length = e.2 }
+  lengths = let e = lengths_are (memory_words p) l q s i.sized in record { memory_length = e.0; log_length = e.1; queue_length = e.2 }
 
   -- ---- the checks come down to the last
 
@@ -164,7 +164,7 @@ module _ (p : List ℕ) (sound : Sound p) (l q : ℕ) (s : List ℕ) (d : Device
     where
       by_found : EventsFound p 0 rs → KeptWords p l q s z k (Post rs) (judged (events_rule p 0 rs) d o)
       by_found (all_known known e) = rw e (h known)
-      by_found (bad-event j e) = rw e (refused-words (Post rs) (Refusal.NoEvent j) refl)
+      by_found (bad_event j e) = rw e (refused-words (Post rs) (Refusal.NoEvent j) refl)
 
   some_slot : 1 ≤ q
   some_slot = omega (arith, (store-passed p s sound.rows.contents i.contents).shaped.sizes.some_records, i.sized.records_is)

@@ -11,12 +11,12 @@ use borrow.Author.Tests.{eqb-true, not-true}
 use lib.Dec.{eqb}
 use lib.ListN.{length, set}
 use lib.Seq.{get_or-set_other}
-use Rattle.model.proofs.DeviceLaws.{at_place, task_lasts, event_lasts, least-last, Commits, Made, record_made, tail-made, handler, commit_copy, commit-task, commit_open, commit-head, commit-begun, commit-phase, chosen-event, chosen-task, computed, jumped, loaded, overwritten, half_saved, saved, go_count, go_pending, go_open, go_phase, done_count, done_pending, done_phase, StepOutcome, refused, made, step_outcome, head-dropped, works_storing, works_replacing, Works, AttendsAt}
+use Rattle.model.proofs.DeviceLaws.{HandlerMade, at_place, task_lasts, event_lasts, least-last, Commits, Made, record_made, tail_made, handler, commit_copy, commit_task, commit_open, commit_head, commit_begun, commit_phase, chosen_event, chosen_task, computed, jumped, loaded, overwritten, half_saved, saved, go_count, go_pending, go_open, go_phase, done_count, done_pending, done_phase, StepOutcome, refused, made, step_outcome, head_dropped, works_storing, works_replacing, Works, AttendsAt}
 use Rattle.model.proofs.Early.{control_still, Fit, early_fit, look_passes}
 use Rattle.model.proofs.Passed.{sized}
 use Rattle.model.proofs.Kept.{InsideOf}
 use Rattle.model.proofs.LogLaws.{find_pair}
-use Rattle.model.proofs.RingLaws.{forward_le, tail_apart, event-store, datum-store, slot_in, slot_after_apart, distance-head, distance_le, slot_after_le}
+use Rattle.model.proofs.RingLaws.{forward_le, tail_apart, event_store, datum_store, slot_in, slot_after_apart, distance-head, distance_le, slot_after_le}
 use Rattle.model.proofs.StoreLaws.{with_phase, with_begun, with_next, with_commit, with_queue, with_data, apply, view_after, rule-kept}
 use Rattle.model.proofs.TestLaws.{clash, and_left, and_right, then_first, then_rest}
 use Rattle.model.specs.Burst.{carried, records_at}
@@ -24,7 +24,7 @@ use Rattle.model.specs.Device.{Outcome, fresh, with_place, with_handler, resting
 use Rattle.model.specs.Accepted.{ControlledBy, EligibleBy, MayRunBy, MayRun, StandsBy, Stands, Attends, Looked}
 use Rattle.model.specs.Program.{tasks, memory_words, word}
 use Rattle.model.specs.Store.{Store, view, slot_after, forward, distance, Phase, Write, none, to, index, settled, stored_word}
-use Rattle.model.specs.Calls.{is_refusal, unlessRefused, is_commit}
+use Rattle.model.specs.Calls.{is_refusal, unless_refused, is_commit}
 use Rattle.model.specs.Test.{pick, ◌and◌}
 use Rattle.model.specs.Types.{Answer, Body, Checked, Device, Free, Half, Handler, Place, Resting, Run, Dropped, Dropping, Replacing}
 use Rattle.model.specs.Claims.{sound_after, LookStays}
@@ -66,12 +66,12 @@ module _ (p : List ℕ) (v : Store) (d : Device) (fit : Fit p v d) where
         head_in = head;
         tail_in = tail;
         count_in = c.count_in;
-        pending-task = c.pending-task;
-        pending-head = c.pending-head;
+        pending_task = c.pending_task;
+        pending_head = c.pending_head;
         pending_is = pending;
         open_none = open';
         begun_in = c.begun_in;
-        begun-event = begun;
+        begun_event = begun;
       }
 
   -- a new tail, behind some records
@@ -99,7 +99,7 @@ module _ (p : List ℕ) (v : Store) (d : Device) (fit : Fit p v d) where
         record {
           control =
               control_other v.task v.open_number v.head x c.task_in c.head_in (forward_le v.queue_records v.tail k c.tail_in (omega (arith, room)))
-              (λ q. ⊎_elim inl (λ a. inr (a.0, apart)) (c.pending_is q)) c.open_none (λ z two. (apart, (c.begun-event z two).1));
+              (λ q. ⊎_elim inl (λ a. inr (a.0, apart)) (c.pending_is q)) c.open_none (λ z two. (apart, (c.begun_event z two).1));
           on = fit.on;
           count_in = fit.count_in;
           place = stands_tail d.count (length (last_stores v)) d.place fit.place;
@@ -133,12 +133,12 @@ module _ (p : List ℕ) (v : Store) (d : Device) (fit : Fit p v d) where
               head_in = c.head_in;
               tail_in = c.tail_in;
               count_in = c.count_in;
-              pending-task = c.pending-task;
-              pending-head = c.pending-head;
+              pending_task = c.pending_task;
+              pending_head = c.pending_head;
               pending_is = c.pending_is;
               open_none = c.open_none;
               begun_in = omega arith;
-              begun-event = λ z. absurd (w.phase z);
+              begun_event = λ z. absurd (w.phase z);
             };
         on = fit.on;
         count_in = fit.count_in;
@@ -179,7 +179,7 @@ module _ (p : List ℕ) (v : Store) (d : Device) (fit : Fit p v d) where
   noted_fits n w o b j c z may l =
       let h = fit.control in
       record {
-        control = control_still p _ _ _ _ _ _ _ _ _ _ z h.task_in h.head_in h.tail_in h.begun_in (h.begun-event z);
+        control = control_still p _ _ _ _ _ _ _ _ _ _ z h.task_in h.head_in h.tail_in h.begun_in (h.begun_event z);
         on = fit.on;
         count_in = fit.count_in;
         place = (z, may, l);
@@ -227,25 +227,29 @@ module _ (p : List ℕ) (v : Store) (d : Device) (fit : Fit p v d) where
   abbrev Keeps : Outcome → Type 0
   Keeps o = ((x : ℕ) → o.write ≡ to Phase x → (is_commit o.answer ≡ false) × (v.begun ≡ 0)) → InsideOf p v o.write × Fit p (apply v o.write) o.device
 
+  handling_keeps : {h : Handler} {n c : ℕ} {later : Handler} {dropped : Dropped} (o : Outcome) → Works v h n c later dropped
+      → HandlerMade p v d n c later dropped o → Keeps o
+  unfolding apply
+  handling_keeps o w (record_made a (event_store n r l m)) _ = (slot_in v.head n fit.control.tail_in a.room l, handled-fits _ _ (later_attends w a))
+  handling_keeps o w (record_made a (datum_store n r l m)) _ = (slot_in v.head n fit.control.tail_in a.room l, handled-fits _ _ (later_attends w a))
+  handling_keeps {n = n} o w (tail_made a) _ = (tt, tail-fits (length (carried d.burst n)) a.least (omega (arith, a.room, a.least)))
+
   keeps : 1 ≤ v.queue_records → (o : Outcome) → Made p v d o → Keeps o
   unfolding apply choosing kind_of end_stores is_commit
-  keeps some_slot o (handler q w (record_made a (event-store n r l m))) _ = (slot_in v.head n fit.control.tail_in a.room l, handled-fits _ _ (later_attends w a))
-  keeps some_slot o (handler q w (record_made a (datum-store n r l m))) _ = (slot_in v.head n fit.control.tail_in a.room l, handled-fits _ _ (later_attends w a))
-  keeps some_slot o (handler {n = n} q w (tail-made a)) _ =
-      (tt, tail-fits (length (carried d.burst n)) a.least (omega (arith, a.room, a.least)))
-  keeps some_slot o (head-dropped q a l) _ = (tt, dropped-fits some_slot a)
+  keeps some_slot o (handler q w m) ends = handling_keeps o w m ends
+  keeps some_slot o (head_dropped q a l) _ = (tt, dropped-fits some_slot a)
   keeps some_slot o (commit_copy {c = c} h l m) _ =
       (m, with_place-fits _ _ _ d.registers (Free (c + 1)) d.count fit.count_in (λ z. absurd (h.phase z), λ _. omega (arith, least-last v)))
-  keeps some_slot o (commit-task h one e) _ =
-      (tt, last_fits h _ _ _ (fit.control.pending-task one) fit.control.head_in fit.control.pending_is fit.control.open_none (omega (arith, task_lasts v one)))
+  keeps some_slot o (commit_task h one e) _ =
+      (tt, last_fits h _ _ _ (fit.control.pending_task one) fit.control.head_in fit.control.pending_is fit.control.open_none (omega (arith, task_lasts v one)))
   keeps some_slot o (commit_open h one e) _ =
       (tt, last_fits h _ _ _ fit.control.task_in fit.control.head_in fit.control.pending_is (λ two. absurd (omega (arith, one, two))) (omega (arith, task_lasts v one)))
-  keeps some_slot o (commit-head h two e) _ =
-      (tt, last_fits h _ _ _ fit.control.task_in (fit.control.pending-head two) (λ _. inl refl) fit.control.open_none (omega (arith, event_lasts v (omega arith))))
-  keeps some_slot o (commit-begun h e) _ = (tt, cleared-fits h (omega arith))
-  keeps some_slot o (commit-phase h e) ends = (tt, over_fits (ends 0 refl).1)
-  keeps some_slot o (chosen-event h none_open some l) _ = (tt, chosen-fits _ h.rests h.phase (l, none_open, some) (omega arith) (λ _. (some, none_open)))
-  keeps some_slot o (chosen-task h n) _ = (tt, chosen-fits _ h.rests h.phase refl (omega arith) (λ two. absurd (omega (arith, two))))
+  keeps some_slot o (commit_head h two e) _ =
+      (tt, last_fits h _ _ _ fit.control.task_in (fit.control.pending_head two) (λ _. inl refl) fit.control.open_none (omega (arith, event_lasts v (omega arith))))
+  keeps some_slot o (commit_begun h e) _ = (tt, cleared-fits h (omega arith))
+  keeps some_slot o (commit_phase h e) ends = (tt, over_fits (ends 0 refl).1)
+  keeps some_slot o (chosen_event h none_open some l) _ = (tt, chosen-fits _ h.rests h.phase (l, none_open, some) (omega arith) (λ _. (some, none_open)))
+  keeps some_slot o (chosen_task h n) _ = (tt, chosen-fits _ h.rests h.phase refl (omega arith) (λ two. absurd (omega (arith, two))))
   keeps some_slot o (computed h) _ = (tt, runs-fits _ _ _ _ _ _ _ fit.count_in h.stands.0 h.stands.1)
   keeps some_slot o (jumped h) _ = (tt, runs-fits _ _ _ _ _ _ _ fit.count_in h.stands.0 h.stands.1)
   keeps some_slot o (loaded h l) _ = (tt, runs-fits _ _ _ _ _ _ _ fit.count_in h.stands.0 h.stands.1)
@@ -284,7 +288,7 @@ module _ (p s : List ℕ) (d : Device) where
 
   stays : (o : Outcome) → StepOutcome p s d o → is_refusal o.answer ≡ false → sound_after (stored_word s o.write) o.answer (settled s o.write) ≡ true
       → look p (settled s o.write) o.device ≡ Checked.Accepted
-  unfolding is_refusal unlessRefused
+  unfolding is_refusal unless_refused
   stays o (refused w) n e = clash refl n
   stays o (made early m u) n e =
       let k = keeps p (view s) d (early_fit early) early.shaped.shaped.sizes.some_records o m (λ x is. phase-stored s o.answer o.write x is e) in

@@ -7,7 +7,7 @@ use mathlib.Core.Bool.{Bool, true, false, not}
 use mathlib.Core.List.{List, [], ◌∷◌, ◌++◌}
 use native.Mathlib.Nat.{le_refl}
 use native.Mathlib.Omega.{arith}
-use Rattle.model.proofs.TestLaws.{pick-case, clash, impossible}
+use Rattle.model.proofs.TestLaws.{pick_case, clash, impossible}
 use Rattle.model.specs.Claims.{Among, LowestBroken, FirstLowest, LowestIsOne, NamesLowest, FirstIsLowest}
 use Rattle.model.specs.Control.{Rule, broken, obey, obey_all, up_to, phase_rule, task_rule, open_rule, open_serving, count_rule, pending_task_rule, pending_head_rule, pending_move_rule, pending_open_rule, head_rule, tail_rule, begun_rule, begun_event_rule, address_rule, record_rule, control_rules, rules, early_of, early_rules}
 use Rattle.model.specs.Program.{memory_words}
@@ -41,7 +41,7 @@ unfolding early_of
 rising_early a b [] h = h
 rising_early a b (r ∷ rs) (l, t) =
     let later = rising_early r.word b rs t in
-    pick-case (Rising a b) (λ _. (l, later)) (λ _. rising_from a r.word b (early_of rs) l later)
+    pick_case (Rising a b) (λ _. (l, later)) (λ _. rising_from a r.word b (early_of rs) l later)
 
 rising_above : (a b : ℕ) (rs : List Rule) → Rising a b rs → (r : Rule) → Among r rs → a ≤ r.word
 rising_above a b [] h r m = absurd m

@@ -8,7 +8,7 @@ use mathlib.Core.Bool.{Bool, true, false, not}
 use mathlib.Core.List.{List, [], ◌∷◌}
 use native.Mathlib.Nat.{le_refl}
 use native.Mathlib.Omega.{arith}
-use borrow.Author.Tests.{ltb-false, le-leb, le-ltb, lt-ltb, eq-eqb, ne_eqb, not-true, not_false}
+use borrow.Author.Tests.{ltb-false, le-leb, le-ltb, lt-ltb, eq-eqb, ne_eqb, not-true, not-false}
 use lib.Dec.{eqb}
 use Rattle.model.proofs.DeviceLaws.{BodyIn, running, half_way, by_record, by_pair, by_body, Why, looked, met, boot_why, post_why, why, by_dropped}
 use Rattle.model.proofs.Kept.{first_head}
@@ -152,7 +152,7 @@ module _ (p s : List ℕ) (d : Device) where
 
     lowest_open : (b : Body) → Lowest (running_rule p v b ∷ []) (open_sound p v b)
     unfolding open_sound obey running_rule
-    lowest_open (Body.Task t) = lowest_alone _ (open_rule p v) (not_false _)
+    lowest_open (Body.Task t) = lowest_alone _ (open_rule p v) (not-false _)
     lowest_open (Body.Event e) = refuses_accepted
 
     lowest-body : v.phase ≡ 0 → (x : Place) (b : Body) (j : ℕ) (f : Effect) → MayRun p v b → Lowest (running_rule p v b ∷ []) (body_sound p v x b j f)

@@ -6,7 +6,7 @@ use mathlib.Core.Path.{◌≡◌, refl}
 use mathlib.Core.Bool.{Bool, true}
 use mathlib.Core.List.{List}
 use lib.Dec.{leb}
-use Rattle.model.proofs.TestLaws.{pick-case, Refuses, refuses_accepted, refuses_must, refuses_then, refuses_each}
+use Rattle.model.proofs.TestLaws.{pick_case, Refuses, refuses_accepted, refuses_must, refuses_then, refuses_each}
 use Rattle.model.specs.Answer.{refusal}
 use Rattle.model.specs.Check.{contents_rule, rows_inside_rule, limits, row_rule, rows, row_usable, instruction_rule, body_rule, check}
 use Rattle.model.specs.Device.{named_row}
@@ -88,4 +88,4 @@ low-named p Effect.Unknown = refuses_accepted
 
 -- the checks of a body's row, its instruction and the row that it names
 pub low-body : (p : List ℕ) (i j : ℕ) (there : Bool) (f : Effect) → Low (pick there (instruction_rule p i j then named_row p f) Checked.Accepted)
-low-body p i j there f = pick-case Low (λ _. refuses_then _ _ (low-instruction p i j) (low-named p f)) (λ _. refuses_accepted)
+low-body p i j there f = pick_case Low (λ _. refuses_then _ _ (low-instruction p i j) (low-named p f)) (λ _. refuses_accepted)

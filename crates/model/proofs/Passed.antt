@@ -71,7 +71,7 @@ sizes-passed l q e =
       some_pairs = leb-true _ _ (and_left _ _ e);
       most_pairs = leb-true _ _ (and_left _ _ e1);
       some_records = leb-true _ _ (and_left _ _ e2);
-      most-records = leb-true _ _ (and_right _ _ e2);
+      most_records = leb-true _ _ (and_right _ _ e2);
     }
 
 pub store-passed : (p s : List ℕ) → Contents p → store_rule p s ≡ Checked.Accepted → ShapedFor p s
@@ -92,11 +92,11 @@ store-passed p s c e =
     record {
       shaped =
           record {
-            most-memory = omega arith;
+            most_memory = omega arith;
             sizes = sizes-passed _ _ limits;
             memory_start = eqb-true _ _ memoryStart;
-            log-start = omega arith;
-            queue-start = omega arith;
+            log_start = omega arith;
+            queue_start = omega arith;
             length_is = omega arith;
           };
       memory = is;
@@ -157,15 +157,15 @@ control-passed p v e =
           leb-true _ _
           (obeyed _ (then_first _ _ e3)
           (same_or v.phase 1 (λ q. or_true_left _ _ (eq-eqb _ _ q)) (λ n. or_true_right _ _ (eq-eqb v.phase 2 (omega arith)))));
-      pending-task = λ q. ltb-true _ _ (obeyed _ (then_first _ _ e4) (eq-eqb _ _ q));
-      pending-head = λ q. leb-true _ _ (obeyed _ (then_first _ _ e5) (eq-eqb _ _ q));
+      pending_task = λ q. ltb-true _ _ (obeyed _ (then_first _ _ e4) (eq-eqb _ _ q));
+      pending_head = λ q. leb-true _ _ (obeyed _ (then_first _ _ e5) (eq-eqb _ _ q));
       pending_is =
           λ q.
           ⊎_elim (λ a. inl (eqb-true _ _ a)) (λ a. inr (eqb-true _ _ (and_left _ _ a), eqb-false _ _ (not-true _ (and_right _ _ a))))
           (or_cases _ _ (obeyed _ (then_first _ _ e6) (and_true (eq-eqb _ _ q) (and_true head tail))));
       open_none = λ q. eqb-true _ _ (obeyed _ (then_first _ _ e2) (eq-eqb _ _ q));
       begun_in = leb-true _ _ (obeyed _ (then_first _ _ e9) refl);
-      begun-event =
+      begun_event =
           λ q two.
           ⊎_elim (λ a. clash (eq-eqb _ _ two) (not-true _ a)) (λ a. (eqb-false _ _ (not-true _ (and_left _ _ a)), eqb-true _ _ (and_right _ _ a)))
           (or_cases _ _ (obeyed _ (then_first _ _ e10) (and_true (eq-eqb _ _ q) (and_true head tail))));

@@ -9,7 +9,7 @@ use native.Mathlib.Omega.{arith}
 use lib.Dec.{ltb, eqb}
 use lib.ListN.{get_or}
 use borrow.Author.Tests.{ltb-true, ltb-false, leb-true, eqb-true, eq-eqb, le-leb, eqb-false}
-use Rattle.model.proofs.TestLaws.{pick-case, pick_true, clash, and_left, and_right, must-true, must-passed, must_then, then_passed, then_first, then_rest, each-passed}
+use Rattle.model.proofs.TestLaws.{pick_case, pick_true, clash, and_left, and_right, must-true, must-passed, must_then, then_passed, then_first, then_rest, each-passed}
 use Rattle.model.specs.Accepted.{Contents, RowsInside, HasRow, UsableRow, HasBody, Bodies, LegalEffect, Sound}
 use Rattle.model.specs.Check.{contents_rule, rows_inside_rule, limits, due, row_rule, rows, row_usable, fields_fit, last_one_fits, instruction_rule, body_rule, check}
 use Rattle.model.specs.Program.{tasks, memory_words, total, bodies, start, instructions, bodies_start, opcode, field_a, field_b, code, operand, Bounds, bounds_table, bounds, may_be_last, instruction_table, decode, effect, effect_at, less, reg}
@@ -25,18 +25,18 @@ contents-passed p e =
     let (whole, e2) = must_then _ _ _ e1 in
     let (mark, e3) = must_then _ _ _ e2 in
     let (some_task, e4) = must_then _ _ _ e3 in
-    let (most-tasks, e5) = must_then _ _ _ e4 in
-    let (most-events, e6) = must_then _ _ _ e5 in
+    let (most_tasks, e5) = must_then _ _ _ e4 in
+    let (most_events, e6) = must_then _ _ _ e5 in
     let (some_memory, e7) = must_then _ _ _ e6 in
-    let (most-memory, e8) = must_then _ _ _ e7 in
+    let (most_memory, e8) = must_then _ _ _ e7 in
     record {
       six = leb-true _ _ six;
       length_is = eqb-true _ _ whole;
       some_task = leb-true _ _ some_task;
-      most-tasks = leb-true _ _ most-tasks;
-      most-events = leb-true _ _ most-events;
+      most_tasks = leb-true _ _ most_tasks;
+      most_events = leb-true _ _ most_events;
       some_memory = leb-true _ _ some_memory;
-      most-memory = leb-true _ _ most-memory;
+      most_memory = leb-true _ _ most_memory;
       entry_is = ltb-true _ _ (must-passed _ _ e8);
     }
 
@@ -56,7 +56,7 @@ row-passed p i e =
     let (behind, e1) = must_then _ _ _ (then_rest _ _ e) in
     record {
       some_instruction = leb-true _ _ some;
-      most-instructions = leb-true _ _ most;
+      most_instructions = leb-true _ _ most;
       behind = leb-true _ _ behind;
       inside = leb-true _ _ (must-passed _ _ e1);
     }
@@ -158,7 +158,7 @@ module _ (p : List ℕ) (i j a b k : ℕ) (r : List ℕ) (h : j < instructions p
       go false q = let ne : j + 1 ≡ instructions p i → ⊥ = eqb-false _ _ q in omega (arith, ne)
 
   either : (t : Bool) → k < instructions p i → j + 1 < instructions p i → pick t k (j + 1) < instructions p i
-  either t x y = pick-case (λ (n : ℕ). n < instructions p i) (λ _. x) (λ _. y)
+  either t x y = pick_case (λ (n : ℕ). n < instructions p i) (λ _. x) (λ _. y)
 
   by_task : (t : Bool) → ltb i (tasks p) ≡ t → k < pick t (tasks p) 0 → (k < tasks p) × (i < tasks p)
   unfolding pick

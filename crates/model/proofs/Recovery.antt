@@ -18,7 +18,7 @@ use Rattle.model.proofs.KeptCalls.{held_of, resumes_of, off_inv, on_inv, held_st
 use Rattle.model.proofs.StoreLaws.{view_at}
 use Rattle.model.proofs.TestLaws.{pick_true, pick-false, must-true}
 use Rattle.model.specs.Accepted.{Sound}
-use Rattle.model.specs.Calls.{Step, unlessRefused, recovered, refused, finish, recovery}
+use Rattle.model.specs.Calls.{Step, unless_refused, recovered, refused, finish, recovery}
 use Rattle.model.specs.Demand3.{Left, recovery_steps, Recovers}
 use Rattle.model.specs.Device.{Outcome, out, judged, fresh, off, turned_on, task_last_stores, event_last_stores, last_stores, begun_of, taken_up, boot, cut, copy_step, place_step, next_step, step}
 use Rattle.model.specs.Program.{memory_words}
@@ -116,10 +116,10 @@ finish-none p (suc fuel) n s d e = pick_true _ _ (ap (λ (x : ℕ). eqb x 0) e)
 
 finish-step : (p : List ℕ) (fuel n : ℕ) (s : List ℕ) (d : Device) → eqb (view s).phase 0 ≡ false → (step p s d).answer ≡ Answer.Stored
     → finish p (suc fuel) n s d ≡ finish p fuel (n + 1) (settled s (step p s d).write) (step p s d).device
-unfolding finish unlessRefused
+unfolding finish unless_refused
 finish-step p fuel n s d e f =
     pick-false _ _ e
-    ∙ ap (λ (a : Answer). unlessRefused a refused (finish p fuel (n + 1) (settled s (step p s d).write) (step p s d).device)) f
+    ∙ ap (λ (a : Answer). unless_refused a refused (finish p fuel (n + 1) (settled s (step p s d).write) (step p s d).device)) f
 
 finishes : (p : List ℕ) (sound : Sound p) (l q r fuel n : ℕ) (s : List ℕ) (d : Device) (z : Serial) (k c : ℕ) → InvWords p l q s d z k
     → d.on ≡ true → d.handler ≡ Resting → d.place ≡ Free c → Remaining (view_at (memory_words p) l q s) c r → r ≤ fuel
@@ -195,8 +195,8 @@ module _ (p : List ℕ) (sound : Sound p) (l q : ℕ) (s : List ℕ) (d : Device
   -- in phases 1 and 2 no body is taken up
   commit_finishes : (fuel : ℕ) → recovery_steps now ≤ fuel → CommitAt p now z 0 → begun_of now ≡ Option.none → Finishes p s booted z fuel 0 (recovery_steps now)
   unfolding taken_up fresh
-  commit_finishes fuel h commit none-begun =
-      let is : turned_on ≡ booted = ap (taken_up now) (sym none-begun) in
+  commit_finishes fuel h commit none_begun =
+      let is : turned_on ≡ booted = ap (taken_up now) (sym none_begun) in
       let resumes = resumes_still p now d z k (inr commit) in
       let words : InvWords p l q s booted (unchanged z) (suc k) =
       record {
@@ -228,14 +228,14 @@ module _ (p : List ℕ) (sound : Sound p) (l q : ℕ) (s : List ℕ) (d : Device
   boot_finishes fuel h (inr (m, inr t)) = commit_finishes fuel h (m, inr t) (begun-committing now 2 t.phase_is refl)
 
   pub recovers : (fuel : ℕ) → recovery_steps (view s) ≤ fuel → Recovers p s z fuel
-  unfolding recovery cut unlessRefused
+  unfolding recovery cut unless_refused
   recovers fuel h =
       let same = view-at p sound l q s d z k i in
       let f = boot_finishes fuel (subst (λ (u : Store). recovery_steps u ≤ fuel) same h) (resumes_of p now d z k i.inv) in
       record {
         store = f.store;
         ends =
-            ap (λ (o : Outcome). unlessRefused o.answer refused (finish p fuel 0 s o.device)) boot-answers
+            ap (λ (o : Outcome). unless_refused o.answer refused (finish p fuel 0 s o.device)) boot-answers
             ∙ f.ends
             ∙ ap (λ (x : ℕ). recovered x f.store) (zero-add (recovery_steps now) ∙ ap recovery_steps (sym same));
         left = f.left;

@@ -10,18 +10,18 @@ use native.Mathlib.Omega.{arith}
 use lib.Dec.{leb, eqb}
 use borrow.Author.Tests.{ne_eqb}
 use lib.ListN.{length}
-use Rattle.model.proofs.DeviceLaws.{judged_case, step-acts, load_refused, save_refused, save_full, record_made, tail-made, Acts, RunsAt, Meets, by_record, by_pair, by_body, load_above, save_above, log-full, Why, looked, met, why, Made, StepOutcome, made, refused, step_outcome, handler, head-dropped, works_storing, works_replacing, by_dropped, commit_copy, commit-task, commit_open, commit-head, commit-begun, commit-phase, chosen-event, chosen-task, computed, jumped, loaded, overwritten, half_saved, saved, go_count, go_pending, go_open, go_phase, done_count, done_pending, done_phase, Works}
+use Rattle.model.proofs.DeviceLaws.{HandlerMade, judged_case, step-acts, load_refused, save_refused, save_full, record_made, tail_made, Acts, RunsAt, Meets, by_record, by_pair, by_body, load_above, save_above, log-full, Why, looked, met, why, Made, StepOutcome, made, refused, step_outcome, handler, head_dropped, works_storing, works_replacing, by_dropped, commit_copy, commit_task, commit_open, commit_head, commit_begun, commit_phase, chosen_event, chosen_task, computed, jumped, loaded, overwritten, half_saved, saved, go_count, go_pending, go_open, go_phase, done_count, done_pending, done_phase, Works}
 use Rattle.model.proofs.Early.{look_rests}
 use Rattle.model.proofs.Passed.{sized}
 use Rattle.model.proofs.LookStays.{look_stays}
 use Rattle.model.proofs.Numbers.{Low, low-contents, low-store, low-inside, low_used, low-body}
-use Rattle.model.proofs.RingLaws.{distance_some, slot_apart, RecordStore, event-store, datum-store, slot_in, queue_after, slot_stays}
+use Rattle.model.proofs.RingLaws.{distance_some, slot_apart, RecordStore, event_store, datum_store, slot_in, queue_after, slot_stays}
 use Rattle.model.proofs.StoreLaws.{apply, with_queue, Inside, view_after, with_next}
-use Rattle.model.proofs.TestLaws.{pick-false, clash, impossible, must-passed, then_rest, Refuses, refuses_accepted, refuses_must, refuses_then, pick-case}
+use Rattle.model.proofs.TestLaws.{pick-false, clash, impossible, must-passed, then_rest, Refuses, refuses_accepted, refuses_must, refuses_then, pick_case}
 use Rattle.model.specs.Accepted.{Looked, MayRun, Attends}
 use Rattle.model.specs.Answer.{refusal}
 use Rattle.model.specs.Burst.{carried, no_burst}
-use Rattle.model.specs.Calls.{Call, Boot, Step, Cut, Post, call, after_calls, unlessRefused, is_refusal}
+use Rattle.model.specs.Calls.{Call, Boot, Step, Cut, Post, call, after_calls, unless_refused, is_refusal}
 use Rattle.model.specs.Claims.{Stays, address, log_full, uncut, RefusalStays, sound_after}
 use Rattle.model.specs.Control.{Rule, obey, obey_all, open_rule, task_rule}
 use Rattle.model.specs.Device.{Outcome, out, refuse, with_handler, resting, zeros, look, boot, boot_check, post, post_check, record_sound, head_sound, head_is, open_sound, body_sound, act, step, kind_of, set_to_work}
@@ -236,29 +236,34 @@ module _ (p s : List ℕ) (d : Device) (r : Refusal) (w : Stays r) (k : Stuck p 
   not_resting works_storing e = impossible (cc)
   not_resting works_replacing e = impossible (cc)
 
-  stuck_made : (o : Outcome) → Made p v d o → (d.handler ≡ Resting → ⊥) → step p s d ≡ o → StuckAfter o
-  unfolding apply queue_after is_refusal unlessRefused zeros ◌and◌
-  stuck_made o (handler {n = n} {later = later} q g (record_made a (event-store i y l m))) busy is =
+  handling_stuck : {h : Handler} {n c : ℕ} {later : Handler} {dropped : Dropped} (o : Outcome) → Works v h n c later dropped
+      → HandlerMade p v d n c later dropped o → step p s d ≡ o → StuckAfter o
+  unfolding apply queue_after is_refusal unless_refused zeros ◌and◌
+  handling_stuck {n = n} {later = later} o g (record_made a (event_store i y l m)) is =
       stored (Event _) y.event later d.burst Answer.Stored _ v.head v.tail is refl (event-sound _ _ _)
       (slot_in v.head i meets.0.control.tail_in a.room l) refl
-      (λ _ ne. (refl, head_stays (carried d.burst n) _ (event-store i y l m) a.room ne)) (not_resting g)
-  stuck_made o (handler {n = n} {later = later} q g (record_made a (datum-store i y l m))) busy is =
+      (λ _ ne. (refl, head_stays (carried d.burst n) _ (event_store i y l m) a.room ne)) (not_resting g)
+  handling_stuck {n = n} {later = later} o g (record_made a (datum_store i y l m)) is =
       stored (Datum _) y.datum later d.burst Answer.Stored _ v.head v.tail is refl (datum-sound _ _ _)
       (slot_in v.head i meets.0.control.tail_in a.room l) refl
-      (λ _ ne. (refl, head_stays (carried d.burst n) _ (datum-store i y l m) a.room ne)) (not_resting g)
-  stuck_made o (handler {dropped = dropped} q g (tail-made a)) busy is =
+      (λ _ ne. (refl, head_stays (carried d.burst n) _ (datum_store i y l m) a.room ne)) (not_resting g)
+  handling_stuck {dropped = dropped} o g (tail_made a) is =
       stored Tail _ Resting no_burst (Answer.Accepted dropped) v.queue v.head _ is refl (tail-sound dropped _ _) tt refl (λ _ _. (refl, refl)) (λ _. refl)
-  stuck_made o (head-dropped q a l) busy is =
+
+  stuck_made : (o : Outcome) → Made p v d o → (d.handler ≡ Resting → ⊥) → step p s d ≡ o → StuckAfter o
+  unfolding apply queue_after is_refusal unless_refused zeros ◌and◌
+  stuck_made o (handler q g m) busy is = handling_stuck o g m is
+  stuck_made o (head_dropped q a l) busy is =
       stored Head _ (Replacing 0) d.burst Answer.Stored v.queue _ v.tail is refl (head-sound _ _) tt refl (λ two _. absurd (a.event_not_begun two))
       (λ e. impossible (cc))
   stuck_made o (commit_copy h l m) busy is = absurd (busy h.rests)
-  stuck_made o (commit-task h one e) busy is = absurd (busy h.rests)
+  stuck_made o (commit_task h one e) busy is = absurd (busy h.rests)
   stuck_made o (commit_open h one e) busy is = absurd (busy h.rests)
-  stuck_made o (commit-head h two e) busy is = absurd (busy h.rests)
-  stuck_made o (commit-begun h e) busy is = absurd (busy h.rests)
-  stuck_made o (commit-phase h e) busy is = absurd (busy h.rests)
-  stuck_made o (chosen-event h e ne l) busy is = absurd (busy h.rests)
-  stuck_made o (chosen-task h e) busy is = absurd (busy h.rests)
+  stuck_made o (commit_head h two e) busy is = absurd (busy h.rests)
+  stuck_made o (commit_begun h e) busy is = absurd (busy h.rests)
+  stuck_made o (commit_phase h e) busy is = absurd (busy h.rests)
+  stuck_made o (chosen_event h e ne l) busy is = absurd (busy h.rests)
+  stuck_made o (chosen_task h e) busy is = absurd (busy h.rests)
   stuck_made o (computed h) busy is = absurd (busy h.rests)
   stuck_made o (jumped h) busy is = absurd (busy h.rests)
   stuck_made o (loaded h l) busy is = absurd (busy h.rests)
@@ -287,7 +292,7 @@ module _ (p s : List ℕ) (d : Device) (r : Refusal) (w : Stays r) (k : Stuck p 
 
   at_work : (u : Store) (n : ℕ) → set_to_work u n ≡ Resting → ⊥
   unfolding set_to_work
-  at_work u n = pick-case (λ (h : Handler). h ≡ Resting → ⊥) (λ _ e. impossible (cc)) (λ _ e. impossible (cc))
+  at_work u n = pick_case (λ (h : Handler). h ≡ Resting → ⊥) (λ _ e. impossible (cc)) (λ _ e. impossible (cc))
 
   stuck_call : (c : Call) → uncut (c ∷ []) ≡ true → StuckAfter (call p s d c)
   unfolding call boot boot_check post settled with_handler uncut

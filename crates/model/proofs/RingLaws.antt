@@ -11,7 +11,7 @@ use lib.ListN.{length, get_or, set}
 use lib.Seq.{get_or-set_other, get_or-set_same}
 use borrow.Author.Tests.{ltb-true, leb-true, leb-false, eqb-true, eqb-false, le-leb, lt-ltb}
 use Rattle.model.proofs.FirstStores.{First}
-use Rattle.model.proofs.TestLaws.{pick-case, pick_true, pick-false, clash, and_true, or_true_left}
+use Rattle.model.proofs.TestLaws.{pick_case, pick_true, pick-false, clash, and_true, or_true_left}
 use Rattle.model.specs.Accepted.{Known}
 use Rattle.model.specs.Claims.{FullIsNoRoom}
 use Rattle.model.specs.Burst.{records_at}
@@ -29,7 +29,7 @@ SlotAfter q x y = ((x ≡ q) × (y ≡ 0)) ⊎ ((x ≢ q) × (y ≡ x + 1))
 
 pub slot_after_is : (q x : ℕ) → SlotAfter q x (slot_after q x)
 unfolding slot_after
-slot_after_is q x = pick-case (λ (y : ℕ). SlotAfter q x y) (λ e. inl (eqb-true _ _ e, refl)) (λ e. inr (eqb-false _ _ e, refl))
+slot_after_is q x = pick_case (λ (y : ℕ). SlotAfter q x y) (λ e. inl (eqb-true _ _ e, refl)) (λ e. inr (eqb-false _ _ e, refl))
 
 pub slot_after_apart : (q x : ℕ) → 1 ≤ q → slot_after q x ≢ x
 slot_after_apart q x l = go (slot_after q x) (slot_after_is q x)
@@ -74,7 +74,7 @@ Distance q h t n = ((h ≤ t) × (n + h ≡ t)) ⊎ ((t < h) × (n + h ≡ t + (
 pub distance_is : (q h t : ℕ) → h ≤ q → Distance q h t (distance q h t)
 unfolding distance
 distance_is q h t l =
-    pick-case (λ (n : ℕ). Distance q h t n)
+    pick_case (λ (n : ℕ). Distance q h t n)
     (λ e. let le : h ≤ t = leb-true _ _ e in inl (le, omega arith))
     (λ e. let lt : t < h = leb-false _ _ e in inr (lt, omega arith))
 
@@ -250,7 +250,7 @@ pub between_self : (h t : ℕ) → h ≢ t → between h t h ≡ true
 unfolding between
 between_self h t ne =
     let here : leb h h ≡ true = le-leb h h (omega arith) in
-    pick-case (λ (b : Bool). b ≡ true)
+    pick_case (λ (b : Bool). b ≡ true)
     (λ e. let l : h ≤ t = leb-true _ _ e in let m : h < t = omega arith in and_true here (lt-ltb _ _ m)) (λ e. or_true_left _ _ here)
 
 -- they are nearer to head than tail is
@@ -306,8 +306,8 @@ pub data Member (r : Record) : List Record → Type 0 where
 
 -- one of them before the last: the event or the data of a record, in its slot
 pub data RecordStore (q t : ℕ) (rs : List Record) : Write → Type 0 where
-  event-store : (i : ℕ) (r : Record) → i < length rs → Member r rs → RecordStore q t rs (to (Event (forward q t i)) r.event)
-  datum-store : (i : ℕ) (r : Record) → i < length rs → Member r rs → RecordStore q t rs (to (Datum (forward q t i)) r.datum)
+  event_store : (i : ℕ) (r : Record) → i < length rs → Member r rs → RecordStore q t rs (to (Event (forward q t i)) r.event)
+  datum_store : (i : ℕ) (r : Record) → i < length rs → Member r rs → RecordStore q t rs (to (Datum (forward q t i)) r.datum)
 
 -- such a slot is there
 pub slot_in : {q t k : ℕ} (h i : ℕ) → t ≤ q → k ≤ q - distance q h t → i < k → forward q t i ≤ q
@@ -315,14 +315,14 @@ slot_in {q = q} {t = t} h i l room below = forward_le q t i l (omega arith)
 
 later_store : (q t : ℕ) (s : Record) (rs : List Record) (w : Write) → RecordStore q (slot_after q t) rs w → RecordStore q t (s ∷ rs) w
 unfolding forward
-later_store q t s rs w (event-store i r l m) = event-store (suc i) r (omega arith) (there m)
-later_store q t s rs w (datum-store i r l m) = datum-store (suc i) r (omega arith) (there m)
+later_store q t s rs w (event_store i r l m) = event_store (suc i) r (omega arith) (there m)
+later_store q t s rs w (datum_store i r l m) = datum_store (suc i) r (omega arith) (there m)
 
 pub record_store : (q : ℕ) (rs : List Record) (t c : ℕ) → c < 2 * length rs → RecordStore q t rs (get_or (record_stores q t rs) c none)
 unfolding record_stores forward
 record_store q [] t c l = absurd (omega arith)
-record_store q (r ∷ rs) t zero l = event-store 0 r (omega arith) here
-record_store q (r ∷ rs) t (suc zero) l = datum-store 0 r (omega arith) here
+record_store q (r ∷ rs) t zero l = event_store 0 r (omega arith) here
+record_store q (r ∷ rs) t (suc zero) l = datum_store 0 r (omega arith) here
 record_store q (r ∷ rs) t (suc (suc c)) l = later_store q t r rs _ (record_store q rs (slot_after q t) c (omega arith))
 
 -- and the last
@@ -374,13 +374,13 @@ queue_after queue (to (Datum i) x) = set queue (2 * i + 1) x
 pub slot_stays : (queue : List ℕ) (q t : ℕ) (rs : List Record) (w : Write) → RecordStore q t rs w → (x : ℕ)
     → ((i : ℕ) → i < length rs → x ≢ forward q t i) → slot (queue_after queue w) x ≡ slot queue x
 unfolding queue_after slot
-slot_stays queue q t rs w (event-store i r l m) x f =
+slot_stays queue q t rs w (event_store i r l m) x f =
     let ne = f i l in
     λ k. record {
       event = get_or-set_other queue (2 * forward q t i) (2 * x) r.event 0 (omega arith) k;
       datum = get_or-set_other queue (2 * forward q t i) (2 * x + 1) r.event 0 (omega arith) k;
     }
-slot_stays queue q t rs w (datum-store i r l m) x f =
+slot_stays queue q t rs w (datum_store i r l m) x f =
     let ne = f i l in
     λ k. record {
       event = get_or-set_other queue (2 * forward q t i + 1) (2 * x) r.datum 0 (omega arith) k;

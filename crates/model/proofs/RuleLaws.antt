@@ -7,7 +7,7 @@ use mathlib.Core.Path.{◌≡◌, refl, sym, ◌∙◌, ap}
 use native.Mathlib.Nat.{eq-or-lt_of_le, le_of_suc-le-suc}
 use native.Mathlib.Numerals.{add-one}
 use native.Mathlib.Omega.{arith}
-use Rattle.model.proofs.TestLaws.{pick-case, clash, and_false, not_false, must-true, must-passed, then_assoc, then_passed, then_first, then_rest}
+use Rattle.model.proofs.TestLaws.{pick_case, clash, and_false, not_false, must-true, must-passed, then_assoc, then_passed, then_first, then_rest}
 use Rattle.model.specs.Control.{Rule, obey, obey_all, up_to, early_of}
 use Rattle.model.specs.Test.{◌and◌, must, ◌then◌}
 use Rattle.model.specs.Types.{Checked, Refusal}
@@ -93,4 +93,4 @@ unfolding obey_all early_of
 obey-early [] e = refl
 obey-early (r ∷ rs) e =
     let rest = obey-early rs (then_rest _ _ e) in
-    pick-case (λ (ss : List Rule). obey_all ss ≡ Checked.Accepted) (λ _. then_passed (then_first _ _ e) rest) (λ _. rest)
+    pick_case (λ (ss : List Rule). obey_all ss ≡ Checked.Accepted) (λ _. then_passed (then_first _ _ e) rest) (λ _. rest)

@@ -12,7 +12,7 @@ use native.Mathlib.Omega.{arith}
 use borrow.Author.Tests.{eqb-true}
 use lib.Dec.{ltb, eqb}
 use lib.ListN.{set}
-use Rattle.model.proofs.TestLaws.{below_or, and_left, and_right, impossible, pick-case}
+use Rattle.model.proofs.TestLaws.{below_or, and_left, and_right, impossible, pick_case}
 use Rattle.model.specs.Calls.{Call, Boot, Step, Cut, Post, Line, is_accept}
 use Rattle.model.specs.AllOrNone.{committed_event, events_of, Gone, was_committed, was_dropped, gone_records, committed_of, dropped_of}
 use Rattle.model.specs.Demand3.{RunsTask, RunsEvent, RunsBody, SerialDetermined, committed_task, committed_tasks, named_at_end, named_by, from_state, named_tasks, TasksFollow}
@@ -159,7 +159,7 @@ drop-leaves z y (r ∷ rs) e =
 stored-leaves : (z y : Serial) → after_stored z ≡ some y → CallLeaves z y z.records []
 unfolding after_stored unchanged with_records no_post
 stored-leaves z y =
-    pick-case (λ (o : Option Serial). o ≡ some y → CallLeaves z y z.records []) (λ _ e. drop-leaves z y z.records e)
+    pick_case (λ (o : Option Serial). o ≡ some y → CallLeaves z y z.records []) (λ _ e. drop-leaves z y z.records e)
     (λ _ e. same_left z y (unchanged z) e refl refl)
 
 -- at the answer accepted what was posted last is added
@@ -210,7 +210,7 @@ done_task q z (Post rs) = refl
 stored-task : (z y : Serial) → after_stored z ≡ some y → y.task ≡ z.task
 unfolding after_stored unchanged with_records drop_oldest after_drop
 stored-task z y =
-    pick-case (λ (o : Option Serial). o ≡ some y → y.task ≡ z.task) (λ _ e. dropped-task z.records e) (λ _ e. ap (λ (u : Serial). u.task) (sym (some_same e)))
+    pick_case (λ (o : Option Serial). o ≡ some y → y.task ≡ z.task) (λ _ e. dropped-task z.records e) (λ _ e. ap (λ (u : Serial). u.task) (sym (some_same e)))
   where
     dropped-task : (rs : List Record) → drop_oldest z rs ≡ some y → y.task ≡ z.task
     dropped-task [] e = not_some e

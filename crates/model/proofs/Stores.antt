@@ -5,10 +5,10 @@ use mathlib.Core.List.{List}
 use mathlib.Core.Path.{◌≡◌, refl, subst}
 use native.Mathlib.Omega.{arith}
 use lib.ListN.{length}
-use Rattle.model.proofs.DeviceLaws.{Made, record_made, tail-made, handler, commit_copy, commit-task, commit_open, commit-head, commit-begun, commit-phase, chosen-event, chosen-task, computed, jumped, loaded, overwritten, half_saved, saved, go_count, go_pending, go_open, go_phase, done_count, done_pending, done_phase, StepOutcome, refused, made, step_outcome, head-dropped}
+use Rattle.model.proofs.DeviceLaws.{HandlerMade, Made, record_made, tail_made, handler, commit_copy, commit_task, commit_open, commit_head, commit_begun, commit_phase, chosen_event, chosen_task, computed, jumped, loaded, overwritten, half_saved, saved, go_count, go_pending, go_open, go_phase, done_count, done_pending, done_phase, StepOutcome, refused, made, step_outcome, head_dropped}
 use Rattle.model.proofs.Passed.{sized}
 use Rattle.model.proofs.LogLaws.{find_pair}
-use Rattle.model.proofs.RingLaws.{event-store, datum-store, slot_in}
+use Rattle.model.proofs.RingLaws.{event_store, datum_store, slot_in}
 use Rattle.model.proofs.StoreLaws.{Sized, Inside}
 use Rattle.model.specs.Accepted.{Looked}
 use Rattle.model.specs.Calls.{is_store}
@@ -16,7 +16,7 @@ use Rattle.model.specs.Claims.{tells_store, StoreIsTold}
 use Rattle.model.specs.Device.{Outcome, choosing, step}
 use Rattle.model.specs.Program.{word, memory_words}
 use Rattle.model.specs.Store.{view, Word, Phase, Task, Open, Count, Pending, PendingOpen, Head, Tail, Begun, Memory, Address, Value, Event, Datum, index, Write, none, to}
-use Rattle.model.specs.Types.{Device}
+use Rattle.model.specs.Types.{Device, Dropped, Handler}
 
 -- the place of a word that is there
 inside-index : (m l q : ℕ) (s : List ℕ) → Sized m l q s → (w : Word) → Inside m l q w → index s w < length s
@@ -48,23 +48,27 @@ module _ (p s : List ℕ) (d : Device) (early : Looked p s d) where
   falls : (w : Word) → Inside (memory_words p) (word s 2) (word s 3) w → (index s w < length s) × (length s ≤ 1235)
   falls w h = (
     inside-index (memory_words p) (word s 2) (word s 3) s (sized early.shaped) w h,
-    omega (arith, early.shaped.shaped.length_is, early.shaped.shaped.most-memory, early.shaped.shaped.sizes.most_pairs, early.shaped.shaped.sizes.most-records),
+    omega (arith, early.shaped.shaped.length_is, early.shaped.shaped.most_memory, early.shaped.shaped.sizes.most_pairs, early.shaped.shaped.sizes.most_records),
   )
+
+  handling_fine : {n c : ℕ} {later : Handler} {dropped : Dropped} (o : Outcome) → HandlerMade p (view s) d n c later dropped o → Fine p s o
+  unfolding is_store tells_store
+  handling_fine o (record_made a (event_store n r l m)) = (refl, falls (Event _) (slot_in (view s).head n early.control.tail_in a.room l))
+  handling_fine o (record_made a (datum_store n r l m)) = (refl, falls (Datum _) (slot_in (view s).head n early.control.tail_in a.room l))
+  handling_fine o (tail_made a) = (refl, falls Tail tt)
 
   made_fine : (o : Outcome) → Made p (view s) d o → Fine p s o
   unfolding is_store tells_store choosing
-  made_fine o (handler q w (record_made a (event-store n r l m))) = (refl, falls (Event _) (slot_in (view s).head n early.control.tail_in a.room l))
-  made_fine o (handler q w (record_made a (datum-store n r l m))) = (refl, falls (Datum _) (slot_in (view s).head n early.control.tail_in a.room l))
-  made_fine o (handler q w (tail-made a)) = (refl, falls Tail tt)
-  made_fine o (head-dropped q a l) = (refl, falls Head tt)
+  made_fine o (handler q w m) = handling_fine o m
+  made_fine o (head_dropped q a l) = (refl, falls Head tt)
   made_fine o (commit_copy {c} h l m) = (refl, falls (Memory _) m)
-  made_fine o (commit-task h one e) = (refl, falls Task tt)
+  made_fine o (commit_task h one e) = (refl, falls Task tt)
   made_fine o (commit_open h one e) = (refl, falls Open tt)
-  made_fine o (commit-head h two e) = (refl, falls Head tt)
-  made_fine o (commit-begun h e) = (refl, falls Begun tt)
-  made_fine o (commit-phase h e) = (refl, falls Phase tt)
-  made_fine o (chosen-event h none_open some l) = (refl, falls Begun tt)
-  made_fine o (chosen-task h n) = (refl, falls Begun tt)
+  made_fine o (commit_head h two e) = (refl, falls Head tt)
+  made_fine o (commit_begun h e) = (refl, falls Begun tt)
+  made_fine o (commit_phase h e) = (refl, falls Phase tt)
+  made_fine o (chosen_event h none_open some l) = (refl, falls Begun tt)
+  made_fine o (chosen_task h n) = (refl, falls Begun tt)
   made_fine o (computed h) = (refl, tt)
   made_fine o (jumped h) = (refl, tt)
   made_fine o (loaded h l) = (refl, tt)

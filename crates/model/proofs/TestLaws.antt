@@ -7,7 +7,7 @@ use mathlib.Core.Bool.{Bool, true, false, not}
 use lib.Bits.{bit_or, or_zero_l, or_add_and, and_le_r}
 use lib.Dec.{eqb, ltb}
 use borrow.Author.Tests.{eqb-true, eqb-false, ltb-true, ltb-false, lt-ltb, le-ltb, le-leb, lt-leb, eq-eqb, ne_eqb}
-use borrow.Author.Tests.{not-true as of-not-true, not_false as of-not-false}
+use borrow.Author.Tests.{not-true as of-not-true, not-false as of_not_false}
 use native.Mathlib.Nat.{not-suc-le-zero, le_of_suc-le-suc, add-zero, add-suc, suc-add}
 use native.Mathlib.Numerals.{add-one}
 use native.Mathlib.Omega.{arith}
@@ -16,10 +16,10 @@ use Rattle.model.specs.Types.{Checked, Refusal}
 
 -- ---- pick: one law for every proof about a branch
 
-pub pick-case {ℓ κ} : {A : Type ℓ} {b : Bool} {x y : A} (P : A → Type κ) → (b ≡ true → P x) → (b ≡ false → P y) → P (pick b x y)
+pub pick_case {ℓ κ} : {A : Type ℓ} {b : Bool} {x y : A} (P : A → Type κ) → (b ≡ true → P x) → (b ≡ false → P y) → P (pick b x y)
 unfolding pick
-pick-case {b = true} P f g = f refl
-pick-case {b = false} P f g = g refl
+pick_case {b = true} P f g = f refl
+pick_case {b = false} P f g = g refl
 
 pub pick_true {ℓ} : {A : Type ℓ} {b : Bool} (x y : A) → b ≡ true → pick b x y ≡ x
 unfolding pick
@@ -157,7 +157,7 @@ pub ruleset tests = (lt-ltb, le-ltb, le-leb, lt-leb, eq-eqb, ne_eqb)
 
 -- a test t made by another function, which answered r, where the branch is on `not r`
 pub passed : {r t : Bool} → r ≡ t → not r ≡ false → t ≡ true
-passed {r} e h = sym e ∙ of-not-false r h
+passed {r} e h = sym e ∙ of_not_false r h
 
 pub failed : {r t : Bool} → r ≡ t → not r ≡ true → t ≡ false
 failed {r} e h = sym e ∙ of-not-true r h

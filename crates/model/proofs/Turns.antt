@@ -144,7 +144,7 @@ module _ (p : List ℕ) (l q : ℕ) (s : List ℕ) (f : Formatted p l q s) where
     its_turn =
         record {
           begun = still_begun;
-          none-chosen =
+          none_chosen =
               λ other a. begun_some still_begun (subst (InTurn (kept (cs ++ later)).state (begun_by (history p fresh-store off (cs ++ later)))) a (next-turn (cs ++ later) Step)).0;
           committed =
               λ next a. same-begun still_begun (subst (InTurn (kept (cs ++ later)).state (begun_by (history p fresh-store off (cs ++ later)))) a (next-turn (cs ++ later) Step));

@@ -15,11 +15,11 @@ use lib.ListN.{length, get_or, take, drop, set, replicate, length-set}
 use lib.Seq.{get_or-drop}
 use lib.Signed.{shr_z}
 use Rattle.model.proofs.BurstLaws.{burst-passed, set_to_work_length}
-use Rattle.model.proofs.DeviceLaws.{judged_case, at_place, most-last, Commits, Acts, RunsAt, HandlerMade, record_made, tail-made, Made, handler, commit_copy, commit-task, commit_open, commit-head, commit-begun, commit-phase, chosen-event, chosen-task, computed, jumped, loaded, overwritten, half_saved, saved, go_count, go_pending, go_open, go_phase, done_count, done_pending, done_phase, StepOutcome, refused, made, step_outcome, Works, works_storing, works_replacing, head-dropped}
+use Rattle.model.proofs.DeviceLaws.{judged_case, at_place, most-last, Commits, Acts, RunsAt, HandlerMade, record_made, tail_made, Made, handler, commit_copy, commit_task, commit_open, commit_head, commit_begun, commit_phase, chosen_event, chosen_task, computed, jumped, loaded, overwritten, half_saved, saved, go_count, go_pending, go_open, go_phase, done_count, done_pending, done_phase, StepOutcome, refused, made, step_outcome, Works, works_storing, works_replacing, head_dropped}
 use Rattle.model.proofs.Fresh.{format-passed}
-use Rattle.model.proofs.RingLaws.{slot_after_le, forward_le, Member, here, there, RecordStore, event-store, datum-store, record_stores_lem}
+use Rattle.model.proofs.RingLaws.{slot_after_le, forward_le, Member, here, there, RecordStore, event_store, datum_store, record_stores_lem}
 use Rattle.model.proofs.Passed.{body-passed}
-use Rattle.model.proofs.TestLaws.{pick-case, and_left, and_right, must-passed, then_first, then_rest}
+use Rattle.model.proofs.TestLaws.{pick_case, and_left, and_right, must-passed, then_first, then_rest}
 use Rattle.model.specs.Accepted.{Looked, Sound}
 use Rattle.model.specs.Burst.{records_at, carried, record_words, no_burst, burst_words}
 use Rattle.model.specs.Calls.{Call, Boot, Step, Cut, Post, call}
@@ -107,7 +107,7 @@ TypedEffect Effect.Unknown = Unit {0}
 pub shifted_lt : (x k : ℕ) → x < 2 ^ 16 → shifted x k < 2 ^ 16
 unfolding shifted signed unsigned
 shifted_lt x k h =
-    pick-case (λ (z : ℤ). unsigned (shr_z z (2 ^ k)) < 2 ^ 16) (λ _. omega (arith, div-le_self x (2 ^ k))) (λ _. omega arith)
+    pick_case (λ (z : ℤ). unsigned (shr_z z (2 ^ k)) < 2 ^ 16) (λ _. omega (arith, div-le_self x (2 ^ k))) (λ _. omega arith)
 
 effect_words : (r : List ℕ) (j : ℕ) → TypedWords r → j + 1 < 2 ^ 16 → (x : Instruction) → TypedInstruction x → TypedEffect (effect x r j)
 unfolding effect
@@ -124,8 +124,8 @@ effect_words r j ws l (Instruction.Save a k) h = ws a
 effect_words r j ws l (Instruction.LoadX a b k) h = tt
 effect_words r j ws l (Instruction.SaveX a b k) h = ws a
 effect_words r j ws l (Instruction.Jump k) h = h
-effect_words r j ws l (Instruction.JumpZero a k) h = pick-case (λ (n : ℕ). n < 2 ^ 16) (λ _. h) (λ _. l)
-effect_words r j ws l (Instruction.JumpLess a b k) h = pick-case (λ (n : ℕ). n < 2 ^ 16) (λ _. h) (λ _. l)
+effect_words r j ws l (Instruction.JumpZero a k) h = pick_case (λ (n : ℕ). n < 2 ^ 16) (λ _. h) (λ _. l)
+effect_words r j ws l (Instruction.JumpLess a b k) h = pick_case (λ (n : ℕ). n < 2 ^ 16) (λ _. h) (λ _. l)
 effect_words r j ws l (Instruction.Go k) h = h
 effect_words r j ws l Instruction.Done h = tt
 effect_words r j ws l Instruction.Unknown h = tt
@@ -143,6 +143,7 @@ TypedWrite (to w x) = x < 2 ^ 16
 -- the records that a handler keeps
 carried-words : (ws : List ℕ) → TypedWords ws → (i n : ℕ) (r : Record) → Member r (records_at ws i n) → (r.event < 2 ^ 16) × (r.datum < 2 ^ 16)
 unfolding records_at slot
+carried-words ws h i zero r m = elim m [ ]
 carried-words ws h i (suc n) r here = (h (2 * i), h (2 * i + 1))
 carried-words ws h i (suc n) r (there m) = carried-words ws h (suc i) n r m
 
@@ -201,7 +202,7 @@ pub fresh-device-words : (on : Bool) → TypedDevice (fresh on)
 unfolding fresh
 fresh-device-words on =
     record {
-      registers-length = refl;
+      registers_length = refl;
       registers = words-zeros 8;
       place = omega arith;
       count = omega arith;
@@ -222,7 +223,7 @@ module _ (s : List ℕ) (ss : TypedWords s) where
   unfolding started with_place
   started-words d ds b bs =
       record {
-        registers-length = refl;
+        registers_length = refl;
         registers = words_cons (data_for (view s) b) (replicate 7 0) (data_words b) (words-zeros 7);
         place = (bs, (omega arith, omega arith));
         count = omega arith;
@@ -241,10 +242,10 @@ module _ (s : List ℕ) (ss : TypedWords s) where
   pub taken-words : TypedDevice (taken_up (view s) (begun_of (view s)))
   unfolding taken_up begun_of
   taken-words =
-      pick-case Taken
+      pick_case Taken
       (λ _.
-      pick-case Taken (λ _. started-words turned_on (fresh-device-words true) _ current-words)
-      (λ _. pick-case Taken (λ _. started-words turned_on (fresh-device-words true) _ oldest-words) (λ _. fresh-device-words true)))
+      pick_case Taken (λ _. started-words turned_on (fresh-device-words true) _ current-words)
+      (λ _. pick_case Taken (λ _. started-words turned_on (fresh-device-words true) _ oldest-words) (λ _. fresh-device-words true)))
       (λ _. fresh-device-words true)
     where
       Taken : Option Body → Type 0
@@ -267,7 +268,7 @@ module _ (p s : List ℕ) (d : Device) (ps : TypedWords p) (ss : TypedWords s) (
   unfolding with_place
   with_place-words r x l n rs xs ls =
       record {
-        registers-length = n;
+        registers_length = n;
         registers = rs;
         place = xs;
         count = ls;
@@ -279,13 +280,13 @@ module _ (p s : List ℕ) (d : Device) (ps : TypedWords p) (ss : TypedWords s) (
 
   -- the same registers and count elsewhere
   went-words : (x : Place) → TypedPlace x → TypedDevice (with_place d d.registers x d.count)
-  went-words x xs = with_place-words d.registers x d.count ds.registers-length ds.registers xs ds.count
+  went-words x xs = with_place-words d.registers x d.count ds.registers_length ds.registers xs ds.count
 
   handled-words : (h : Handler) (ws : List ℕ) → TypedHandler h → length ws ≡ 8 → TypedWords ws → ZeroBehind h ws → TypedDevice (with_handler d h ws)
   unfolding with_handler
   handled-words h ws hs l words unused =
       record {
-        registers-length = ds.registers-length;
+        registers_length = ds.registers_length;
         registers = ds.registers;
         place = ds.place;
         count = ds.count;
@@ -310,7 +311,7 @@ module _ (p s : List ℕ) (d : Device) (ps : TypedWords p) (ss : TypedWords s) (
 
   set_to_work_words : (n : ℕ) → n < 2 ^ 16 → TypedHandler (set_to_work (view s) n)
   unfolding set_to_work
-  set_to_work_words n l = pick-case TypedHandler (λ _. (l, omega arith)) (λ _. tt)
+  set_to_work_words n l = pick_case TypedHandler (λ _. (l, omega arith)) (λ _. tt)
 
   post-words : (rs : List Record) → TypedRecords rs → TypedOutcome (post p s d rs)
   unfolding post post_check burst_length burst_words
@@ -331,7 +332,7 @@ module _ (p s : List ℕ) (d : Device) (ps : TypedWords p) (ss : TypedWords s) (
 
   loaded_words : (b : Body) (j a x : ℕ) → TypedBody b → j + 1 < 2 ^ 16 → x < 2 ^ 16 → TypedDevice (with_place d (set d.registers a x) (Run b (j + 1) 0) d.count)
   loaded_words b j a x bs next xs =
-      with_place-words (set d.registers a x) (Run b (j + 1) 0) d.count (length-set d.registers a x ∙ ds.registers-length) (words-set d.registers a x ds.registers xs) (bs, (next, omega arith)) ds.count
+      with_place-words (set d.registers a x) (Run b (j + 1) 0) d.count (length-set d.registers a x ∙ ds.registers_length) (words-set d.registers a x ds.registers xs) (bs, (next, omega arith)) ds.count
 
   shown-words : (f : Found) (a : ℕ) → shown v f a < 2 ^ 16
   unfolding shown
@@ -340,13 +341,13 @@ module _ (p s : List ℕ) (d : Device) (ps : TypedWords p) (ss : TypedWords s) (
 
   open_words : (t k : ℕ) → new_open (transaction p t) (transaction p k) < 2 ^ 16
   unfolding new_open
-  open_words t k = pick-case (λ (n : ℕ). n < 2 ^ 16) (λ _. ps _) (λ _. omega arith)
+  open_words t k = pick_case (λ (n : ℕ). n < 2 ^ 16) (λ _. ps _) (λ _. omega arith)
 
   -- the words of a body's place, the next instruction, and what this one does
   acts-words : {x : Place} {b : Body} {j : ℕ} {f : Effect} → Acts p v d x b j f → TypedPlace x × (j + 1 < 2 ^ 16) × TypedEffect f
   acts-words {x} {b} {j} {f} h =
       let is = body-passed p v x b j f h.sound in
-      let next : j + 1 < 2 ^ 16 = omega (arith, is.there, is.row.most-instructions) in
+      let next : j + 1 < 2 ^ 16 = omega (arith, is.there, is.row.most_instructions) in
       (subst TypedPlace h.place ds.place, next, subst TypedEffect h.does (effect_at-words p (body_number p b) j d.registers ps ds.registers next))
 
   -- with n stores of its end made
@@ -377,9 +378,9 @@ module _ (p s : List ℕ) (d : Device) (ps : TypedWords p) (ss : TypedWords s) (
         next = omega (arith, a.inside, a.most, record_stores_lem v.queue_records (carried d.burst n) v.tail)
 
         store_words : (w : Write) → RecordStore v.queue_records v.tail (carried d.burst n) w → TypedWrite w
-        store_words w (event-store i r l m) = (carried-words d.burst ds.burst 0 n r m).0
-        store_words w (datum-store i r l m) = (carried-words d.burst ds.burst 0 n r m).1
-    handler-words {n = n} q w o (tail-made a) =
+        store_words w (event_store i r l m) = (carried-words d.burst ds.burst 0 n r m).0
+        store_words w (datum_store i r l m) = (carried-words d.burst ds.burst 0 n r m).1
+    handler-words {n = n} q w o (tail_made a) =
         record {
           write = omega (arith, forward_le v.queue_records v.tail (length (carried d.burst n)) early.control.tail_in (omega (arith, a.room)), ss 3);
           device = handled-words Resting no_burst tt refl (words-zeros 8) (λ i _. zeros-at 8 8 i);
@@ -388,20 +389,20 @@ module _ (p s : List ℕ) (d : Device) (ps : TypedWords p) (ss : TypedWords s) (
     made-words : (o : Outcome) → Made p v d o → TypedOutcome o
     unfolding choosing kind_of burst_length
     made-words o (handler q w m) = handler-words q w o m
-    made-words o (head-dropped q a l) =
+    made-words o (head_dropped q a l) =
         record {
           write = slot_after_typed v.head early.control.head_in;
           device =
               handled-words (Replacing 0) d.burst (omega arith) ds.burst-length ds.burst (subst (λ (h : Handler). ZeroBehind h d.burst) q ds.unused);
         }
     made-words o (commit_copy h l m) = record { write = log-words _; device = onward_words h }
-    made-words o (commit-task h one e) = record { write = ss 12; device = onward_words h }
+    made-words o (commit_task h one e) = record { write = ss 12; device = onward_words h }
     made-words o (commit_open h one e) = record { write = ss 13; device = onward_words h }
-    made-words o (commit-head h two e) = record { write = ss 12; device = onward_words h }
-    made-words o (commit-begun h e) = record { write = omega arith; device = onward_words h }
-    made-words o (commit-phase h e) = record { write = omega arith; device = fresh-device-words true }
-    made-words o (chosen-event h none_open some l) = record { write = omega arith; device = started-words s ss d ds _ (oldest-words s ss) }
-    made-words o (chosen-task h n) = record { write = omega arith; device = started-words s ss d ds _ (current-words s ss) }
+    made-words o (commit_head h two e) = record { write = ss 12; device = onward_words h }
+    made-words o (commit_begun h e) = record { write = omega arith; device = onward_words h }
+    made-words o (commit_phase h e) = record { write = omega arith; device = fresh-device-words true }
+    made-words o (chosen_event h none_open some l) = record { write = omega arith; device = started-words s ss d ds _ (oldest-words s ss) }
+    made-words o (chosen_task h n) = record { write = omega arith; device = started-words s ss d ds _ (current-words s ss) }
     made-words o (computed h) = let w = acts-words h in record { write = tt; device = loaded_words _ _ _ _ w.0.0 w.1 w.2 }
     made-words o (jumped h) = let w = acts-words h in record { write = tt; device = went-words _ (w.0.0, (w.2, omega arith)) }
     made-words o (loaded h l) = let w = acts-words h in record { write = tt; device = loaded_words _ _ _ _ w.0.0 w.1 (shown-words _ _) }
@@ -409,7 +410,7 @@ module _ (p s : List ℕ) (d : Device) (ps : TypedWords p) (ss : TypedWords s) (
     made-words o (half_saved h l e k) = let w = acts-words h in record { write = omega (arith, ps 3); device = went-words _ (w.0.0, w.0.1.0) }
     made-words o (saved h) =
         let w = acts-words h in
-        record { write = w.2; device = with_place-words _ _ _ ds.registers-length ds.registers (w.0.0, (w.1, omega arith)) (omega (arith, h.stands.2, early.shaped.shaped.sizes.most_pairs)) }
+        record { write = w.2; device = with_place-words _ _ _ ds.registers_length ds.registers (w.0.0, (w.1, omega arith)) (omega (arith, h.stands.2, early.shaped.shaped.sizes.most_pairs)) }
     made-words o (go_count h) = record { write = ds.count; device = end_words h 1 (omega arith) }
     made-words o (go_pending h) = record { write = (acts-words h).2; device = end_words h 2 (omega arith) }
     made-words o (go_open {t = t} {k = k} h) = record { write = open_words t k; device = end_words h 3 (omega arith) }
@@ -448,8 +449,8 @@ formatted-words : (p : List ℕ) → Sound p → (l q : ℕ) → sizes_rule l q 
 unfolding formatted store_contents store_mark sizes_rule
 formatted-words p sound l q sizes ps i =
     let most_pairs : l ≤ 64 = leb-true _ _ (and_left _ _ (and_right _ _ sizes)) in
-    let most-records : q ≤ 32 = leb-true _ _ (and_right _ _ (and_right _ _ (and_right _ _ sizes))) in
-    let most-memory : memory_words p ≤ 1024 = sound.rows.contents.most-memory in
+    let most_records : q ≤ 32 = leb-true _ _ (and_right _ _ (and_right _ _ (and_right _ _ sizes))) in
+    let most_memory : memory_words p ≤ 1024 = sound.rows.contents.most_memory in
     let zeros = zeros-below (store_length (memory_words p) l q - 10) in
     every_at (λ x. x < 2 ^ 16) (formatted p l q) i 0 (
       omega arith,

@@ -15,10 +15,10 @@ pub record Contents (p : List ℕ) : Type 0 where
   pub six : 6 ≤ length p
   pub length_is : length p ≡ total p
   pub some_task : 1 ≤ tasks p
-  pub most-tasks : tasks p ≤ 32
-  pub most-events : events p ≤ 16
+  pub most_tasks : tasks p ≤ 32
+  pub most_events : events p ≤ 16
   pub some_memory : 1 ≤ memory_words p
-  pub most-memory : memory_words p ≤ 1024
+  pub most_memory : memory_words p ≤ 1024
   pub entry_is : entry p < tasks p
 
 -- ---- the rows: `rows_inside_rule`, `row_usable` and `rows`
@@ -34,7 +34,7 @@ pub record HasRow (p : List ℕ) (i : ℕ) : Type 0 where
 
 pub record UsableRow (p : List ℕ) (i : ℕ) : Type 0 where
   pub some_instruction : 1 ≤ instructions p i
-  pub most-instructions : instructions p i ≤ 256
+  pub most_instructions : instructions p i ≤ 256
   pub behind : bodies_start p ≤ start p i
   pub inside : start p i + 2 * instructions p i ≤ total p
 
@@ -112,15 +112,15 @@ pub record Sizes (l q : ℕ) : Type 0 where
   pub some_pairs : 1 ≤ l
   pub most_pairs : l ≤ 64
   pub some_records : 1 ≤ q
-  pub most-records : q ≤ 32
+  pub most_records : q ≤ 32
 
 -- the contents say where the parts start, and the parts fill the store
 pub record Shaped (s : List ℕ) : Type 0 where
-  pub most-memory : word s 1 ≤ 1024
+  pub most_memory : word s 1 ≤ 1024
   pub sizes : Sizes (word s 2) (word s 3)
   pub memory_start : word s 5 ≡ memory_at
-  pub log-start : word s 6 ≡ log_at (word s 1)
-  pub queue-start : word s 7 ≡ queue_at (word s 1) (word s 2)
+  pub log_start : word s 6 ≡ log_at (word s 1)
+  pub queue_start : word s 7 ≡ queue_at (word s 1) (word s 2)
   pub length_is : length s ≡ store_length (word s 1) (word s 2) (word s 3)
 
 -- a store for program p
@@ -136,12 +136,12 @@ pub record ControlledBy (p : List ℕ) (l q phase task open' n pending h t g : �
   pub head_in : h ≤ q
   pub tail_in : t ≤ q
   pub count_in : phase ≢ 0 → n ≤ l
-  pub pending-task : phase ≡ 1 → pending < tasks p
-  pub pending-head : phase ≡ 2 → pending ≤ q
+  pub pending_task : phase ≡ 1 → pending < tasks p
+  pub pending_head : phase ≡ 2 → pending ≤ q
   pub pending_is : phase ≡ 2 → (pending ≡ h) ⊎ ((pending ≡ slot_after q h) × (h ≢ t))
   pub open_none : phase ≡ 2 → open' ≡ 0
   pub begun_in : g ≤ 2
-  pub begun-event : phase ≡ 0 → g ≡ 2 → (h ≢ t) × (open' ≡ 0)
+  pub begun_event : phase ≡ 0 → g ≡ 2 → (h ≢ t) × (open' ≡ 0)
 
 abbrev pub Controlled : List ℕ → Store → Type 0
 Controlled p v =

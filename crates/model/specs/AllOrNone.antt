@@ -3,7 +3,7 @@
 use Rattle.std.specs.Prelude.{ℕ, ◌≡◌, ◌⊎◌, true, List, [], ◌∷◌, ◌++◌, length}
 use Rattle.std.proofs.Math.Option.{some}
 use Rattle.model.specs.Burst.{is_burst}
-use Rattle.model.specs.Calls.{Call, Boot, Step, Cut, Post, Line, history, unlessRefused, is_accept}
+use Rattle.model.specs.Calls.{Call, Boot, Step, Cut, Post, Line, history, unless_refused, is_accept}
 use Rattle.model.specs.Demand3.{reached, recovering, steps_to_recover}
 use Rattle.model.specs.Device.{off}
 use Rattle.model.specs.Serial.{Serial, given, serial}
@@ -15,10 +15,10 @@ use Rattle.model.specs.Types.{Answer, Body, Checked}
 
 -- with rs on its way before the call
 unfoldable pub way_after : List Record → Call → Answer → List Record
-way_after rs Boot a = unlessRefused a (λ r. rs) []
+way_after rs Boot a = unless_refused a (λ r. rs) []
 way_after rs Step a = pick (is_accept a) [] rs
 way_after rs Cut a = []
-way_after rs (Post new) a = unlessRefused a (λ r. rs) new
+way_after rs (Post new) a = unless_refused a (λ r. rs) new
 
 -- ---- the bursts that came in: at each answer accepted that on its way, whole
 

@@ -49,17 +49,17 @@ count_by holds [] = 0
 count_by holds (line ∷ lines) = pick (holds line.answered) (suc (count_by holds lines)) (count_by holds lines)
 
 -- what comes of a refusal, or what comes otherwise
-unfoldable pub unlessRefused {ℓ} : {A : Type ℓ} → Answer → (Refusal → A) → A → A
-unlessRefused Answer.Done refusing other = other
-unlessRefused (Answer.Chosen b) refusing other = other
-unlessRefused Answer.Worked refusing other = other
-unlessRefused Answer.Stored refusing other = other
-unlessRefused (Answer.Committed b) refusing other = other
-unlessRefused (Answer.Accepted x) refusing other = other
-unlessRefused (Answer.Refused r) refusing other = refusing r
+unfoldable pub unless_refused {ℓ} : {A : Type ℓ} → Answer → (Refusal → A) → A → A
+unless_refused Answer.Done refusing other = other
+unless_refused (Answer.Chosen b) refusing other = other
+unless_refused Answer.Worked refusing other = other
+unless_refused Answer.Stored refusing other = other
+unless_refused (Answer.Committed b) refusing other = other
+unless_refused (Answer.Accepted x) refusing other = other
+unless_refused (Answer.Refused r) refusing other = refusing r
 
 unfoldable pub is_refusal : Answer → Bool
-is_refusal a = unlessRefused a (λ r. true) false
+is_refusal a = unless_refused a (λ r. true) false
 
 -- ---- "The host's totals (bodies committed, events accepted, stores made; 32 bits, staying at the largest value)"
 
@@ -145,7 +145,7 @@ run_from p zero n s d t = record { steps = n; ended = Ended.Spent; store = s; de
 run_from p (suc budget) n s d t =
     let o = step p s d in
     let rest = run_from p budget (n + 1) (settled s o.write) o.device (counted t d.handler o) in
-    unlessRefused o.answer (λ r. record { steps = n; ended = Ended.Refused r; store = s; device = d; totals = t }) rest
+    unless_refused o.answer (λ r. record { steps = n; ended = Ended.Refused r; store = s; device = d; totals = t }) rest
 
 unfoldable pub run : List ℕ → ℕ → List ℕ → Device → Totals → RunOutcome
 run p budget s d t = run_from p budget 0 s d t
@@ -163,11 +163,11 @@ finish p zero n s d = pick (eqb (view s).phase 0) (recovered n s) unfinished
 finish p (suc allowed) n s d =
     let o = step p s d in
     let rest = finish p allowed (n + 1) (settled s o.write) o.device in
-    let go = unlessRefused o.answer refused rest in
+    let go = unless_refused o.answer refused rest in
     pick (eqb (view s).phase 0) (recovered n s) go
 
 -- with so many steps allowed
 unfoldable pub recovery : List ℕ → ℕ → List ℕ → Recovery
 recovery p allowed s =
     let o = boot p s cut.device in
-    unlessRefused o.answer refused (finish p allowed 0 s o.device)
+    unless_refused o.answer refused (finish p allowed 0 s o.device)

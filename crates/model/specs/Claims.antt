@@ -44,7 +44,7 @@ ZeroBehind handler burst = (i : ℕ) → 2 * burst_length handler ≤ i → word
 
 -- a device state that the types allow
 pub record TypedDevice (d : Device) : Type 0 where
-  pub registers-length : length d.registers ≡ 8
+  pub registers_length : length d.registers ≡ 8
   pub registers : TypedWords d.registers
   pub place : TypedPlace d.place
   pub count : d.count < 2 ^ 16

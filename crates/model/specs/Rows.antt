@@ -14,9 +14,9 @@ pub record Rows : Type 0 where
   -- "Opcodes 17 to 255 are refused. GO stands only in tasks, DONE only in events. A body's last instruction is JUMP, GO or DONE."
   pub opcodes_stand : Holds opcodes
   -- "check 1 to 5"
-  pub programs-checked : Holds programs
+  pub programs_checked : Holds programs
   -- "format 1 to 5, 9, 6 (only the length)"
-  pub formats-checked : Holds formats
+  pub formats_checked : Holds formats
   -- "Formatting sets the contents, word 9 to the entry task and all else to 0."
   pub formatting_sets : Holds formatted_stores
   -- "6: store contents or length wrong, or M unlike the program's."
@@ -28,31 +28,31 @@ pub record Rows : Type 0 where
   -- "25: state unlike program or store"
   pub state_met : Holds states
   -- "a step then checks what it uses"
-  pub step-uses : Holds uses
+  pub step_uses : Holds uses
   -- "A step makes at most one store. First that applies"
   pub calls_do : Holds outcomes
   -- "Contents first. Words 0 to 7 .."
   pub words_lie : Holds places_of_words
   -- "full means the slot after tail is head"
-  pub room-left : Holds rooms
+  pub room_left : Holds rooms
   -- "transactions are sequences of tasks closed to events"; "full means the slot after tail is head"
-  pub calls-answer : Holds schedules
+  pub calls_answer : Holds schedules
   pub numbers_open : Holds open_numbers
   pub memories_change : Holds memories
   pub records_wait : Holds waiting_records
   -- "bodies committed, events accepted, stores made; 32 bits, staying at the largest value"
-  pub totals-count : Holds countings
+  pub totals_count : Holds countings
   -- "Run repeats steps up to a budget"
   pub runs_end : Holds run_rows
   -- "Uncut recovery"
   pub recoveries_end : Holds recoveries
   -- "A refusal returns its number and a place"
-  pub numbers-told : Holds numbers
+  pub numbers_told : Holds numbers
   -- "The serial run has the program and reads the calls with their answers"
   pub serial-runs : Holds serial_runs
   -- N4: "a boot .. takes up the begun body"
-  pub bodies-begun : Holds begun_bodies
-  pub bodies-next : Holds next_bodies
+  pub bodies_begun : Holds begun_bodies
+  pub bodies_next : Holds next_bodies
   -- N6: "accepted by one tail store, in order"
   pub bursts_came : Holds bursts
   -- "boot 26; step 22, 23, 24; post 8, 20, 21, 22, 33"

@@ -64,16 +64,16 @@ abbrev pub accepted : List Call
 accepted = Boot ∷ Post (single 0 7) ∷ steps 3
 
 pub record Starred : Type 0 where
-  pub program-words : with_task (0x0800 ∷ 0 ∷ 0x0010 ∷ 1 ∷ 0x0201 ∷ 0 ∷ 0x0900 ∷ 0 ∷ 0x0F00 ∷ 0 ∷ []) ≡ counting
+  pub program_words : with_task (0x0800 ∷ 0 ∷ 0x0010 ∷ 1 ∷ 0x0201 ∷ 0 ∷ 0x0900 ∷ 0 ∷ 0x0F00 ∷ 0 ∷ []) ≡ counting
   -- "Accepted; with word 5 as hex 001B: 1. With five words: 1."
-  pub program-accepted : check counting ≡ Checked.Accepted
+  pub program_accepted : check counting ≡ Checked.Accepted
   pub word_5_wrong : Refuses (set counting 5 0x001B) Refusal.ProgramLength
   pub five_words : Refuses (take 5 counting) Refusal.ProgramLength
   pub number_1 : refusal Refusal.ProgramLength ≡ record { number = 1; first = 0; second = 0 }
   -- "T 33: 3. Its last instruction as 0200 0000: 5 at body 1, instruction 1."
   pub thirty_three_tasks : Refuses (set counting 1 33) (Refusal.ProgramSize 1)
   pub number_3 : refusal (Refusal.ProgramSize 1) ≡ record { number = 3; first = 1; second = 0 }
-  pub last-instruction : Refuses (set counting 24 0x0200) (Refusal.Instruction 1 1)
+  pub last_instruction : Refuses (set counting 24 0x0200) (Refusal.Instruction 1 1)
   pub number_5 : refusal (Refusal.Instruction 1 1) ≡ record { number = 5; first = 1; second = 1 }
   -- "LOAD with k 1 accepted, with k 2: 5."
   pub load_1 : check (set counting 13 1) ≡ Checked.Accepted
@@ -88,14 +88,14 @@ pub record Starred : Type 0 where
   pub step_fifteen : (view (store_after counting (Boot ∷ steps 15))).phase ≡ 0
   -- "Post and 3 steps: accepted. A further post before the event commits: 21." N7: "drops the record at head ..; then it is 21, so in 01's
   -- case only once the event has begun". (The first step more begins it, the sixth commits it, and 21 lasts until the eighth has moved head.)
-  pub three-steps : answer counting (Boot ∷ Post (single 0 7) ∷ steps 2) Step ≡ Answer.Accepted Dropped.Nothing
+  pub three_steps : answer counting (Boot ∷ Post (single 0 7) ∷ steps 2) Step ≡ Answer.Accepted Dropped.Nothing
   pub post_at_once : answer counting accepted (Post (single 0 8)) ≡ Answer.Done
   pub four_steps : answer counting (accepted ++ Post (single 0 8) ∷ steps 3) Step ≡ Answer.Accepted (Dropped.Record 0 7)
   pub event-begun : answer counting accepted Step ≡ Answer.Chosen (Body.Event 0)
   pub post_once_begun : answer counting (accepted ++ Step ∷ []) (Post (single 0 8)) ≡ Answer.Refused Refusal.QueueFull
-  pub post-before-commit : answer counting (accepted ++ steps 5) (Post (single 0 8)) ≡ Answer.Refused Refusal.QueueFull
+  pub post_before_commit : answer counting (accepted ++ steps 5) (Post (single 0 8)) ≡ Answer.Refused Refusal.QueueFull
   pub commit : answer counting (accepted ++ steps 5) Step ≡ Answer.Committed (Body.Event 0)
-  pub post-before-head : answer counting (accepted ++ steps 7) (Post (single 0 8)) ≡ Answer.Refused Refusal.QueueFull
+  pub post_before_head : answer counting (accepted ++ steps 7) (Post (single 0 8)) ≡ Answer.Refused Refusal.QueueFull
   pub post_after_head : answer counting (accepted ++ steps 8) (Post (single 0 8)) ≡ Answer.Done
   pub number_21 : refusal Refusal.QueueFull ≡ record { number = 21; first = 0; second = 0 }
   -- "Post, 1 step, post: 20. Post, 2 steps, cut: not accepted."
@@ -104,9 +104,9 @@ pub record Starred : Type 0 where
   pub not_accepted : waiting (view (store_of (recover counting (Boot ∷ Post (single 0 7) ∷ steps 2 ++ Cut ∷ [])))) ≡ []
   pub not_chosen : answer counting (Boot ∷ Post (single 0 7) ∷ steps 2 ++ Cut ∷ Boot ∷ []) Step ≡ Answer.Chosen (Body.Task 0)
   -- "Cut between the head store and the last store of an event's commit: head moves on by one slot in all."
-  pub head-stored : (view (store_after counting (accepted ++ steps 8))).head ≡ 1
+  pub head_stored : (view (store_after counting (accepted ++ steps 8))).head ≡ 1
   pub not_last : (view (store_after counting (accepted ++ steps 8))).phase ≡ 2
-  pub one-slot : (view (store_of (recover counting (accepted ++ steps 8 ++ Cut ∷ [])))).head ≡ 1
+  pub one_slot : (view (store_of (recover counting (accepted ++ steps 8 ++ Cut ∷ [])))).head ≡ 1
   -- "SHR of hex 8000 by 15 gives FFFF; of 7FFF by 15, 0; k 16: 5." Steps 2 and 3 are SET and SHR.
   pub shr_lowest : (device_after (with_task (0x0000 ∷ 0x8000 ∷ 0x0700 ∷ 15 ∷ 0x0F00 ∷ 0 ∷ [])) (Boot ∷ steps 3)).registers ≡ 0xFFFF ∷ replicate 7 0
   pub shr_highest : (device_after (with_task (0x0000 ∷ 0x7FFF ∷ 0x0700 ∷ 15 ∷ 0x0F00 ∷ 0 ∷ [])) (Boot ∷ steps 3)).registers ≡ 0 ∷ replicate 7 0

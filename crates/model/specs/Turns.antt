@@ -67,7 +67,7 @@ BodiesTakeTurns =
 -- begun now runs after that task, cut or no cut".
 pub record HasItsTurn (p s : List ℕ) (cs : List Call) (b : Body) : Type 0 where
   pub begun : begun_by (history p s off cs) ≡ Option.some b
-  pub none-chosen : (other : Body) → next_answer p s cs Step ≢ Answer.Chosen other
+  pub none_chosen : (other : Body) → next_answer p s cs Step ≢ Answer.Chosen other
   pub committed : (next : Body) → next_answer p s cs Step ≡ Answer.Committed next → next ≡ b
 
 abbrev pub BegunHasItsTurn : Type 0

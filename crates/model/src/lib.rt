@@ -1,6 +1,8 @@
 // The types of the runtime. What they mean is said in specs/, beside the sentences of document 01.
 // There is no code here: the crates above have it, each function with a contract that cites specs/.
 
+#![tactic(auto)]
+
 // What a step runs: a task or an event, with its own number.
 #[derive(Drop)]
 pub enum Body {

@@ -1,6 +1,9 @@
 // A list of calls, played. A host lends words for the numbers of a line, for a program and a store, for those that are kept and for a copy of the
 // store, and a text. `begin` prints the heading into the text, `feed` what the bytes of the list that it takes print, `finish` what its end prints;
 // the host writes the text out each time. That the texts, one behind the other, are what is defined is said in specs/Plays.antt. No call has a `requires`.
+
+#![tactic(auto)]
+
 mod changes;
 
 use script::Reading;

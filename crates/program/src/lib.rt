@@ -1,6 +1,9 @@
 // The program check of document 01, and its parts one by one, as a step uses them: the contents here, the rows in
 // rows.rt, the instructions in code.rt.
 // Each contract cites the definition of crates/model that it equals.
+
+#![tactic(auto)]
+
 ghost use Rattle.std.specs.Prelude.{◌≡◌};
 ghost use Rattle.model.specs.Check.{contents_rule, check};
 ghost use Rattle.model.specs.Accepted.{Contents, Sound};

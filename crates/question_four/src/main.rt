@@ -1,6 +1,9 @@
 // Question four: power is cut after any call; what is left? The counting program and a transaction, cut at each point, and the blackboard's
 // mistakes, each beside the right run. Everything in a row is what the runtime tells, or a word of the store.
 // What is printed is held to the file `stdout`, which another implementation printed (conformance/, `screens`); it isn't proved.
+
+#![tactic(auto)]
+
 use mistakes::Mistake;
 use store::format;
 

@@ -1,4 +1,7 @@
 // Uncut recovery of a store: a boot of a device that is off, then steps while the phase isn't 0.
+
+#![tactic(auto)]
+
 ghost use Rattle.std.specs.Prelude.{◌≡◌};
 ghost use Rattle.model.specs.Calls.{finish as finishOf, recovery};
 ghost use Rattle.model.specs.Demand3.{recovery_steps};

@@ -28,8 +28,8 @@ pub record Whole (p : List ℕ) : Type 0 where
   pub start_is : (i : ℕ) → i < bodies p → start p i ≡ bodies_start p + 2 * instructions_before p i
   pub total_is : total p ≡ bodies_start p + 2 * instructions_before p (bodies p)
   pub few : (i : ℕ) → i < bodies p → instructions p i ≤ 256
-  pub task-number : (i : ℕ) → i < tasks p → transaction p i ≤ 255
-  pub event-number : (i : ℕ) → i < bodies p → tasks p ≤ i → transaction p i ≡ 0
+  pub task_number : (i : ℕ) → i < tasks p → transaction p i ≤ 255
+  pub event_number : (i : ℕ) → i < bodies p → tasks p ≤ i → transaction p i ≡ 0
   pub fields : (i j : ℕ) → i < bodies p → j < instructions p i → Coded p i (code p i j) (operand p i j)
 
 module _ (p : List ℕ) (passed : check p ≡ Checked.Accepted) where
@@ -66,7 +66,7 @@ module _ (p : List ℕ) (passed : check p ≡ Checked.Accepted) where
   fields_are : (i j : ℕ) → i < bodies p → j < instructions p i → Coded p i (code p i j) (operand p i j)
   unfolding instruction_rule
   fields_are i j h l =
-      coded p i (code p i j) (operand p i j) sound.rows.contents (row-passed p i (sound.row i h)).most-instructions
+      coded p i (code p i j) (operand p i j) sound.rows.contents (row-passed p i (sound.row i h)).most_instructions
       (((sound_printable p sound).body i h).known j l) (must-passed _ _ (then_first _ _ (sound.rule i j h l)))
 
   pub whole : Whole p
@@ -76,11 +76,11 @@ module _ (p : List ℕ) (passed : check p ≡ Checked.Accepted) where
         mark = mark_is;
         start_is = λ i h. omega (arith, start-due i h, due_is i (omega arith));
         total_is = omega (arith, ends-at-total, due_is (bodies p) (omega arith));
-        few = λ i h. (row-passed p i (sound.row i h)).most-instructions;
-        task-number =
+        few = λ i h. (row-passed p i (sound.row i h)).most_instructions;
+        task_number =
             λ i h.
             omega (arith, number_is i (omega arith), pick_true {A = ℕ} 255 0 (lt-ltb i (tasks p) h));
-        event-number =
+        event_number =
             λ i h event.
             omega (arith, number_is i h, pick-false {A = ℕ} 255 0 (le-ltb i (tasks p) event));
         fields = fields_are;

@@ -12,7 +12,7 @@ use Rattle.assembly.proofs.LineLaws.{count_more, one-instruction, not_body}
 use Rattle.assembly.specs.Lines.{line_at, lines_at, task_line, event_line, body_line, instruction_line, is_body, is_instruction, is_of, one, count, count_from}
 use Rattle.assembly.specs.declared.Line.{Line}
 use Rattle.listing.specs.Listing.{task_name, event_name, transaction_name, has_number}
-use Rattle.model.proofs.TestLaws.{pick-case}
+use Rattle.model.proofs.TestLaws.{pick_case}
 use Rattle.model.specs.Program.{tasks, bodies, instructions, transaction}
 use Rattle.model.specs.Test.{pick, ◌and◌}
 use Rattle.tokens.specs.Tokens.{named}
@@ -31,7 +31,7 @@ event_heading p i = line 0 event_line (named (event_name (i - tasks p))) 0 0
 
 pub heading_case : (p : List ℕ) (i : ℕ) (P : Line → Type 0) → (i < tasks p → P (task_heading p i)) → (tasks p ≤ i → P (event_heading p i)) → P (heading_of p i)
 unfolding heading_of
-heading_case p i P task event = pick-case P (λ e. task (ltb-true _ _ e)) (λ e. event (ltb-false _ _ e))
+heading_case p i P task event = pick_case P (λ e. task (ltb-true _ _ e)) (λ e. event (ltb-false _ _ e))
 
 pub heading-body : (p : List ℕ) (i : ℕ) → is_body (heading_of p i) ≡ true
 unfolding is_body ◌and◌

@@ -14,7 +14,7 @@ use Rattle.assembly.specs.Lines.{line_at, lines_at, transaction_line, task_line,
 use Rattle.assembly.specs.declared.Line.{Line}
 use Rattle.listing.proofs.ListingLaws.{number-found}
 use Rattle.listing.specs.Listing.{task_name, event_name, transaction_name, label_name, has_number, is_target}
-use Rattle.model.proofs.TestLaws.{pick-case, pick_true, pick-false, and_true, and_false, same_or}
+use Rattle.model.proofs.TestLaws.{pick_case, pick_true, pick-false, and_true, and_false, same_or}
 use Rattle.model.specs.Program.{tasks, bodies, instructions, transaction}
 use Rattle.model.specs.Test.{pick, ◌and◌}
 use Rattle.tokens.specs.Tokens.{named}
@@ -118,7 +118,7 @@ module _ {p : List ℕ} (whole : Whole p) where
   pub task-number-found : (i : ℕ) → i < tasks p → transaction p i ≢ 0
       → transaction_value (named (transaction_name (transaction p i))) (lines_at (room p) 0 (size p)) ≡ transaction p i
   task-number-found i h some =
-      go (transaction p i) some (whole.task-number i h) (number-found p (transaction p i) i (tasks p) h (eq-eqb (transaction p i) _ refl)) where
+      go (transaction p i) some (whole.task_number i h) (number-found p (transaction p i) i (tasks p) h (eq-eqb (transaction p i) _ refl)) where
         go : (t : ℕ) → t ≢ 0 → t ≤ 255 → has_number p t (tasks p) ≡ true → transaction_value (named (transaction_name t)) (lines_at (room p) 0 (size p)) ≡ t
         go zero other l has = absurd (other refl)
         go (suc m) other l has = transaction-found m l has
@@ -163,7 +163,7 @@ module _ {p : List ℕ} (whole : Whole p) where
         in_code (λ y. eqb (line_at (room p) y).label (named (label_name k)) ≡ false) k
         (λ m u.
         rw (at-instruction p i m h (omega arith))
-        (pick-case (λ v. eqb v (named (label_name k)) ≡ false)
+        (pick_case (λ v. eqb v (named (label_name k)) ≡ false)
         (λ _. ne_eqb _ _ (label_names.differ m k (omega (arith, whole.few i h)) (omega (arith, whole.few i h)) (λ e. absurd (omega arith))))
         (λ _. ne_eqb 0 (named (label_name k)) (omega arith))))
 

@@ -161,8 +161,8 @@ module _ {p : List ℕ} (whole : Whole p) (i j : ℕ) (h : i < bodies p) (l : j 
       let second = used_second (uses_a op) (uses_b op) (uses_k op) a b (operand_word op k) in
       rw (
         add-sub_cancel op 1,
-        register (uses_a op) (get_or (operand_words w k) 0 0) (field_a w) (omega arith) first coded.first-unused,
-        register (uses_b op) (get_or (operand_words w k) 1 0) (field_b w) (omega arith) (λ e. second (behind e) e) coded.second-unused,
+        register (uses_a op) (get_or (operand_words w k) 0 0) (field_a w) (omega arith) first coded.first_unused,
+        register (uses_b op) (get_or (operand_words w k) 1 0) (field_b w) (omega arith) (λ e. second (behind e) e) coded.second_unused,
       )
       (omega arith)
 
@@ -171,9 +171,9 @@ module _ {p : List ℕ} (whole : Whole p) (i j : ℕ) (h : i < bodies p) (l : j 
   operand-sample = go (is_jump (opcode w)) (eqb (opcode w) go_opcode) refl refl where
     go : (b c : Bool) → is_jump (opcode w) ≡ b → eqb (opcode w) go_opcode ≡ c
         → sample (pick b (named (label_name k)) (pick c (named (task_name k)) (number k))) ≡ pick b 65537 (pick c 65537 1)
-    go true c e f = sample-name _ (label_names.is_name k (omega (arith, coded.target-inside e, whole.few i h)))
-    go false true e f = sample-name _ (task-names.is_name k (omega (arith, coded.task-inside f, whole.contents)))
-    go false false e f = sample-number k coded.operand-fits
+    go true c e f = sample-name _ (label_names.is_name k (omega (arith, coded.target_inside e, whole.few i h)))
+    go false true e f = sample-name _ (task-names.is_name k (omega (arith, coded.task_inside f, whole.contents)))
+    go false false e f = sample-number k coded.operand_fits
 
   pub none_wrong_in : statement_mistake (instruction_of p i j) ≡ 0
   unfolding operand_words instruction_of sample pick

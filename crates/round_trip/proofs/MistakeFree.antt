@@ -14,7 +14,7 @@ use Rattle.assembly.specs.Mistakes.{mistake_at, own_mistake, name_first, label_m
 use Rattle.assembly.specs.declared.Line.{Line}
 use Rattle.assembly.specs.declared.Mistake.{Mistake}
 use Rattle.listing.specs.Listing.{task_name, transaction_name, label_name, is_target}
-use Rattle.model.proofs.TestLaws.{pick-case, pick_true, and_false, clash}
+use Rattle.model.proofs.TestLaws.{pick_case, pick_true, and_false, clash}
 use Rattle.model.specs.Program.{tasks, memory_words, entry, bodies, instructions, transaction, operand}
 use Rattle.model.specs.Test.{pick, ◌and◌, ◌or◌}
 use Rattle.tokens.specs.Tokens.{named}
@@ -43,9 +43,9 @@ module _ {p : List ℕ} (whole : Whole p) where
       heading_case p i (λ g. own_mistake g ≡ 0)
       (λ task.
       let name = sample-name _ (task-names.is_name i (omega arith)) in
-      pick-case (λ w. own_mistake (line 0 task_line (named (task_name i)) w 0) ≡ 0)
+      pick_case (λ w. own_mistake (line 0 task_line (named (task_name i)) w 0) ≡ 0)
       (λ _. own_right task_line _ _ name sample-none right.task)
-      (λ _. own_right task_line _ _ name (sample-name _ (transaction-names.is_name (transaction p i) (whole.task-number i task))) right.task_of_lem))
+      (λ _. own_right task_line _ _ name (sample-name _ (transaction-names.is_name (transaction p i) (whole.task_number i task))) right.task_of_lem))
       (λ event. own_right event_line _ _ (sample-name _ (event-names.is_name (i - tasks p) (omega arith))) sample-none right.event)
 
   no_own : (x : ℕ) → x < size p → own_mistake (line_at (room p) x) ≡ 0
@@ -102,7 +102,7 @@ module _ {p : List ℕ} (whole : Whole p) where
   transaction-known : (i : ℕ) → i < tasks p → transaction p i ≢ 0 → missing_transaction (room p) (size p) (named (transaction_name (transaction p i))) ≡ false
   unfolding missing_transaction
   transaction-known i h some =
-      known (named (transaction_name (transaction p i))) _ (transaction p i) (task-number-found whole i h some) (omega (arith, whole.task-number i h))
+      known (named (transaction_name (transaction p i))) _ (transaction p i) (task-number-found whole i h some) (omega (arith, whole.task_number i h))
 
   label_known : (i k : ℕ) → i < bodies p → k < instructions p i → is_target p i k (instructions p i) ≡ true
       → missing_label (room p) (size p) (code_at p i) (named (label_name k)) ≡ false
@@ -124,7 +124,7 @@ module _ {p : List ℕ} (whole : Whole p) where
         new _ (task-first whole i h task),
         refl,
         refl,
-        pick-case (λ w. missing_transaction (room p) (size p) w ≡ false) (λ _. refl) (λ e. transaction-known i task (eqb-false _ _ e)),
+        pick_case (λ w. missing_transaction (room p) (size p) w ≡ false) (λ _. refl) (λ e. transaction-known i task (eqb-false _ _ e)),
       )
 
   event_free : (i : ℕ) → i < bodies p → tasks p ≤ i → line_at (room p) (suc (body_at p i)) ≡ event_heading p i → FreeAt (suc (body_at p i))
@@ -138,14 +138,14 @@ module _ {p : List ℕ} (whole : Whole p) where
 
     own_label : eqb g.label 0 ≡ false → g.label ≡ named (label_name j)
     unfolding instruction_of label_of
-    own_label = pick-case (λ v. eqb v 0 ≡ false → v ≡ named (label_name j)) (λ _ _. refl) (λ _ e. clash refl e)
+    own_label = pick_case (λ v. eqb v 0 ≡ false → v ≡ named (label_name j)) (λ _ _. refl) (λ _ e. clash refl e)
 
     label_free : label_mistake (room p) (code_at p i) (code_at p i + j) ≡ 0
     unfolding label_mistake ◌or◌
     label_free =
         let begun : eqb (code_at p i) 0 ≡ false = ne_eqb (code_at p i) 0 (omega arith) in
         rw (at-instruction p i j h l)
-        (pick-case (λ (m : ℕ). m ≡ 0) (λ _. refl)
+        (pick_case (λ (m : ℕ). m ≡ 0) (λ _. refl)
         (λ e.
         not_made_first _ _ (rw (begun, is_instruction_lem whole i j h l) (and_false _ _ refl))
         ∙ not_made _
@@ -154,20 +154,20 @@ module _ {p : List ℕ} (whole : Whole p) where
     task_word_free : missing_task (room p) (size p) (task_word g) ≡ false
     unfolding task_word missing_task ◌and◌
     task_word_free =
-        pick-case (λ w. missing_task (room p) (size p) w ≡ false)
+        pick_case (λ w. missing_task (room p) (size p) w ≡ false)
         (λ e.
         let go = goes whole i j h l e in
-        rw (go_first whole i j h l go) (task-known (operand p i j) ((whole.fields i j h l).task-inside go)))
+        rw (go_first whole i j h l go) (task-known (operand p i j) ((whole.fields i j h l).task_inside go)))
         (λ _. refl)
 
     label_word_free : missing_label (room p) (size p) (code_at p i) (label_word g) ≡ false
     unfolding label_word missing_label ◌and◌
     label_word_free =
-        pick-case (λ w. missing_label (room p) (size p) (code_at p i) w ≡ false)
+        pick_case (λ w. missing_label (room p) (size p) (code_at p i) w ≡ false)
         (λ e.
         let jump = sym (jumps whole i j h l) ∙ e in
         rw (jump_word whole i j h l jump)
-        (label_known i (operand p i j) h ((whole.fields i j h l).target-inside jump) (targets whole i j h l jump)))
+        (label_known i (operand p i j) h ((whole.fields i j h l).target_inside jump) (targets whole i j h l jump)))
         (λ _. refl)
 
     instruction_free : FreeAt (code_at p i + j)

@@ -87,12 +87,12 @@ module _ (op : ℕ) (known : op ≤ 16) where
 
 pub record Coded (p : List ℕ) (i w k : ℕ) : Type 0 where
   pub known : opcode w ≤ 16
-  pub first-unused : uses_a (opcode w) ≡ false → field_a w ≡ 0
-  pub second-unused : uses_b (opcode w) ≡ false → field_b w ≡ 0
-  pub operand-unused : uses_k (opcode w) ≡ false → k ≡ 0
-  pub operand-fits : k ≤ 65535
-  pub target-inside : is_jump (opcode w) ≡ true → k < instructions p i
-  pub task-inside : eqb (opcode w) go_opcode ≡ true → k < tasks p
+  pub first_unused : uses_a (opcode w) ≡ false → field_a w ≡ 0
+  pub second_unused : uses_b (opcode w) ≡ false → field_b w ≡ 0
+  pub operand_unused : uses_k (opcode w) ≡ false → k ≡ 0
+  pub operand_fits : k ≤ 65535
+  pub target_inside : is_jump (opcode w) ≡ true → k < instructions p i
+  pub task_inside : eqb (opcode w) go_opcode ≡ true → k < tasks p
 
 unused : (used : Bool) (x : ℕ) → x < bound used → used ≡ false → x ≡ 0
 unfolding pick
@@ -133,10 +133,10 @@ module _ (p : List ℕ) (i w k : ℕ) (contents : Contents p) (few : instruction
       let below : k < limit = ltb-true _ _ (and_right _ _ (and_right _ _ fit)) in
       record {
         known = known;
-        first-unused = unused _ _ (ltb-true _ _ (and_left _ _ fit));
-        second-unused = unused _ _ (ltb-true _ _ (and_left _ _ (and_right _ _ fit)));
-        operand-unused = λ e. omega (arith, limit_unused e);
-        operand-fits = omega (arith, limit_most);
-        target-inside = λ e. omega (arith, limit_jump e);
-        task-inside = λ e. omega (arith, limit_go e);
+        first_unused = unused _ _ (ltb-true _ _ (and_left _ _ fit));
+        second_unused = unused _ _ (ltb-true _ _ (and_left _ _ (and_right _ _ fit)));
+        operand_unused = λ e. omega (arith, limit_unused e);
+        operand_fits = omega (arith, limit_most);
+        target_inside = λ e. omega (arith, limit_jump e);
+        task_inside = λ e. omega (arith, limit_go e);
       }

@@ -14,7 +14,7 @@ use Rattle.listing.proofs.ListingLaws.{sound_printable}
 use Rattle.listing.specs.Listing.{task_name, transaction_name, has_number, transaction_line, transaction_lines, register, target, instruction_text, instruction_line, instruction_lines, transaction_word, heading, body_lines, first_lines, listing}
 use Rattle.model.proofs.ProgramLaws.{row-passed, check-passed}
 use Rattle.model.proofs.Range.{within}
-use Rattle.model.proofs.TestLaws.{pick-case, and_true, and_right, must-passed, must_then, then_first}
+use Rattle.model.proofs.TestLaws.{pick_case, and_true, and_right, must-passed, must_then, then_first}
 use Rattle.model.specs.Accepted.{Contents, Sound}
 use Rattle.model.specs.Check.{check, row_usable, limits, fields_fit, instruction_rule}
 use Rattle.model.specs.Program.{tasks, bodies, memory_words, entry, instructions, transaction, opcode, field_a, field_b, code, operand, bounds}
@@ -31,10 +31,10 @@ use Rattle.tokens.specs.Uses.{uses_a, uses_b, uses_k}
 -- ---- Choices
 
 one_at_most : {A : Type 0} (t : Bool) (x : A) → length (pick t (x ∷ []) []) ≤ 1
-one_at_most t x = pick-case (λ (xs : List _). length xs ≤ 1) (λ _. omega arith) (λ _. omega arith)
+one_at_most t x = pick_case (λ (xs : List _). length xs ≤ 1) (λ _. omega arith) (λ _. omega arith)
 
 pick-most : (t : Bool) {a b n : ℕ} → a ≤ n → b ≤ n → pick t a b ≤ n
-pick-most t {n = n} h l = pick-case (λ (k : ℕ). k ≤ n) (λ _. h) (λ _. l)
+pick-most t {n = n} h l = pick_case (λ (k : ℕ). k ≤ n) (λ _. h) (λ _. l)
 
 -- ---- A statement's line
 
@@ -148,8 +148,8 @@ abbrev printed_lines : List ℕ → List Line
 printed_lines p = (memory_of p ∷ entry_of p ∷ transactions_of p 255) ++ bodies_of p (bodies p)
 
 module _ (p : List ℕ) (sound : Sound p) where
-  most-instructions : (i : ℕ) → i < bodies p → instructions p i ≤ 256
-  most-instructions i h = (row-passed p i (sound.row i h)).most-instructions
+  most_instructions : (i : ℕ) → i < bodies p → instructions p i ≤ 256
+  most_instructions i h = (row-passed p i (sound.row i h)).most_instructions
 
   most-transaction : (i : ℕ) → i < bodies p → transaction p i ≤ 255
   unfolding row_usable limits
@@ -169,7 +169,7 @@ module _ (p : List ℕ) (sound : Sound p) where
       let c = sound.rows.contents in
       let f = bounds (memory_words p) (tasks p) (instructions p i) (ltb i (tasks p)) (opcode w) in
       let fits = and_right (ltb (field_a w) f.a) _ (must-passed _ _ (then_first _ _ (sound.rule i j h l))) in
-      let most = bound_most (memory_words p) (tasks p) (instructions p i) (opcode w) (ltb i (tasks p)) (omega (arith, c.most-memory)) (omega (arith, c.most-tasks)) (omega (arith, most-instructions i h)) (known-opcode i j h l) in
+      let most = bound_most (memory_words p) (tasks p) (instructions p i) (opcode w) (ltb i (tasks p)) (omega (arith, c.most_memory)) (omega (arith, c.most_tasks)) (omega (arith, most_instructions i h)) (known-opcode i j h l) in
       omega (arith, most, ltb-true (operand p i j) f.k (and_right (ltb (field_b w) f.b) _ fits))
 
   -- ---- The whole text
@@ -179,14 +179,14 @@ module _ (p : List ℕ) (sound : Sound p) where
   instructions-read i zero h l = no_lines
   instructions-read i (suc n) h l =
       lines_then (instructions-read i n h (omega arith))
-      (instruction-read p i n (omega (arith, most-instructions i h)) (known-opcode i n h l) (most-operand i n h l))
+      (instruction-read p i n (omega (arith, most_instructions i h)) (known-opcode i n h l) (most-operand i n h l))
 
   bodies-read : (n : ℕ) → n ≤ bodies p → Lines (body_lines p n) (bodies_of p n)
   unfolding body_lines bodies_of
   bodies-read zero h = no_lines
   bodies-read (suc n) h =
       let c = sound.rows.contents in
-      let small : n ≤ 65535 = omega (arith, c.most-tasks, c.most-events) in
+      let small : n ≤ 65535 = omega (arith, c.most_tasks, c.most_events) in
       rw append_assoc
       (lines_then (bodies-read n (omega arith))
       (lines_then (heading-read p n small (omega (arith, most-transaction n h))) (instructions-read n (instructions p n) h (omega arith))))
@@ -213,12 +213,12 @@ bodies-length : (p : List ℕ) → Sound p → (n : ℕ) → n ≤ bodies p → 
 unfolding bodies_of
 bodies-length p sound zero h = omega arith
 bodies-length p sound (suc n) h =
-    simp length-append (omega (arith, bodies-length p sound n (omega arith), instructions-length p n (instructions p n), most-instructions p sound n h))
+    simp length-append (omega (arith, bodies-length p sound n (omega arith), instructions-length p n (instructions p n), most_instructions p sound n h))
 
 printed_lines_length : (p : List ℕ) → Sound p → length (printed_lines p) ≤ 12641
 printed_lines_length p sound =
     let c = sound.rows.contents in
-    simp length-append (omega (arith, transactions_length p 255, bodies-length p sound (bodies p) (omega arith), c.most-tasks, c.most-events))
+    simp length-append (omega (arith, transactions_length p 255, bodies-length p sound (bodies p) (omega arith), c.most_tasks, c.most_events))
 
 -- ---- What is claimed
 

@@ -10,7 +10,7 @@ use lib.Dec.{eqb}
 use lib.ListN.{length, get_or, replicate, length-append, length-replicate}
 use Rattle.assembly.specs.declared.Line.{Line}
 use Rattle.listing.specs.Listing.{spaces, margin}
-use Rattle.model.proofs.TestLaws.{pick-case, pick-false, and_left, and_right}
+use Rattle.model.proofs.TestLaws.{pick_case, pick-false, and_left, and_right}
 use Rattle.model.specs.Test.{pick, ◌and◌, ◌or◌}
 use Rattle.round_trip.proofs.ReadingWords.{pick-both, every, every_append, is_plain, during, between, reads, reads_append, Word, label_word_lem}
 use Rattle.round_trip.specs.Expected.{line, blank, flat, label_of}
@@ -185,7 +185,7 @@ some_spaces (suc n) h =
 spaces_are : (j : ℕ) → Spaces (spaces j)
 unfolding spaces
 spaces_are j =
-    pick-case Spaces (λ _. some_spaces 4 (omega arith)) (λ _. pick-case Spaces (λ _. some_spaces 3 (omega arith)) (λ _. some_spaces 2 (omega arith)))
+    pick_case Spaces (λ _. some_spaces 4 (omega arith)) (λ _. pick_case Spaces (λ _. some_spaces 3 (omega arith)) (λ _. some_spaces 2 (omega arith)))
 
 colon_ends : (kind : Kind) (value w : ℕ) → ended_by kind (during 0 [] kind value) ≡ between 0 (w ∷ []) → 65535 < w → next (during 0 [] kind value) (code ":") ≡ between w []
 unfolding next read_byte if_right is_space ended labelled with_words pick ◌and◌ ◌or◌

@@ -13,7 +13,7 @@ use lib.ListN.{length, get_or, length-append}
 use Rattle.listing.specs.Listing.{task_name, event_name, transaction_name, label_name}
 use Rattle.model.proofs.ProgramLaws.{◌&◌}
 use Rattle.model.proofs.Range.{within}
-use Rattle.model.proofs.TestLaws.{pick-case, pick_true, pick-false, clash, same_or, and_true, and_left, and_right}
+use Rattle.model.proofs.TestLaws.{pick_case, pick_true, pick-false, clash, same_or, and_true, and_left, and_right}
 use Rattle.model.specs.Test.{pick, ◌and◌, ◌or◌}
 use Rattle.text.proofs.TextLaws.{decimal-length}
 use Rattle.text.specs.Ascii.{ascii}
@@ -169,7 +169,7 @@ module _ (label : ℕ) (ws : List ℕ) where
   unfolding decimal_of
   number_read zero n l h = let small : n < 10 = omega arith in rw (mod-eq_of_lt small) (number-begins n small)
   number_read (suc k) n l h =
-      pick-case (Number n) (λ small. number-begins n (ltb-true n 10 small))
+      pick_case (Number n) (λ small. number-begins n (ltb-true n 10 small))
       (λ large.
       let ten : 10 ≤ n = ltb-false n 10 large in
       number-longer (decimal_of k (n / 10)) n ten h (number_read k (n / 10) (omega arith) (omega arith)))
@@ -192,7 +192,7 @@ digits_of_name : (k n : ℕ) → every is_of_name (decimal_of k n) ≡ true
 unfolding decimal_of
 digits_of_name zero n = digit_of_name n
 digits_of_name (suc k) n =
-    pick-case (λ (bytes : List ℕ). every is_of_name bytes ≡ true) (λ small. and_true (digit_byte_lem n (ltb-true n 10 small)).0 refl)
+    pick_case (λ (bytes : List ℕ). every is_of_name bytes ≡ true) (λ small. and_true (digit_byte_lem n (ltb-true n 10 small)).0 refl)
     (λ large. every_append is_of_name (decimal_of k (n / 10)) ((48 + n % 10) ∷ []) (digits_of_name k (n / 10)) (digit_of_name n))
 
 pub number_word : (n : ℕ) → n ≤ 65535 → Word (decimal n) (number n)
@@ -202,7 +202,7 @@ number_word n h =
       kind = number_kind n;
       value = n;
       read = λ label ws. number_read label ws n n (omega arith) h;
-      ended = λ label ws. pick-case (λ (kind : Kind). ended_by kind (during label ws kind n) ≡ added (during label ws kind n) (number n)) (λ _. refl) (λ _. refl);
+      ended = λ label ws. pick_case (λ (kind : Kind). ended_by kind (during label ws kind n) ≡ added (during label ws kind n) (number n)) (λ _. refl) (λ _. refl);
       some = omega arith;
       plain = plain_of_name (decimal_of n n) (digits_of_name n n);
       short = omega (arith, decimal-length 4 n (omega arith));

@@ -17,7 +17,7 @@ use Rattle.assembly.specs.Lines.{line_at, lines_at, body_line, instruction_line,
 use Rattle.assembly.specs.Mistakes.{program_length, transaction_word}
 use Rattle.assembly.specs.Words.{as_word, task_of, label_of, transaction_of, second_word, instruction_words, body_words, start_of, row_words, rows, contents, words}
 use Rattle.listing.specs.Listing.{task_name, label_name, transaction_name, is_target}
-use Rattle.model.proofs.TestLaws.{pick-case, pick_true, pick-false, below_or}
+use Rattle.model.proofs.TestLaws.{pick_case, pick_true, pick-false, below_or}
 use Rattle.model.specs.Program.{word, tasks, events, memory_words, entry, total, bodies, start, instructions, transaction, bodies_start, row_at, code, operand}
 use Rattle.model.specs.Test.{pick, ◌and◌}
 use Rattle.tokens.specs.Tokens.{number, named}
@@ -80,11 +80,11 @@ module _ {p : List ℕ} (whole : Whole p) where
       heading_case p i (λ g. transaction_of (room p) (size p) (transaction_word g) ≡ transaction p i)
       (λ task.
       let t = transaction p i in
-      pick-case {x = 0} {y = named (transaction_name t)} (λ w. transaction_of (room p) (size p) w ≡ t) (λ e. sym (eqb-true _ _ e))
+      pick_case {x = 0} {y = named (transaction_name t)} (λ w. transaction_of (room p) (size p) w ≡ t) (λ e. sym (eqb-true _ _ e))
       (λ e.
-      pick_true _ _ (transaction-names.is_name t (whole.task-number i task))
+      pick_true _ _ (transaction-names.is_name t (whole.task_number i task))
       ∙ task-number-found whole i task (eqb-false _ _ e)))
-      (λ event. sym (whole.event-number i h event))
+      (λ event. sym (whole.event_number i h event))
 
   -- ---- The contents
 
@@ -170,7 +170,7 @@ module _ {p : List ℕ} (whole : Whole p) where
         (omega (arith, whole.start_is i h, before_few whole i (omega arith), whole.contents))
 
     number_fits : transaction p i ≤ 65535
-    number_fits = below_or i (tasks p) (λ task. omega (arith, whole.task-number i task)) (λ event. omega (arith, whole.event-number i h event))
+    number_fits = below_or i (tasks p) (λ task. omega (arith, whole.task_number i task)) (λ event. omega (arith, whole.event_number i h event))
 
     heading-row : RowAt (suc (body_at p i))
     unfolding row_words words_from
@@ -218,13 +218,13 @@ module _ {p : List ℕ} (whole : Whole p) where
         let fields = whole.fields i j h l in
         as_word_lem _ k
         (rw (opcode_is whole i j h l)
-        (pick-case (λ (m : ℕ). m ≡ k)
-        (λ jump. rw (jump_word whole i j h l jump) (label_of_lem i k h (fields.target-inside jump) (targets whole i j h l jump)))
+        (pick_case (λ (m : ℕ). m ≡ k)
+        (λ jump. rw (jump_word whole i j h l jump) (label_of_lem i k h (fields.target_inside jump) (targets whole i j h l jump)))
         (λ jump.
-        pick-case (λ (m : ℕ). m ≡ k) (λ go. rw (go_word whole i j h l go) (task_of_lem k (fields.task-inside go)))
+        pick_case (λ (m : ℕ). m ≡ k) (λ go. rw (go_word whole i j h l go) (task_of_lem k (fields.task_inside go)))
         (λ go.
-        pick-case (λ (m : ℕ). m ≡ k) (λ used. rw (number_word whole i j h l jump go used) (omega arith)) (λ none. sym (fields.operand-unused none))))))
-        fields.operand-fits
+        pick_case (λ (m : ℕ). m ≡ k) (λ used. rw (number_word whole i j h l jump go used) (omega arith)) (λ none. sym (fields.operand_unused none))))))
+        fields.operand_fits
 
     code-words : CodeAt (code_at p i + j)
     unfolding instruction_words words_from one is_of is_instruction ◌and◌ pick

@@ -8,7 +8,7 @@ use lib.ListN.{length}
 use Rattle.model.proofs.DeviceLaws.{StepOutcome, refused, made, step_outcome}
 use Rattle.model.proofs.TestLaws.{clash, impossible}
 use Rattle.model.proofs.Refused.{refused_is}
-use Rattle.model.specs.Calls.{RunOutcome, Step, call, unlessRefused, is_refusal, counted, run_from}
+use Rattle.model.specs.Calls.{RunOutcome, Step, call, unless_refused, is_refusal, counted, run_from}
 use Rattle.model.specs.Device.{Outcome, refuse, step}
 use Rattle.model.specs.Store.{memory_at, settled, stored_word}
 use Rattle.model.specs.declared.Answer.{Answer}
@@ -24,10 +24,10 @@ use Rattle.runtime.specs.RunResult.{is_accepted}
 -- ---- is an answer a refusal? did a check pass?
 
 abbrev pub refusal_of : Answer → Checked
-refusal_of a = unlessRefused a Checked.Refused Checked.Accepted
+refusal_of a = unless_refused a Checked.Refused Checked.Accepted
 
-pub stops {ℓ} : {A : Type ℓ} (a : Answer) {f : Refusal} (stop : Refusal → A) (rest : A) → refusal_of a ≡ Checked.Refused f → (a ≡ Answer.Refused f) × (unlessRefused a stop rest ≡ stop f)
-unfolding unlessRefused
+pub stops {ℓ} : {A : Type ℓ} (a : Answer) {f : Refusal} (stop : Refusal → A) (rest : A) → refusal_of a ≡ Checked.Refused f → (a ≡ Answer.Refused f) × (unless_refused a stop rest ≡ stop f)
+unfolding unless_refused
 stops Answer.Done stop rest e = (cc, cc)
 stops (Answer.Chosen b) stop rest e = (cc, cc)
 stops Answer.Worked stop rest e = (cc, cc)
@@ -36,8 +36,8 @@ stops (Answer.Committed b) stop rest e = (cc, cc)
 stops (Answer.Accepted d) stop rest e = (cc, cc)
 stops (Answer.Refused r) stop rest e = (cc, cc)
 
-pub goes {ℓ} : {A : Type ℓ} (a : Answer) (stop : Refusal → A) (rest : A) → refusal_of a ≡ Checked.Accepted → unlessRefused a stop rest ≡ rest
-unfolding unlessRefused
+pub goes {ℓ} : {A : Type ℓ} (a : Answer) (stop : Refusal → A) (rest : A) → refusal_of a ≡ Checked.Accepted → unless_refused a stop rest ≡ rest
+unfolding unless_refused
 goes Answer.Done stop rest e = refl
 goes (Answer.Chosen b) stop rest e = refl
 goes Answer.Worked stop rest e = refl
@@ -84,7 +84,7 @@ module _ (p : List ℕ) (k j n : ℕ) (s : List ℕ) (d : Device) (t : Totals) (
 
 -- a step that isn't refused has a store with all control words
 pub control-there : (p s : List ℕ) (d : Device) → refusal_of (step p s d).answer ≡ Checked.Accepted → memory_at ≤ length s
-unfolding unlessRefused
+unfolding unless_refused
 control-there p s d = go (step p s d) (step_outcome p s d)
   where
     go : (o : Outcome) → StepOutcome p s d o → refusal_of o.answer ≡ Checked.Accepted → memory_at ≤ length s

@@ -2,8 +2,11 @@
 // budget (32 bits) and returns the count of steps made, with spent or the refusal".
 // The device is taken apart once and put together once; between, the registers and the handler's burst are lent and the totals go by value. The early checks
 // aren't repeated where what the last step stored and answered tells that they pass.
+
+#![tactic(auto)]
+
 ghost use Rattle.std.specs.Prelude.{ℕ, ◌≤◌, length, true, List, ◌≡◌};
-ghost use Rattle.model.specs.Calls.{unlessRefused, is_commit};
+ghost use Rattle.model.specs.Calls.{unless_refused, is_commit};
 ghost use Rattle.model.specs.Claims.{sound_after};
 ghost use Rattle.model.specs.Device.{look, step};
 ghost use Rattle.model.specs.Store.{memory_at};
@@ -38,7 +41,7 @@ pub struct RunResult {
 
 // Is an answer a refusal?
 pub fn refusal(answer: Answer) -> Checked
-    ensures { result ≡ unlessRefused answer Checked.Refused Checked.Accepted }
+    ensures { result ≡ unless_refused answer Checked.Refused Checked.Accepted }
 {
     match answer {
         Answer::Done => Checked::Accepted,

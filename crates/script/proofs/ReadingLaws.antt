@@ -11,7 +11,7 @@ use lib.Dec.{eqb}
 use lib.ListN.{length, take, drop, set, get_or, drop_of_length-le, get_or-eq_default}
 use lib.Seq.{drop-cons, length-take-le, take-suc-set, get_or-take, get_or-set_same, get_or-set_other}
 use Rattle.model.proofs.Range.{within}
-use Rattle.model.proofs.TestLaws.{and_false, pick-case, pick_true, pick-false, same_or, below_or, or_true_right, clash}
+use Rattle.model.proofs.TestLaws.{and_false, pick_case, pick_true, pick-false, same_or, below_or, or_true_right, clash}
 use Rattle.model.specs.Program.{word}
 use Rattle.model.specs.Test.{pick, ◌and◌, ◌or◌}
 use Rattle.script.specs.Reads.{is_wide, numbers_of, line_in, Small, Sizes, Sized, Holds}
@@ -51,7 +51,7 @@ number_within : (names : List (List ℕ)) (n : ℕ) (bytes : List ℕ) → numbe
 unfolding number_from
 number_within [] n bytes = omega arith
 number_within (one ∷ others) n bytes =
-    pick-case (λ (r : ℕ). r ≤ n + suc (length others) - 1) (λ _. omega arith) (λ _. omega (arith, number_within others (n + 1) bytes))
+    pick_case (λ (r : ℕ). r ≤ n + suc (length others) - 1) (λ _. omega arith) (λ _. omega (arith, number_within others (n + 1) bytes))
 
 pub number-most : (bytes : List ℕ) → name_number bytes ≤ 21
 unfolding name_number names
@@ -71,11 +71,11 @@ least-most kind = below_or kind 20
 
 pub most-many : (kind : ℕ) → most_numbers kind ≤ many
 unfolding most_numbers
-most-many kind = pick-case (λ (n : ℕ). n ≤ many) (λ _. omega arith) (λ _. omega (arith, least-most kind))
+most-many kind = pick_case (λ (n : ℕ). n ≤ many) (λ _. omega arith) (λ _. omega (arith, least-most kind))
 
 pub largest-most : (kind i : ℕ) → largest kind i ≤ 4294967295
 unfolding largest
-largest-most kind i = pick-case (λ (n : ℕ). n ≤ 4294967295) (λ _. omega arith) (λ _. pick-case (λ (n : ℕ). n ≤ 4294967295) (λ _. omega arith) (λ _. omega arith))
+largest-most kind i = pick_case (λ (n : ℕ). n ≤ 4294967295) (λ _. omega arith) (λ _. pick_case (λ (n : ℕ). n ≤ 4294967295) (λ _. omega arith) (λ _. omega arith))
 
 few : (kind : ℕ) → pick (is_wide kind) (most_numbers kind) 0 ≤ 3
 unfolding is_wide has_index has_totals most_numbers least_numbers least pick ◌and◌ ◌or◌
@@ -103,7 +103,7 @@ module _ (now : Reading) (words : List ℕ) (sizes : Sized now (length words)) w
 
   pub numbers-counted : length (numbers_of now words) ≡ now.count
   numbers-counted =
-      pick-case {b = is_wide now.kind} (λ (l : List ℕ). length (take now.count l) ≡ now.count)
+      pick_case {b = is_wide now.kind} (λ (l : List ℕ). length (take now.count l) ≡ now.count)
       (λ e. length-take-le now.count now.wide (omega (arith, sizes.count_most, sizes.wide_long, wide_few now.kind e)))
       (λ _. length-take-le now.count words (omega (arith, sizes.count_most, sizes.room, most-many now.kind)))
 
@@ -130,7 +130,7 @@ module _ {n held kind count value : ℕ} {name wide : List ℕ} {begun : Bool} (
   lent = subst (λ (m : ℕ). Sizes m name held kind wide count begun value) sizes.room sizes
 
   pub value-small : value ≤ 4294967295
-  value-small = omega (arith, sizes.value-most, largest-most kind count)
+  value-small = omega (arith, sizes.value_most, largest-most kind count)
 
   -- no number has begun where there are as many as there may be
   pub full : most_numbers kind ≤ count → not begun ≡ true
@@ -150,7 +150,7 @@ module _ {n held kind count value : ℕ} {name wide : List ℕ} {begun : Bool} (
   -- the number that has ended is small, as those before it
   pub wide_small : begun ≡ true → Small kind (set wide count value) (count + 1)
   wide_small e = λ i h f. same_or i count
-      (λ here. rw (here, get_or-set_same wide count value 0 (omega (arith, sizes.wide_long, room_wide e f))) sizes.value-most)
+      (λ here. rw (here, get_or-set_same wide count value 0 (omega (arith, sizes.wide_long, room_wide e f))) sizes.value_most)
       (λ other. rw (get_or-set_other wide count i value 0 other) (sizes.wide_in i (omega arith) f))
 
   pub one_more : {m : ℕ} {others : List ℕ} → begun ≡ true → m ≡ many → length others ≡ 3 → Small kind others (count + 1) → Sizes m name held kind others (count + 1) false 0
@@ -159,12 +159,12 @@ module _ {n held kind count value : ℕ} {name wide : List ℕ} {begun : Bool} (
         room = room;
         name_long_lem = sizes.name_long_lem;
         held_most = sizes.held_most;
-        kind-most = sizes.kind-most;
+        kind_most = sizes.kind_most;
         wide_long = long;
         wide_in = small;
         count_most = omega (arith, sizes.begun_more e);
         begun_more = λ e. clash e refl;
-        value-most = zero-le;
+        value_most = zero-le;
       }
 
 -- a number more, beside the others of its kind

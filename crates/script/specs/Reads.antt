@@ -26,12 +26,12 @@ pub record Sizes (words : ℕ) (name : List ℕ) (held kind : ℕ) (wide : List 
   pub room : words ≡ many
   pub name_long_lem : length name ≡ 16
   pub held_most : held ≤ 16
-  pub kind-most : kind ≤ 21
+  pub kind_most : kind ≤ 21
   pub wide_long : length wide ≡ 3
   pub wide_in : Small kind wide count
   pub count_most : count ≤ most_numbers kind
   pub begun_more : begun ≡ true → count < most_numbers kind
-  pub value-most : value ≤ largest kind count
+  pub value_most : value ≤ largest kind count
 
 abbrev pub Sized : Reading → ℕ → Type 0
 Sized now words = Sizes words now.name now.held now.kind now.wide now.count now.begun now.value

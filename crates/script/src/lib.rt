@@ -1,4 +1,7 @@
 // A list of calls, read byte by byte: a line's name and the numbers behind it, or what is wrong in it. What a line does is for others to say.
+
+#![tactic(auto)]
+
 ghost use Rattle.std.specs.Prelude.{ℕ, length, true, List, ◌≡◌};
 ghost use Rattle.model.specs.Program.{word};
 ghost use Rattle.script.specs.Script.{blank, many, next as next_of, last as last_of};

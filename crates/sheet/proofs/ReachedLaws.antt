@@ -35,9 +35,9 @@ use Rattle.sheet.specs.Sheet.{memory_left, recovered_memory}
 blank : List ℕ → List ℕ
 blank p = replicate (store_length (memory_words p) 1 1) 0
 
-blank-fits : (p : List ℕ) → check p ≡ Checked.Accepted → format_check p 1 1 (blank p) ≡ Checked.Accepted
+blank_fits : (p : List ℕ) → check p ≡ Checked.Accepted → format_check p 1 1 (blank p) ≡ Checked.Accepted
 unfolding blank format_check sizes_rule ◌and◌
-blank-fits p e =
+blank_fits p e =
     then_passed e (then_passed (must-true Refusal.StoreSize refl) (must-true Refusal.StoreContents (eq-eqb _ _ (length-replicate (store_length (memory_words p) 1 1) 0))))
 
 pub fresh-reached : (p : List ℕ) → check p ≡ Checked.Accepted → Reached p (formatted p 1 1) off
@@ -58,7 +58,7 @@ fresh-length p e =
 
 as_serial : (p : List ℕ) → check p ≡ Checked.Accepted → (cs : List Call) → AsSerialRun p 1 1 (formatted p 1 1) cs
 as_serial p e cs =
-    subst (λ (s : List ℕ). AsSerialRun p 1 1 s cs) (format-passed p 1 1 (blank p) (blank-fits p e)).store_is (demand3 p 1 1 (blank p) (blank-fits p e) cs)
+    subst (λ (s : List ℕ). AsSerialRun p 1 1 s cs) (format-passed p 1 1 (blank p) (blank_fits p e)).store_is (demand3 p 1 1 (blank p) (blank_fits p e) cs)
 
 -- ---- what was reached
 
@@ -120,7 +120,7 @@ module _ (p s : List ℕ) (d : Device) (h : Reached p s d) where
       → (word z 1 ≤ 1024) × (word z 5 ≡ memory_at) × (memory_at + word z 1 ≤ length z) × ((view z).memory ≡ recovered_memory p s)
   reached_copy z e =
       let shape = subst Shaped (sym e) (reached_shape (Boot ∷ steps (recovery_steps (view s))) off) in
-      (shape.most-memory, shape.memory_start, omega (arith, shape.length_is), ap (λ (x : List ℕ). (view x).memory) e ∙ sym by_steps)
+      (shape.most_memory, shape.memory_start, omega (arith, shape.length_is), ap (λ (x : List ℕ). (view x).memory) e ∙ sym by_steps)
 
 pub recovery_is_printed : RecoveryIsPrinted
 unfolding recovered_memory memory_left

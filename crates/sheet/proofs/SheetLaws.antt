@@ -16,7 +16,7 @@ use Rattle.device.specs.Result.{Result, of_call, of_outcome}
 use Rattle.device.specs.declared.CallResult.{CallResult}
 use Rattle.image.proofs.ImageLaws.{image_accepted}
 use Rattle.image.specs.Image.{program_of}
-use Rattle.model.proofs.TestLaws.{pick_true, pick-false, pick-case, same_or, clash, impossible}
+use Rattle.model.proofs.TestLaws.{pick_true, pick-false, pick_case, same_or, clash, impossible}
 use Rattle.model.specs.Calls.{Call, Cut, call}
 use Rattle.model.specs.Check.{check}
 use Rattle.model.specs.Device.{off, cut}
@@ -91,10 +91,10 @@ long_unread line l =
     let six : length line ≢ 6 = omega arith in
     pick-false _ _ (ne_eqb (length line) 1 one) ∙ pick-false _ _ (ne_eqb (length line) 6 six)
 
-unread-lines : (p s : List ℕ) (d : Device) (n : ℕ) (line : List ℕ) (lines : List (List ℕ)) → scheduled line ≡ none
+unread_lines : (p s : List ℕ) (d : Device) (n : ℕ) (line : List ℕ) (lines : List (List ℕ)) → scheduled line ≡ none
     → sheet_lines p s d n (line ∷ lines) ≡ unread_line n
 unfolding sheet_lines if_read
-unread-lines p s d n line lines e = rw e
+unread_lines p s d n line lines e = rw e
 
 read-lines : (p s : List ℕ) (d : Device) (n : ℕ) (line : List ℕ) (lines : List (List ℕ)) (c : Call) → scheduled line ≡ some c
     → sheet_lines p s d n (line ∷ lines) ≡ call_line p s d n c ++ sheet_lines p (settled s (call p s d c).write) (call p s d c).device (n + 1) lines
@@ -111,14 +111,14 @@ long_alike : (p s : List ℕ) (d : Device) (n : ℕ) (line line' : List ℕ) →
 unfolding lines_from
 long_alike p s d n line line' l l' [] =
     ap (sheet_lines p s d n) (some_line line (omega arith))
-    ∙ unread-lines p s d n line [] (long_unread line l)
-    ∙ sym (ap (sheet_lines p s d n) (some_line line' (omega arith)) ∙ unread-lines p s d n line' [] (long_unread line' l'))
+    ∙ unread_lines p s d n line [] (long_unread line l)
+    ∙ sym (ap (sheet_lines p s d n) (some_line line' (omega arith)) ∙ unread_lines p s d n line' [] (long_unread line' l'))
 long_alike p s d n line line' l l' (byte ∷ more) =
     same_or byte line_feed
     (λ e.
     ap (sheet_lines p s d n) (pick_true _ _ (eq-eqb byte line_feed e))
-    ∙ unread-lines p s d n line _ (long_unread line l)
-    ∙ sym (ap (sheet_lines p s d n) (pick_true _ _ (eq-eqb byte line_feed e)) ∙ unread-lines p s d n line' _ (long_unread line' l')))
+    ∙ unread_lines p s d n line _ (long_unread line l)
+    ∙ sym (ap (sheet_lines p s d n) (pick_true _ _ (eq-eqb byte line_feed e)) ∙ unread_lines p s d n line' _ (long_unread line' l')))
     (λ e.
     ap (sheet_lines p s d n) (pick-false _ _ (ne_eqb byte line_feed e))
     ∙ long_alike p s d n (line ++ (byte ∷ [])) (line' ++ (byte ∷ [])) (omega (arith, length-append line (byte ∷ []))) (omega (arith, length-append line' (byte ∷ []))) more
@@ -165,7 +165,7 @@ feeds-line p n byte h g xs e ends =
 -- no line is left
 no_lines : (p : List ℕ) (g : SheetState) → lines_left p g [] ≡ []
 unfolding lines_left sheet_lines
-no_lines p g = pick-case (λ (l : List ℕ). l ≡ []) (λ _. refl) (λ _. refl)
+no_lines p g = pick_case (λ (l : List ℕ). l ≡ []) (λ _. refl) (λ _. refl)
 
 -- the end of the schedule
 pub finishes_line : (p : List ℕ) (n : ℕ) (h g : SheetState) (xs : List ℕ) → 0 < length h.line → EndsLine p n h xs g → h.number + 1 < 2 ^ 64 → left p h [] ≡ xs
@@ -183,12 +183,12 @@ next_is n short = let differ : n ≢ 0xFFFFFFFFFFFFFFFF = omega arith in pick-fa
 
 next-most : (n : ℕ) → next_number n ≤ n + 1
 unfolding next_number
-next-most n = pick-case (λ (m : ℕ). m ≤ n + 1) (λ _. omega arith) (λ _. omega arith)
+next-most n = pick_case (λ (m : ℕ). m ≤ n + 1) (λ _. omega arith) (λ _. omega arith)
 
 module _ (p : List ℕ) (size : ℕ) (h : SheetState) (going : h.ended ≡ false) (state : State) where
   -- a line that can't be read
-  pub ends-unread : (d : Device) (z : List ℕ) → scheduled h.line ≡ none → state ≡ after_call d h.number true → EndsLine p size h (unread_line h.number) (holding state z)
-  ends-unread d z unread is =
+  pub ends_unread : (d : Device) (z : List ℕ) → scheduled h.line ≡ none → state ≡ after_call d h.number true → EndsLine p size h (unread_line h.number) (holding state z)
+  ends_unread d z unread is =
       rw is
       (record {
         ready = λ e. clash refl e;
@@ -197,7 +197,7 @@ module _ (p : List ℕ) (size : ℕ) (h : SheetState) (going : h.ended ≡ false
         text =
             λ short lines.
             going_lines p h going _
-            ∙ unread-lines p h.store h.device h.number h.line lines unread
+            ∙ unread_lines p h.store h.device h.number h.line lines unread
             ∙ sym (ap (λ (l : List ℕ). unread_line h.number ++ l) (ended-lines p (holding (after_call d h.number true) z) refl lines) ∙ append-nil (unread_line h.number));
       })
 
@@ -246,10 +246,10 @@ module _ (p : List ℕ) (size : ℕ) (h : SheetState) (going : h.ended ≡ false
 -- ---- the beginning
 
 -- only what is accepted is looked at
-checked-same : (c : Checked) (x y : List ℕ) → (c ≡ Checked.Accepted → x ≡ y) → if_checked c x ≡ if_checked c y
+checked_same : (c : Checked) (x y : List ℕ) → (c ≡ Checked.Accepted → x ≡ y) → if_checked c x ≡ if_checked c y
 unfolding if_checked
-checked-same Checked.Accepted x y e = e refl
-checked-same (Checked.Refused r) x y e = refl
+checked_same Checked.Accepted x y e = e refl
+checked_same (Checked.Refused r) x y e = refl
 
 pub begins-refused : (c : Checked) (p : List ℕ) (n : ℕ) (xs : List ℕ) (h : SheetState) (r : Refusal) → c ≡ Checked.Refused r → xs ≡ header ++ if_checked c []
     → h.ended ≡ true → h.number ≡ 1 → Begins c p n xs h
@@ -260,7 +260,7 @@ begins-refused c p n xs h r e text ended number =
       number = number;
       text =
           λ schedule.
-          ap (λ (l : List ℕ). header ++ l) (checked-same c _ [] (λ a. impossible (cc)))
+          ap (λ (l : List ℕ). header ++ l) (checked_same c _ [] (λ a. impossible (cc)))
           ∙ sym text
           ∙ sym (append-nil xs)
           ∙ ap (λ (l : List ℕ). xs ++ l) (sym (ended-lines p h ended (lines_from h.line schedule)));
@@ -281,10 +281,10 @@ begins-accepted c p s n xs state z e sized fits text is stored =
 
 -- ---- the sheet
 
-feeds-all : (p : List ℕ) (n : ℕ) (h : SheetState) (pieces : List Piece) (g : SheetState) → FeedsAll p n h pieces g → Ready p h n → Feeds p n h (all_fed pieces) (all_text pieces) g
+feeds_all : (p : List ℕ) (n : ℕ) (h : SheetState) (pieces : List Piece) (g : SheetState) → FeedsAll p n h pieces g → Ready p h n → Feeds p n h (all_fed pieces) (all_text pieces) g
 unfolding FeedsAll all_fed all_text
-feeds-all p n h [] g e ready = subst (λ (x : SheetState). Feeds p n h [] [] x) e (feeds_nothing p n h ready)
-feeds-all p n h (x ∷ xs) g (k, feeds, rest) ready = let fed = feeds ready in feeds_then fed (feeds-all p n k xs g rest fed.ready)
+feeds_all p n h [] g e ready = subst (λ (x : SheetState). Feeds p n h [] [] x) e (feeds_nothing p n h ready)
+feeds_all p n h (x ∷ xs) g (k, feeds, rest) ready = let fed = feeds ready in feeds_then fed (feeds_all p n k xs g rest fed.ready)
 
 pub texts_are_the_sheet : TextsAreTheSheet
 unfolding sheet
@@ -295,13 +295,13 @@ texts_are_the_sheet image words loaded loads n sized first h begins pieces g fee
     let accepted = ap check (loads.program e) ∙ image_accepted image (sym loads.checked ∙ e) in
     (accepted, sized.enough accepted) in
     let begun = begins fits in
-    let fed = feeds-all p n h pieces g feeds begun.ready in
+    let fed = feeds_all p n h pieces g feeds begun.ready in
     let number = begun.number in
     let schedule = all_fed pieces in
     sym
     (ap (λ (c : Checked). header ++ if_checked c (sheet_lines (program_of image) (formatted (program_of image) 1 1) off 1 (lines_from [] schedule))) (sym loads.checked)
     ∙ ap (λ (l : List ℕ). header ++ l)
-    (checked-same loaded.checked _ _ (λ e. ap (λ (x : List ℕ). sheet_lines x (formatted x 1 1) off 1 (lines_from [] schedule)) (sym (loads.program e))))
+    (checked_same loaded.checked _ _ (λ e. ap (λ (x : List ℕ). sheet_lines x (formatted x 1 1) off 1 (lines_from [] schedule)) (sym (loads.program e))))
     ∙ begun.text schedule
     ∙ ap (λ (l : List ℕ). first ++ left p h l) (sym (append-nil schedule))
     ∙ ap (λ (l : List ℕ). first ++ l) (fed.text (omega (arith, short, number)) [])

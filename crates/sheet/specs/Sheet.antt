@@ -1,7 +1,7 @@
 -- Document 02, N1, "Exam sheets from a schedule": from the bytes of program.img and of the schedule to the bytes of the sheet. A number
 -- below 256 is a byte; `code` is a character's. Assumes nothing.
 use Prim.Native.Char.{code}
-use Rattle.std.specs.Prelude.{ℕ, ◌+◌, ◌*◌, List, [], ◌∷◌, ◌++◌, eqb, leb, length}
+use Rattle.std.specs.Prelude.{ℕ, ◌+◌, ◌-◌, ◌*◌, ◌/◌, ◌%◌, List, [], ◌∷◌, ◌++◌, eqb, leb, ltb, length}
 use Rattle.std.proofs.Math.Option.{Option, none, some}
 use Rattle.image.specs.Image.{program_of, image_check}
 use Rattle.model.specs.Answer.{RefusalNumber, refusal}
@@ -17,9 +17,16 @@ use Rattle.model.specs.declared.Checked.{Checked}
 use Rattle.model.specs.declared.Device.{Device}
 use Rattle.model.specs.declared.Dropped.{Dropped}
 use Rattle.text.specs.Ascii.{ascii}
-use Rattle.text.specs.Text.{digit, decimal, spaced, hex_words}
+use Rattle.text.specs.Text.{space, decimal, spaced}
 
 -- ---- "b boot, s step, c cut, p, an event digit and four data digits, in hex of either case, unspaced"
+
+-- a byte's digit; 16 where it has none
+unfoldable pub digit : ℕ → ℕ
+digit byte =
+    pick (leb (code "0") byte and leb byte (code "9")) (byte - code "0")
+    (pick (leb (code "A") byte and leb byte (code "F")) (byte - code "A" + 10)
+    (pick (leb (code "a") byte and leb byte (code "f")) (byte - code "a" + 10) 16))
 
 unfoldable pub letter : ℕ → Option Call
 letter byte = pick (eqb byte (code "b")) (some Boot) (pick (eqb byte (code "s")) (some Step) (pick (eqb byte (code "c")) (some Cut) none))
@@ -54,6 +61,19 @@ last_line (byte ∷ bytes) = (byte ∷ bytes) ∷ []
 unfoldable pub lines_from : List ℕ → List ℕ → List (List ℕ)
 lines_from begun [] = last_line begun
 lines_from begun (byte ∷ bytes) = pick (eqb byte line_feed) (begun ∷ lines_from [] bytes) (lines_from (begun ++ (byte ∷ [])) bytes)
+
+-- ---- Words: "in four capital hex digits, all parted by single spaces"
+
+unfoldable pub hex_digit : ℕ → ℕ
+hex_digit n = pick (ltb n 10) (code "0" + n) (code "A" + (n - 10))
+
+unfoldable pub hex_word : ℕ → List ℕ
+hex_word w = hex_digit (w / 4096 % 16) ∷ hex_digit (w / 256 % 16) ∷ hex_digit (w / 16 % 16) ∷ hex_digit (w % 16) ∷ []
+
+-- each behind a space
+unfoldable pub hex_words : List ℕ → List ℕ
+hex_words [] = []
+hex_words (w ∷ ws) = space ∷ hex_word w ++ hex_words ws
 
 -- ---- The sheet's lines
 

@@ -31,25 +31,25 @@ pub record SheetRows : Type 0 where
   pub odd_count : SheetIs (image_of counting ++ (0 ∷ [])) "b\n" "call memory\n0 refused 1 0 0\n"
   pub missing_file : SheetIs [] "b\n" "call memory\n0 refused 1 0 0\n"
   -- "A program that the check refuses prints the header, then such a line with call 0, and no more.": T 33, an instruction
-  pub refused-program : SheetIs (image_of (set counting 1 33)) "B\n" "call memory\n0 refused 3 1 0\n"
-  pub refused-instruction : SheetIs (image_of (set counting 24 0x0200)) "b\nc\n" "call memory\n0 refused 5 1 1\n"
+  pub refused_program : SheetIs (image_of (set counting 1 33)) "B\n" "call memory\n0 refused 3 1 0\n"
+  pub refused_instruction : SheetIs (image_of (set counting 24 0x0200)) "b\nc\n" "call memory\n0 refused 5 1 1\n"
   -- no input at all, and a single line feed
   pub no_input : CountingSheetIs "" "call memory\n"
-  pub line_feed_lem : CountingSheetIs "\n" "call memory\n1 unread\n"
+  pub line-feed : CountingSheetIs "\n" "call memory\n1 unread\n"
   -- an unreadable call "ends the sheet": a capital letter, a CR, a space, a digit too many and too few, no digit
   pub capital : CountingSheetIs "b\nB\nc\n" "call memory\n2 unread\n"
   pub carriage_return : CountingSheetIs "b\r\nc\n" "call memory\n1 unread\n"
   pub spaced : CountingSheetIs "c\np 00000\nc\n" "call memory\n1 0000 0000\n2 unread\n"
   pub long_post : CountingSheetIs "p000000\nc\n" "call memory\n1 unread\n"
-  pub short-post : CountingSheetIs "p0000\nc\n" "call memory\n1 unread\n"
+  pub short_post : CountingSheetIs "p0000\nc\n" "call memory\n1 unread\n"
   pub no_digit : CountingSheetIs "p000g0\nc\n" "call memory\n1 unread\n"
   -- "A refused call prints its number, "refused", the refusal's number and its two place words": off, no such event, a full queue once the event
   -- has begun; on
-  pub refused-step : CountingSheetIs "s\nc\n" "call memory\n1 refused 22 0 0\n2 0000 0000\n"
+  pub refused_step : CountingSheetIs "s\nc\n" "call memory\n1 refused 22 0 0\n2 0000 0000\n"
   pub refused_post : CountingSheetIs "b\np10000\nc\n" "call memory\n2 refused 8 0 0\n3 0000 0000\n"
-  pub queue-full : CountingSheetIs "b\np00007\ns\ns\ns\ns\np00008\n" "call memory\n7 refused 21 0 0\n"
+  pub queue_full : CountingSheetIs "b\np00007\ns\ns\ns\ns\np00008\n" "call memory\n7 refused 21 0 0\n"
   -- N7: "prints the call's number, "dropped", event and data in decimal": that of the accepting step, which comes behind the head store. Where a cut
   -- comes between, no line tells it.
   pub dropped : CountingSheetIs "b\np01abc\ns\ns\ns\np00008\ns\ns\ns\ns\n" "call memory\n10 dropped 0 6844\n"
   pub dropped_and_cut : CountingSheetIs "b\np01abc\ns\ns\ns\np00008\ns\ns\ns\nc\n" "call memory\n10 0000 0000\n"
-  pub refused-boot : CountingSheetIs "b\nb\n" "call memory\n2 refused 26 0 0\n"
+  pub refused_boot : CountingSheetIs "b\nb\n" "call memory\n2 refused 26 0 0\n"

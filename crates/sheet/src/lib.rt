@@ -2,6 +2,9 @@
 // store and for a copy of it, and a text. `begin` prints the sheet's first lines into the text, `feed` those of the bytes of the schedule that
 // it takes, `finish` that of a last line without a line feed; the host writes the text out each time. That the texts, one behind the other,
 // are the sheet is said in specs/Printed.antt. No call has a `requires`.
+
+#![tactic(auto)]
+
 mod calls;
 mod printing;
 mod schedule;

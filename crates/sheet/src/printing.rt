@@ -1,12 +1,52 @@
 // The sheet's lines, each put at a place of the text; a function answers where what it put ends.
 ghost use Rattle.std.specs.Prelude.{◌+◌, ◌*◌, ◌≤◌, ◌<◌, length, [], ◌∷◌, ◌≡◌};
-ghost use Rattle.sheet.specs.Sheet.{memory_line, unread_line, refused_line, dropped_line, answer_line, if_checked};
+ghost use Rattle.sheet.specs.Sheet.{hex_digit, hex_word, hex_words, memory_line, unread_line, refused_line, dropped_line, answer_line, if_checked};
 ghost use Rattle.sheet.specs.Inside.{told_line, numbers_of};
 ghost use Rattle.text.specs.Puts.{Puts};
+ghost use Rattle.text.specs.Text.{space};
 
 use model::{Answer, Checked};
-use text::hex::hex_words;
 use text::{decimal, put, spaced};
+
+fn hex_digit(n: u16) -> u8
+    requires { n < 16 }
+    ensures { result ≡ hex_digit n }
+{
+    if n < 10 {
+        b'0' + n as u8
+    } else {
+        b'A' + (n - 10) as u8
+    }
+}
+
+// A word behind a space.
+fn hex_word(text: &mut [u8], at: usize, word: u16) -> usize
+    requires { at + 5 ≤ length text.old }
+    ensures { Puts text.old at text.new result (space ∷ hex_word word) }
+{
+    let bytes = [
+        b' ',
+        hex_digit(word / 4096 % 16),
+        hex_digit(word / 256 % 16),
+        hex_digit(word / 16 % 16),
+        hex_digit(word % 16),
+    ];
+    put(text, at, &bytes)
+}
+
+fn hex_words(text: &mut [u8], at: usize, words: &[u16]) -> usize
+    requires { at + 5 * length words.now ≤ length text.old }
+    ensures puts { Puts text.old at text.new result (hex_words words.now) }
+    ensures value { result ≡ at + 5 * length words.now }
+{
+    let mut end = at;
+    let mut i = 0;
+    while i < words.len() {
+        end = hex_word(text, end, words[i]);
+        i += 1;
+    }
+    end
+}
 
 // A cut: "the call's number in decimal and the words"
 pub fn memory_line(text: &mut [u8], at: usize, number: u64, memory: &[u16]) -> usize

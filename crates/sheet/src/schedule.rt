@@ -1,11 +1,35 @@
 // A line of the schedule: its bytes as they come, and the call that it is.
 ghost use Rattle.std.specs.Prelude.{ℕ, length, take, List, ◌≡◌};
-ghost use Rattle.sheet.specs.Sheet.{letter, posting, post_of, scheduled};
+ghost use Rattle.sheet.specs.Sheet.{digit, letter, posting, post_of, scheduled};
 ghost use Rattle.sheet.specs.Inside.{call_of, HoldsByte};
 ghost use Rattle.sheet.specs.Printed.{holding};
 
 use crate::{Scheduled, State};
-use text::hex::digit;
+
+// A byte's digit, "in hex of either case"; 16 where it has none.
+fn digit(byte: u8) -> u16
+    ensures { result ≡ digit byte }
+{
+    if byte < b'0' {
+        return 16;
+    }
+    if byte <= b'9' {
+        return (byte - b'0') as u16;
+    }
+    if byte < b'A' {
+        return 16;
+    }
+    if byte <= b'F' {
+        return (byte - b'A') as u16 + 10;
+    }
+    if byte < b'a' {
+        return 16;
+    }
+    if byte <= b'f' {
+        return (byte - b'a') as u16 + 10;
+    }
+    16
+}
 
 fn letter(byte: u8) -> Scheduled
     ensures { call_of result ≡ letter byte }

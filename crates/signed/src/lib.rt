@@ -1,4 +1,7 @@
 // Words read as two's complement: the order of JLT and the shift of SHR, which divides by a power of two and rounds down.
+
+#![tactic(auto)]
+
 ghost use Rattle.std.specs.Prelude.{◌<◌, ◌^◌, ◌≡◌, pos};
 ghost use Rattle.std.specs.Int.Signed.{mag, shr_z};
 ghost use Rattle.model.specs.Program.{signed, unsigned, shifted, less};

@@ -1,5 +1,8 @@
 // A step past its early checks: document 01's four cases, "first that applies". Each makes its own store, at most one, on the lent words.
 // A commit's stores in phases 1 and 2 are in copying.rt, a running body's in the crate body.
+
+#![tactic(auto)]
+
 ghost use Rattle.std.specs.Prelude.{ℕ, ◌+◌, ◌*◌, ◌≤◌, List, ◌≡◌};
 ghost use Rattle.model.specs.Device.{handler_step, drop_step, dropped_record, event_next, choose_step, place_step};
 ghost use Rattle.model.specs.Program.{word};

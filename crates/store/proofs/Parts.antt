@@ -16,16 +16,16 @@ word_part s a n i h = sym (get_or-take n (drop a s) i 0 h ∙ get_or-drop a s i 
 
 module _ (s : List ℕ) (h : Shaped s) where
   pub log-word : (i : ℕ) → i < 2 * word s 2 → word s (word s 6 + i) ≡ word (view s).log i
-  log-word i l = rw h.log-start (word_part s (log_at (word s 1)) (2 * word s 2) i l)
+  log-word i l = rw h.log_start (word_part s (log_at (word s 1)) (2 * word s 2) i l)
 
   pub queue-word : (i : ℕ) → i < 2 * (word s 3 + 1) → word s (word s 7 + i) ≡ word (view s).queue i
-  queue-word i l = rw h.queue-start (word_part s _ (2 * (word s 3 + 1)) i l)
+  queue-word i l = rw h.queue_start (word_part s _ (2 * (word s 3 + 1)) i l)
 
   -- the log part, as it is lent
   pub log_part : mid_of (word s 6) (word s 7 - word s 6) s ≡ (view s).log
   log_part =
       let e : word s 7 - word s 6 ≡ 2 * word s 2 = omega arith in
-      rw (e, h.log-start)
+      rw (e, h.log_start)
 
   -- the store when the log part is back, with one word written
   pub log_written : (i v : ℕ) (log : List ℕ)
@@ -35,4 +35,4 @@ module _ (s : List ℕ) (h : Shaped s) where
   log_written i v log l e =
       let inside : word s 7 ≤ length s = omega arith in
       let long : i < length (mid_of (word s 6) (word s 7 - word s 6) s) = rw (mid_len (word s 6) (word s 7) s inside) (omega arith) in
-      rw e (set_mid_at (word s 6) (word s 7 - word s 6) i s v long ∙ ap (λ (a : ℕ). set s (a + i) v) h.log-start)
+      rw e (set_mid_at (word s 6) (word s 7 - word s 6) i s v long ∙ ap (λ (a : ℕ). set s (a + i) v) h.log_start)

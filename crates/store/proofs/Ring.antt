@@ -7,7 +7,7 @@ use native.Mathlib.Omega.{arith}
 use borrow.Author.Tests.{ltb-true, ltb-false}
 use lib.Dec.{ltb}
 use Rattle.model.proofs.RingLaws.{Forward, forward_is, Around, ring_index}
-use Rattle.model.proofs.TestLaws.{pick-case}
+use Rattle.model.proofs.TestLaws.{pick_case}
 use Rattle.model.specs.Program.{word}
 use Rattle.model.specs.Store.{forward, ring_word, index, queue_at}
 use Rattle.model.specs.Test.{pick}
@@ -18,7 +18,7 @@ Wrapped ring place r = ((place < ring) × (r ≡ place)) ⊎ ((ring ≤ place) �
 
 pub wrapped : (ring place r : ℕ) → r ≡ pick (ltb place ring) place (place - ring) → Wrapped ring place r
 wrapped ring place r e =
-    pick-case (λ (x : ℕ). r ≡ x → Wrapped ring place r) (λ below same. inl (ltb-true _ _ below, same)) (λ not-below same. inr (ltb-false _ _ not-below, same)) e
+    pick_case (λ (x : ℕ). r ≡ x → Wrapped ring place r) (λ below same. inl (ltb-true _ _ below, same)) (λ not-below same. inr (ltb-false _ _ not-below, same)) e
 
 pub slot_ahead : (q u i r : ℕ) → u ≤ q → i ≤ q → r ≡ pick (ltb (u + i) (q + 1)) (u + i) (u + i - (q + 1)) → r ≡ forward q u i
 slot_ahead q u i r l m e = go (forward q u i) (forward_is q u i l m) (wrapped (q + 1) (u + i) r e)

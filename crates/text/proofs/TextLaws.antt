@@ -10,7 +10,7 @@ use borrow.Author.Tests.{lt-ltb, le-ltb, leb-true, leb-false, ltb-false}
 use lib.Dec.{leb}
 use lib.ListN.{length, take, length-append}
 use Rattle.io.specs.Digits.{last_digits, IsDigitCount}
-use Rattle.model.proofs.TestLaws.{pick-case, pick_true, pick-false}
+use Rattle.model.proofs.TestLaws.{pick_case, pick_true, pick-false}
 use Rattle.text.specs.Puts.{Puts}
 use Rattle.text.specs.Text.{space, decimal_of, decimal, hex_word, hex_words}
 
@@ -84,11 +84,11 @@ few_digits n r small (least, most, fewest) = by_test (leb r 20) refl
 length_of : (m k n : ℕ) → n < 10 ^ suc k → length (decimal_of m n) ≤ suc k
 unfolding decimal_of
 length_of zero k n h = omega arith
-length_of (suc m) zero n h = pick-case (λ (l : List ℕ). length l ≤ 1) (λ _. omega arith) (λ e. absurd (omega (arith, pow-suc 10 0, ltb-false n 10 e)))
+length_of (suc m) zero n h = pick_case (λ (l : List ℕ). length l ≤ 1) (λ _. omega arith) (λ e. absurd (omega (arith, pow-suc 10 0, ltb-false n 10 e)))
 length_of (suc m) (suc k) n h =
     let power = pow-suc 10 (suc k) in
     let less : n / 10 < 10 ^ suc k = omega arith in
-    pick-case (λ (l : List ℕ). length l ≤ suc (suc k)) (λ _. omega arith) (λ _. simp length-append (omega (arith, length_of m k (n / 10) less)))
+    pick_case (λ (l : List ℕ). length l ≤ suc (suc k)) (λ _. omega arith) (λ _. simp length-append (omega (arith, length_of m k (n / 10) less)))
 
 pub decimal-length : (k n : ℕ) → n < 10 ^ suc k → length (decimal n) ≤ suc k
 unfolding decimal

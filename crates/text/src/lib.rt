@@ -1,4 +1,7 @@
 // Text, put at a place of a lent slice of bytes; a function answers where what it put ends.
+
+#![tactic(auto)]
+
 ghost use Rattle.std.specs.Prelude.{◌+◌, ◌≤◌, length};
 ghost use Rattle.text.specs.Text.{decimal as decimal_of, spaced as spacedOf};
 ghost use Rattle.text.specs.Puts.{Puts};

@@ -1,10 +1,13 @@
 // The lines of a text, each as six numbers: what is wrong in it, its label, its statement and the words behind that.
+
+#![tactic(auto)]
+
 ghost use Rattle.std.specs.Prelude.{◌+◌, ◌*◌, ◌<◌, ◌≤◌, eqb, length, take, ◌++◌, ◌≡◌};
 ghost use Rattle.tokens.specs.Tokens.{start as start_of, numbers as numbers_of, line_feed, line_count as lineCountOf};
 ghost use Rattle.tokens.specs.Reads.{Small, Takes, Reads};
 ghost use Rattle.model.specs.Test.{pick};
 
-mod line;
+pub mod line;
 pub mod statements;
 pub mod uses;
 

@@ -1,5 +1,8 @@
 // The host's totals: bodies committed, events accepted, stores made. A step tells what is added: its answer a body, its answer and the
 // handler before it the events of a burst, the word that it stored a store.
+
+#![tactic(auto)]
+
 ghost use Rattle.std.specs.Prelude.{◌≡◌};
 ghost use Rattle.model.specs.Calls.{more_by, one_if, is_commit, accepted_events};
 ghost use Rattle.model.specs.Device.{burst_length};

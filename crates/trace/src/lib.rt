@@ -1,4 +1,7 @@
 // What is printed of a call, as docs/PLAY.md says, put at a place of the text; a function answers where what it put ends.
+
+#![tactic(auto)]
+
 ghost use Rattle.std.specs.Prelude.{◌+◌, ◌≤◌, length, get_or, []};
 ghost use Rattle.text.specs.Puts.{Puts};
 ghost use Rattle.trace.specs.Trace.{columns, cells, line, call_line, wrong_texts, unread_line, header};

@@ -1,4 +1,7 @@
 // What is wished: the form, and which parts.
+
+#![tactic(auto)]
+
 #[derive(Drop)]
 pub struct Wishes {
     pub tabs: bool,

@@ -1,5 +1,8 @@
 // Device states, answers and refusals as words and back, for a boundary that no enum crosses. specs/Words.antt has both tables.
 // Every contract is an equation for all inputs: of 26 words it is told whether they are a device state's.
+
+#![tactic(auto)]
+
 ghost use Rattle.std.specs.Prelude.{◌≡◌};
 ghost use Rattle.words.specs.Words.{flag, kind, number, place_words, handler_words, device_words, with_burst};
 ghost use Rattle.words.specs.Words.{body_of, place_of, is_place, handler_of, is_handler, is_record, are_records, burst_of, is_state, state_of};

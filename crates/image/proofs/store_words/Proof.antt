@@ -13,7 +13,7 @@ shared-slice-read-memory : tie.Need-shared-slice-read-memory
 shared-slice-read-memory c = search rules
 
 returns-2 : tie.Need-returns-2
-returns-2 c = record { most = zero-le; enough = λ e. let s = check-passed _ e in let most = s.rows.contents.most-memory in absurd (omega arith) }
+returns-2 c = record { most = zero-le; enough = λ e. let s = check-passed _ e in let most = s.rows.contents.most_memory in absurd (omega arith) }
 
 cast-result : tie.Need-overflow-cast-result
 cast-result c = search rules

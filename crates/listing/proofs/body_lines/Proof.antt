@@ -36,7 +36,7 @@ body-requires : tie.Need-body-requires invariant-loop decreases-loop
 body-requires c κs =
     let inside : c.before.before.loop.number < bodies c.before.before.before.before.before.before.before.args.program.now = omega (arith, c.before.loop-test.true, c.before.before.loop.invariant.0) in
     let contents = c.before.before.before.before.before.before.before.requires.1.rows.contents in
-    (omega (arith, c.before.before.loop.invariant.2, c.before.before.loop.invariant.3, inside, contents.most-tasks, contents.most-events), c.before.before.before.before.before.before.before.requires.1.body c.before.before.loop.number inside)
+    (omega (arith, c.before.before.loop.invariant.2, c.before.before.loop.invariant.3, inside, contents.most_tasks, contents.most_events), c.before.before.before.before.before.before.before.requires.1.body c.before.before.loop.number inside)
 
 add-number : tie.Need-overflow-add-number invariant-loop decreases-loop
 add-number c = search rules
@@ -62,7 +62,7 @@ returns c =
     let p = c.before.before.before.before.before.before.args.program.now in
     let contents = c.before.before.before.before.before.before.requires.1.rows.contents in
     let last : c.before.loop.number ≡ bodies p = omega (arith, c.loop-test.false, c.before.loop.invariant.0, c.before.loop.invariant.1) in
-    (puts_as c.before.loop.invariant.4 (ap (body_lines p) last), omega (arith, c.before.loop.invariant.3, last, contents.most-tasks, contents.most-events))
+    (puts_as c.before.loop.invariant.4 (ap (body_lines p) last), omega (arith, c.before.loop.invariant.3, last, contents.most_tasks, contents.most_events))
 
 pub body-lines-spec : {M : Type 1} → statement M
 body-lines-spec =

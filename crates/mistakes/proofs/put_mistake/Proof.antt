@@ -29,9 +29,12 @@ slice-aggregate-put-3 c = search rules
 put-requires-3 : tie.Need-put-requires-3
 put-requires-3 c κs = search rules
 
+same_length : tie.Need-same-length
+same_length c = search rules
+
 returns : tie.Need-returns
 unfolding told
-returns c = puts_then (puts_then (puts_then (puts_then c.before.before.before.before.before.before.before.before.before.before.put.ensures c.before.before.before.before.before.before.before.before.decimal.ensures.0) c.before.before.before.before.before.put2.ensures) c.before.before.before.put-text.ensures.0) c.put3.ensures
+returns c = puts_then (puts_then (puts_then (puts_then c.before.before.before.before.before.before.before.before.before.before.before.before.before.before.before.before.before.before.before.before.put.ensures c.before.before.before.before.before.before.before.before.before.before.before.before.before.before.before.before.decimal.ensures.0) c.before.before.before.before.before.before.before.before.before.before.before.put2.ensures) c.before.before.before.before.before.before.before.put-text.ensures.0) c.before.before.put3.ensures
 
 pub put-mistake-spec : {M : Type 1} → statement M
 put-mistake-spec =
@@ -45,4 +48,5 @@ put-mistake-spec =
     put-text-requires
     slice-aggregate-put-3
     put-requires-3
+    same_length
     returns)

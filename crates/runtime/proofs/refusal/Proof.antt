@@ -1,5 +1,5 @@
 -- `refusal` meets its contract, by the answer. Assumes nothing.
-use Rattle.model.specs.Calls.{unlessRefused}
+use Rattle.model.specs.Calls.{unless_refused}
 use borrow.Author.Rules.{rules}
 use Rattle.runtime.proofs.refusal.Statement.{statement}
 use Rattle.runtime.proofs.refusal.Tie as tie
@@ -26,31 +26,31 @@ enum-known-answer : tie.Need-enum-known-answer
 enum-known-answer c = search rules
 
 returns : tie.Need-returns
-unfolding unlessRefused
+unfolding unless_refused
 returns c = simp c.enum_told.given.1
 
 returns-2 : tie.Need-returns-2
-unfolding unlessRefused
+unfolding unless_refused
 returns-2 c = simp c.enum-told2.given.1
 
 returns-3 : tie.Need-returns-3
-unfolding unlessRefused
+unfolding unless_refused
 returns-3 c = simp c.enum-told3.given.1
 
 returns-4 : tie.Need-returns-4
-unfolding unlessRefused
+unfolding unless_refused
 returns-4 c = simp c.enum-told4.given.1
 
 returns-5 : tie.Need-returns-5
-unfolding unlessRefused
+unfolding unless_refused
 returns-5 c = simp c.enum-told5.given.1
 
 returns-6 : tie.Need-returns-6
-unfolding unlessRefused
+unfolding unless_refused
 returns-6 c = simp c.enum-told6.given.1
 
 returns-7 : tie.Need-returns-7
-unfolding unlessRefused
+unfolding unless_refused
 returns-7 c = simp c.before.answer.given.1
 
 pub refusal-spec : {M : Type 1} → statement M

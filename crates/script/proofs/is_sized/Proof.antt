@@ -19,12 +19,12 @@ the_rest c few fewer =
       room = c.before.before.before.before.before.before.before.before.before.before.before.if1.false;
       name_long_lem = search rules;
       held_most = c.before.before.before.before.before.before.before.before.before.if2.false;
-      kind-most = c.before.before.before.before.before.before.before.if3.false;
+      kind_most = c.before.before.before.before.before.before.before.if3.false;
       wide_long = search rules;
       wide_in = c.before.before.are-small.ensures.0 (passed refl c.before.if5.false);
       count_most = few;
       begun_more = fewer;
-      value-most = omega (arith, c.before.before.before.before.before.before.largest.ensures, c.before.before.before.before.if4.false);
+      value_most = omega (arith, c.before.before.before.before.before.before.largest.ensures, c.before.before.before.before.if4.false);
     }
 
 returns : tie.Need-returns
@@ -34,13 +34,13 @@ returns-2 : tie.Need-returns-2
 returns-2 c = (λ e. clash e refl, λ sizes. absurd (omega (arith, sizes.held_most, c.if2.true)))
 
 returns-3 : tie.Need-returns-3
-returns-3 c = (λ e. clash e refl, λ sizes. absurd (omega (arith, sizes.kind-most, c.if3.true)))
+returns-3 c = (λ e. clash e refl, λ sizes. absurd (omega (arith, sizes.kind_most, c.if3.true)))
 
 largest-requires : tie.Need-largest-requires
 largest-requires c κs = search rules
 
 returns-4 : tie.Need-returns-4
-returns-4 c = (λ e. clash e refl, λ sizes. absurd (omega (arith, sizes.value-most, c.before.before.largest.ensures, c.if4.true)))
+returns-4 c = (λ e. clash e refl, λ sizes. absurd (omega (arith, sizes.value_most, c.before.before.largest.ensures, c.if4.true)))
 
 are-small-requires : tie.Need-are-small-requires
 are-small-requires c κs = search rules

@@ -15,12 +15,12 @@ returns c =
         room = room;
         name_long_lem = refl;
         held_most = zero-le;
-        kind-most = zero-le;
+        kind_most = zero-le;
         wide_long = refl;
         wide_in = λ i h. absurd (omega arith);
         count_most = zero-le;
         begun_more = λ e. clash e refl;
-        value-most = zero-le;
+        value_most = zero-le;
       };
     }
 

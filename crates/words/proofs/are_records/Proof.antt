@@ -2,7 +2,7 @@
 use Rattle.words.specs.Words.{are_records, is_record}
 use Rattle.model.proofs.TestLaws.{both_zero}
 use Rattle.model.specs.Test.{pick, ◌and◌}
-use borrow.Author.Tests.{not-true, not_false}
+use borrow.Author.Tests.{not-true, not-false}
 use mathlib.Core.Path.{sym, ◌∙◌}
 use Rattle.words.proofs.Parts.{and_skip}
 use borrow.Author.Rules.{rules}
@@ -61,7 +61,7 @@ is-record-requires-2 c κs = search rules
 
 returns-3 : tie.Need-returns-3
 unfolding are_records ◌and◌
-returns-3 c = simp (sym c.before.before.before.before.before.is-record.ensures ∙ not_false _ c.before.before.before.before.if2.false, sym c.before.is-record2.ensures ∙ not-true _ c.if3.true)
+returns-3 c = simp (sym c.before.before.before.before.before.is-record.ensures ∙ not-false _ c.before.before.before.before.if2.false, sym c.before.is-record2.ensures ∙ not-true _ c.if3.true)
 
 element-copy-out-is-record-5 : tie.Need-element-copy-out-is-record-5
 element-copy-out-is-record-5 c = search rules
@@ -74,7 +74,7 @@ is-record-requires-3 c κs = search rules
 
 returns-4 : tie.Need-returns-4
 unfolding are_records ◌and◌
-returns-4 c = simp (sym c.before.before.before.before.before.before.before.before.before.is-record.ensures ∙ not_false _ c.before.before.before.before.before.before.before.before.if2.false, sym c.before.before.before.before.before.is-record2.ensures ∙ not_false _ c.before.before.before.before.if3.false, sym c.before.is-record3.ensures ∙ not-true _ c.if4.true)
+returns-4 c = simp (sym c.before.before.before.before.before.before.before.before.before.is-record.ensures ∙ not-false _ c.before.before.before.before.before.before.before.before.if2.false, sym c.before.before.before.before.before.is-record2.ensures ∙ not-false _ c.before.before.before.before.if3.false, sym c.before.is-record3.ensures ∙ not-true _ c.if4.true)
 
 element-copy-out-is-record-7 : tie.Need-element-copy-out-is-record-7
 element-copy-out-is-record-7 c = search rules
@@ -90,9 +90,9 @@ unfolding are_records
 returns-5 c =
     c.is-record4.ensures
     ∙ sym
-    (and_skip _ (sym c.before.before.before.before.before.before.before.before.before.before.before.before.is-record.ensures ∙ not_false _ c.before.before.before.before.before.before.before.before.before.before.before.if2.false)
-    ∙ and_skip _ (sym c.before.before.before.before.before.before.before.before.is-record2.ensures ∙ not_false _ c.before.before.before.before.before.before.before.if3.false)
-    ∙ and_skip _ (sym c.before.before.before.before.is-record3.ensures ∙ not_false _ c.before.before.before.if4.false))
+    (and_skip _ (sym c.before.before.before.before.before.before.before.before.before.before.before.before.is-record.ensures ∙ not-false _ c.before.before.before.before.before.before.before.before.before.before.before.if2.false)
+    ∙ and_skip _ (sym c.before.before.before.before.before.before.before.before.is-record2.ensures ∙ not-false _ c.before.before.before.before.before.before.before.if3.false)
+    ∙ and_skip _ (sym c.before.before.before.before.is-record3.ensures ∙ not-false _ c.before.before.before.if4.false))
 
 pub are-records-spec : {M : Type 1} → statement M
 are-records-spec =

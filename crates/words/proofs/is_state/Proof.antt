@@ -1,7 +1,7 @@
 -- `words::is_state` meets its contract: the definition's four tests in their order. Assumes nothing.
 use Rattle.words.specs.Words.{is_state}
 use Rattle.model.specs.Test.{◌and◌}
-use borrow.Author.Tests.{lt-leb, le-leb, not-true, not_false}
+use borrow.Author.Tests.{lt-leb, le-leb, not-true, not-false}
 use mathlib.Core.Path.{sym, ◌∙◌}
 use borrow.Author.Rules.{rules}
 use Rattle.words.proofs.is_state.Statement.{statement}
@@ -50,7 +50,7 @@ is-handler-requires c κs = search rules
 
 returns-3 : tie.Need-returns-3
 unfolding is_state ◌and◌
-returns-3 c = simp (le-leb _ _ c.before.before.before.before.before.before.before.before.before.before.before.before.if1.false, sym c.before.before.before.before.before.before.is-place.ensures ∙ not_false _ c.before.before.before.before.before.if2.false, sym c.before.is-handler.ensures ∙ not-true _ c.if3.true)
+returns-3 c = simp (le-leb _ _ c.before.before.before.before.before.before.before.before.before.before.before.before.if1.false, sym c.before.before.before.before.before.before.is-place.ensures ∙ not-false _ c.before.before.before.before.before.if2.false, sym c.before.is-handler.ensures ∙ not-true _ c.if3.true)
 
 element-copy-out-are-records : tie.Need-element-copy-out-are-records
 element-copy-out-are-records c = search rules
@@ -60,7 +60,7 @@ are-records-requires c κs = search rules
 
 returns-4 : tie.Need-returns-4
 unfolding is_state ◌and◌
-returns-4 c = simp (le-leb _ _ c.before.before.before.before.before.before.before.before.before.before.before.before.before.before.if1.false, sym c.before.before.before.before.before.before.before.before.is-place.ensures ∙ not_false _ c.before.before.before.before.before.before.before.if2.false, sym c.before.before.before.is-handler.ensures ∙ not_false _ c.before.before.if3.false, c.are-records.ensures)
+returns-4 c = simp (le-leb _ _ c.before.before.before.before.before.before.before.before.before.before.before.before.before.before.if1.false, sym c.before.before.before.before.before.before.before.before.is-place.ensures ∙ not-false _ c.before.before.before.before.before.before.before.if2.false, sym c.before.before.before.is-handler.ensures ∙ not-false _ c.before.before.if3.false, c.are-records.ensures)
 
 pub is-state-spec : {M : Type 1} → statement M
 is-state-spec =

@@ -37,7 +37,7 @@ enum-known-place-2 c = search rules
 
 save-rest-requires : tie.Need-save-rest-requires
 unfolding body_at instruction_at
-save-rest-requires c κs = let g = rw c.before.before.place2.given.1 at c.before.before.before.before.before.before.requires.1.1.1 in (c.before.before.before.before.before.before.requires.0.shaped.shaped, (pair_left c.before.before.before.before.before.before.args.program.now c.before.before.before.before.before.before.args.store.now _ c.before.before.before.before.before.before.requires.0 _ _ c.before.before.place2.given.1, omega (arith, g.instruction.place, g.instruction.body.usable.most-instructions)))
+save-rest-requires c κs = let g = rw c.before.before.place2.given.1 at c.before.before.before.before.before.before.requires.1.1.1 in (c.before.before.before.before.before.before.requires.0.shaped.shaped, (pair_left c.before.before.before.before.before.before.args.program.now c.before.before.before.before.before.before.args.store.now _ c.before.before.before.before.before.before.requires.0 _ _ c.before.before.place2.given.1, omega (arith, g.instruction.place, g.instruction.body.usable.most_instructions)))
 
 returns-2 : tie.Need-returns-2
 returns-2 c = absurd (c.before.before.before.before.before.requires.1.0 _ c.before.enum_told.given.1)

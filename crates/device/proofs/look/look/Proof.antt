@@ -1,7 +1,7 @@
 -- `look::look` meets its contract. Each answer is the first refusal in a row of checks; what the checks before give is
 -- what the next one asks. Assumes nothing.
 use mathlib.Core.Path.{sym, ◌∙◌}
-use borrow.Author.Tests.{not-true, not_false}
+use borrow.Author.Tests.{not-true, not-false}
 use Rattle.model.proofs.Passed.{control-passed, look-passed}
 use Rattle.model.specs.Device.{look}
 use Rattle.model.specs.Store.{view}
@@ -63,7 +63,7 @@ returns-5 c = answered (look-passed c.before.before.before.before.before.before.
 
 returns-6 : tie.Need-returns-6
 unfolding look
-returns-6 c = answered (look-passed c.before.before.before.before.before.before.before.before.before.before.before.before.before.before.before.args.program.now c.before.before.before.before.before.before.before.before.before.before.before.before.before.before.before.args.store.now (device_with c.before.before.before.before.before.before.before.before.before.before.before.before.before.before.before.args.core c.before.before.before.before.before.before.before.before.before.before.before.before.before.before.before.args.registers.now c.before.before.before.before.before.before.before.before.before.before.before.before.before.before.before.args.handler c.before.before.before.before.before.before.before.before.before.before.before.before.before.before.before.args.burst.now)) (must-accepts _ (not_false _ c.if2.false) ∙ must_go _ _ (passed c.before.before.before.device-sound.ensures c.before.before.if1.false) ∙ then_go _ _ c.before.before.before.before.before.before.early.ensures c.before.before.before.before.enum-told5.given.1 ∙ then_go _ _ c.before.before.before.before.before.before.before.before.before.store_rule.ensures.0 c.before.before.before.before.before.before.before.enum-told3.given.1 ∙ then_go _ _ c.before.before.before.before.before.before.before.before.before.before.before.before.contents.ensures.0 c.before.before.before.before.before.before.before.before.before.before.enum_told.given.1)
+returns-6 c = answered (look-passed c.before.before.before.before.before.before.before.before.before.before.before.before.before.before.before.args.program.now c.before.before.before.before.before.before.before.before.before.before.before.before.before.before.before.args.store.now (device_with c.before.before.before.before.before.before.before.before.before.before.before.before.before.before.before.args.core c.before.before.before.before.before.before.before.before.before.before.before.before.before.before.before.args.registers.now c.before.before.before.before.before.before.before.before.before.before.before.before.before.before.before.args.handler c.before.before.before.before.before.before.before.before.before.before.before.before.before.before.before.args.burst.now)) (must-accepts _ (not-false _ c.if2.false) ∙ must_go _ _ (passed c.before.before.before.device-sound.ensures c.before.before.if1.false) ∙ then_go _ _ c.before.before.before.before.before.before.early.ensures c.before.before.before.before.enum-told5.given.1 ∙ then_go _ _ c.before.before.before.before.before.before.before.before.before.store_rule.ensures.0 c.before.before.before.before.before.before.before.enum-told3.given.1 ∙ then_go _ _ c.before.before.before.before.before.before.before.before.before.before.before.before.contents.ensures.0 c.before.before.before.before.before.before.before.before.before.before.enum_told.given.1)
 
 pub look_spec : {M : Type 1} → statement M
 look_spec =

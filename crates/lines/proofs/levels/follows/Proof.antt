@@ -38,7 +38,7 @@ unfolding follows pick ◌and◌
 returns-2 c = search tests
 
 add-if3 : tie.Need-overflow-add-if3
-add-if3 c = let most = c.before.before.before.requires.0.named-lines c.before.before.before.args.row c.before.before.before.requires.1 in omega arith
+add-if3 c = let most = c.before.before.before.requires.0.named_lines c.before.before.before.args.row c.before.before.before.requires.1 in omega arith
 
 returns-3 : tie.Need-returns-3
 unfolding follows pick ◌and◌

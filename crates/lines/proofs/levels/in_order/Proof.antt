@@ -37,7 +37,7 @@ shared-slice-read-from : tie.Need-shared-slice-read-from invariant-loop decrease
 shared-slice-read-from c = search rules
 
 add-from : tie.Need-overflow-add-from invariant-loop decreases-loop
-add-from c = let most = c.before.before.before.before.before.before.requires.named-lines c.before.before.before.before.loop.row (omega arith) in omega arith
+add-from c = let most = c.before.before.before.before.before.before.requires.named_lines c.before.before.before.before.loop.row (omega arith) in omega arith
 
 mul_next : tie.Need-overflow-mul-next invariant-loop decreases-loop
 mul_next c = search rules

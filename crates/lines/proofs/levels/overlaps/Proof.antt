@@ -50,7 +50,7 @@ returns c =
     let r = c.before.before.loop.lowest in
     let all : c.before.before.loop.row ≡ rows t = omega arith in
     let least = subst (λ (i : ℕ). Least (SharedAmong t i) 1048576 r) all c.before.before.loop.invariant.2 in
-    let (n, x, is, level, refuses) = overlap_refuses t r least c.before.before.before.before.requires.named-lines c.if1.true in
+    let (n, x, is, level, refuses) = overlap_refuses t r least c.before.before.before.before.requires.named_lines c.if1.true in
     let line_is : n ≡ r / 65536 = omega arith in
     let level-is : x ≡ r % 65536 = omega arith in
     subst (λ (m : ℕ). Checked.Refused (Refusal.LinesOverlap m (r % 65536)) ≡ line_rules t (overlap_rule t)) line_is

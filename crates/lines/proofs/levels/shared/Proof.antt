@@ -67,7 +67,7 @@ place-requires c κs = search rules
 returns-3 : tie.Need-returns-3
 returns-3 c =
     let t = c.before.before.before.before.before.before.before.before.before.before.args.table.now in
-    let most = c.before.before.before.before.before.before.before.before.before.before.requires.0.named-lines c.before.before.before.before.before.before.before.before.before.before.args.row c.before.before.before.before.before.before.before.before.before.before.requires.1.0 in
+    let most = c.before.before.before.before.before.before.before.before.before.before.requires.0.named_lines c.before.before.before.before.before.before.before.before.before.before.args.row c.before.before.before.before.before.before.before.before.before.before.requires.1.0 in
     let typed = c.before.before.shared-slice-known6.given (4 * c.before.before.before.before.before.before.before.before.before.before.args.other + 1) in
     rw c.place.ensures
     (shared_from t c.before.before.before.before.before.before.before.before.before.before.args.row c.before.before.before.before.before.before.before.before.before.before.args.other _ 1048576
@@ -103,7 +103,7 @@ place-requires-2 c κs = search rules
 returns-5 : tie.Need-returns-5
 returns-5 c =
     let t = c.before.before.before.before.before.before.before.before.before.before.args.table.now in
-    let most = c.before.before.before.before.before.before.before.before.before.before.requires.0.named-lines c.before.before.before.before.before.before.before.before.before.before.args.row c.before.before.before.before.before.before.before.before.before.before.requires.1.0 in
+    let most = c.before.before.before.before.before.before.before.before.before.before.requires.0.named_lines c.before.before.before.before.before.before.before.before.before.before.args.row c.before.before.before.before.before.before.before.before.before.before.requires.1.0 in
     let typed = c.before.before.shared-slice-known7.given (4 * c.before.before.before.before.before.before.before.before.before.before.args.row + 1) in
     rw c.place2.ensures
     (shared_from t c.before.before.before.before.before.before.before.before.before.before.args.row c.before.before.before.before.before.before.before.before.before.before.args.other _ 1048576

@@ -30,7 +30,7 @@ line-requires : tie.Need-line-requires invariant-loop decreases-loop
 line-requires c κs =
     let inside : c.before.before.loop.number < instructions c.before.before.before.before.before.before.args.program.now c.before.before.before.before.before.before.args.body = omega (arith, c.before.loop-test.true, c.before.before.loop.invariant.0) in
     let body = c.before.before.before.before.before.before.requires.1.body in
-    (omega (arith, c.before.before.loop.invariant.0, c.before.before.loop.invariant.2, c.before.before.loop.invariant.3, inside, body.usable.most-instructions), (record { body = body; place = inside }, c.before.before.before.before.before.before.requires.1.known c.before.before.loop.number inside))
+    (omega (arith, c.before.before.loop.invariant.0, c.before.before.loop.invariant.2, c.before.before.loop.invariant.3, inside, body.usable.most_instructions), (record { body = body; place = inside }, c.before.before.before.before.before.before.requires.1.known c.before.before.loop.number inside))
 
 add-number : tie.Need-overflow-add-number invariant-loop decreases-loop
 add-number c = search rules
@@ -55,7 +55,7 @@ returns : tie.Need-returns invariant-loop decreases-loop
 returns c =
     let p = c.before.before.before.before.before.args.program.now in
     let last : c.before.loop.number ≡ instructions p c.before.before.before.before.before.args.body = omega (arith, c.loop-test.false, c.before.loop.invariant.0, c.before.loop.invariant.1) in
-    (puts_as c.before.loop.invariant.4 (ap (instruction_lines p c.before.before.before.before.before.args.body) last), omega (arith, c.before.loop.invariant.3, last, c.before.before.before.before.before.requires.1.body.usable.most-instructions))
+    (puts_as c.before.loop.invariant.4 (ap (instruction_lines p c.before.before.before.before.before.args.body) last), omega (arith, c.before.loop.invariant.3, last, c.before.before.before.before.before.requires.1.body.usable.most_instructions))
 
 pub lines-spec : {M : Type 1} → statement M
 lines-spec =

@@ -1,7 +1,7 @@
 -- `lines::operand` meets its contract. Assumes nothing.
 use mathlib.Core.Path.{sym}
 use native.Mathlib.Omega.{arith}
-use borrow.Author.Tests.{not-true, not_false}
+use borrow.Author.Tests.{not-true, not-false}
 use Rattle.model.proofs.TestLaws.{pick_true, pick-false}
 use Rattle.text.proofs.TextLaws.{puts_nothing, puts_as}
 use borrow.Author.Rules.{rules}
@@ -18,7 +18,7 @@ same_length : tie.Need-same-length
 same_length c = search rules
 
 returns-2 : tie.Need-returns-2
-returns-2 c = (puts_as c.before.before.target.ensures.0 (sym (pick_true _ _ (not_false _ c.before.before.before.before.if1.false))), c.before.before.target.ensures.1)
+returns-2 c = (puts_as c.before.before.target.ensures.0 (sym (pick_true _ _ (not-false _ c.before.before.before.before.if1.false))), c.before.before.target.ensures.1)
 
 pub operand-spec : {M : Type 1} → statement M
 operand-spec =

@@ -1,7 +1,7 @@
 -- `lines::register` meets its contract. Assumes nothing.
 use mathlib.Core.Path.{sym}
 use native.Mathlib.Omega.{arith}
-use borrow.Author.Tests.{not-true, not_false}
+use borrow.Author.Tests.{not-true, not-false}
 use Rattle.listing.specs.Listing.{register}
 use Rattle.model.proofs.TestLaws.{pick_true, pick-false}
 use Rattle.text.proofs.TextLaws.{puts_nothing, puts_as}
@@ -25,7 +25,7 @@ same_length c = search rules
 
 returns-2 : tie.Need-returns-2
 unfolding register spaced
-returns-2 c = (puts_as c.before.before.numbered.ensures.0 (sym (pick_true _ _ (not_false _ c.before.before.before.before.before.if1.false))), omega (arith, c.before.before.numbered.ensures.1))
+returns-2 c = (puts_as c.before.before.numbered.ensures.0 (sym (pick_true _ _ (not-false _ c.before.before.before.before.before.if1.false))), omega (arith, c.before.before.numbered.ensures.1))
 
 pub register-spec : {M : Type 1} → statement M
 register-spec =

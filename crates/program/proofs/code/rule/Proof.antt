@@ -5,7 +5,7 @@ use mathlib.Core.Bool.{Bool}
 use mathlib.Core.List.{List}
 use mathlib.Core.Path.{◌≡◌}
 use borrow.Author.Rules.{rules}
-use borrow.Author.Tests.{not-true, not_false}
+use borrow.Author.Tests.{not-true, not-false}
 use lib.Dec.{ltb}
 use Rattle.model.specs.Check.{fields_fit, instruction_rule}
 use Rattle.model.specs.Program.{memory_words, tasks, instructions, opcode, code, operand, bounds}
@@ -84,7 +84,7 @@ returns-2 c =
     answered (rule-passed _ _ _ pre.place)
     (rw (
       ← fits c.before.before.before,
-      not_false fields_fit.result if1.false,
+      not-false fields_fit.result if1.false,
       ← last_fits.ensures,
       not-true last_fits.result c.if2.true,
     ))
@@ -99,9 +99,9 @@ returns-3 c =
     answered (rule-passed _ _ _ pre.place)
     (rw (
       ← fits c.before.before.before,
-      not_false fields_fit.result if1.false,
+      not-false fields_fit.result if1.false,
       ← last_fits.ensures,
-      not_false last_fits.result c.if2.false,
+      not-false last_fits.result c.if2.false,
     ))
 
 pub rule-spec : {M : Type 1} → statement M

@@ -29,12 +29,12 @@ returns-2 c =
         room = sizes.room;
         name_long_lem = sizes.name_long_lem;
         held_most = sizes.held_most;
-        kind-most = sizes.kind-most;
+        kind_most = sizes.kind_most;
         wide_long = sizes.wide_long;
         wide_in = sizes.wide_in;
         count_most = sizes.count_most;
         begun_more = λ _. c.before.before.requires;
-        value-most = rw (sym c.before.largest.ensures) c.if1.false;
+        value_most = rw (sym c.before.largest.ensures) c.if1.false;
       };
     }
     (sym (pick_true _ _ (rw (numbers-counted c.before.before.args.reading words sizes, sym c.before.largest.ensures) (le-leb _ _ c.if1.false))))

@@ -49,12 +49,12 @@ returns-3 c =
         room = sizes.room;
         name_long_lem = simp length-set sizes.name_long_lem;
         held_most = omega arith;
-        kind-most = sizes.kind-most;
+        kind_most = sizes.kind_most;
         wide_long = sizes.wide_long;
         wide_in = sizes.wide_in;
         count_most = sizes.count_most;
         begun_more = sizes.begun_more;
-        value-most = sizes.value-most;
+        value_most = sizes.value_most;
       };
     }
     (sym (pick-false _ _ (rw long (sym c.before.before.before.begins-comment.ensures ∙ c.before.before.if1.false)) ∙ pick_true _ _ (rw long (lt-ltb _ _ c.before.if2.false))))

@@ -43,12 +43,12 @@ returns-2 c =
         room = sizes.room;
         name_long_lem = sizes.name_long_lem;
         held_most = sizes.held_most;
-        kind-most = rw known (number-most (take now.held now.name));
+        kind_most = rw known (number-most (take now.held now.name));
         wide_long = sizes.wide_long;
         wide_in = λ i h. absurd (omega arith);
         count_most = zero-le;
         begun_more = λ e. clash e refl;
-        value-most = zero-le;
+        value_most = zero-le;
       };
     }
     (sym (pick-false _ _ (rw (sym known) (ne_eqb _ _ c.if1.false))))

@@ -33,7 +33,7 @@ returns c =
     }
 
 cast-words : tie.Need-overflow-cast-words
-cast-words c = omega (arith, c.before.before.before.requires.0.value-most, narrow c.before.before.before.args.reading.kind c.before.before.before.args.reading.count (sym c.before.is_IsWide.ensures ∙ c.if1.false))
+cast-words c = omega (arith, c.before.before.before.requires.0.value_most, narrow c.before.before.before.args.reading.kind c.before.before.before.args.reading.count (sym c.before.is_IsWide.ensures ∙ c.if1.false))
 
 mul_words : tie.Need-overflow-mul-words
 mul_words c = omega (arith, room_word c.before.before.before.requires.0 c.before.before.before.requires.1)

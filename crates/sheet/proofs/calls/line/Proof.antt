@@ -3,7 +3,7 @@ use mathlib.Core.Path.{refl, sym, ap, ◌∙◌}
 use lib.ListN.{length}
 use Rattle.model.specs.Burst.{single}
 use Rattle.model.specs.Calls.{Boot, Step, Cut, Post, call}
-use Rattle.sheet.proofs.SheetLaws.{ends-unread, ends-cut, ends_other}
+use Rattle.sheet.proofs.SheetLaws.{ends_unread, ends-cut, ends_other}
 use Rattle.sheet.specs.Inside.{call_of}
 use Rattle.sheet.specs.Printed.{holding}
 use Rattle.sheet.specs.Sheet.{call_line}
@@ -155,7 +155,7 @@ returns-5 c =
       short = c.before.before.unread.ensures.short;
       ends =
           λ reached sized going.
-          ends-unread c.before.before.before.before.before.before.before.before.before.before.before.before.before.before.args.program.now (length c.before.before.before.before.before.before.before.before.before.before.before.before.before.before.args.copy.now) h going c.before.before.unread.result.state state.device _ (sym c.before.before.before.before.before.before.held3.ensures ∙ ap call_of c.before.before.before.before.enum-told4.given.1) c.before.before.unread.ensures.state;
+          ends_unread c.before.before.before.before.before.before.before.before.before.before.before.before.before.before.args.program.now (length c.before.before.before.before.before.before.before.before.before.before.before.before.before.before.args.copy.now) h going c.before.before.unread.result.state state.device _ (sym c.before.before.before.before.before.before.held3.ensures ∙ ap call_of c.before.before.before.before.enum-told4.given.1) c.before.before.unread.ensures.state;
     }
 
 pub line-spec : {M : Type 1} → statement M

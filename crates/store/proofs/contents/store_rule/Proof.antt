@@ -103,7 +103,7 @@ returns-7 c =
       eq-eqb _ _ c5.if5.false,
       eq-eqb _ _ c3.if6.false,
       passed c8.sizes.ensures c7.if4.false,
-      ne_eqb _ _ (λ e. c.if7.true (e ∙ sym c.before.log-start.ensures)),
+      ne_eqb _ _ (λ e. c.if7.true (e ∙ sym c.before.log_start.ensures)),
     ))
 
 shared-slice-read-if8 : tie.Need-shared-slice-read-if8
@@ -137,8 +137,8 @@ returns-8 c =
       eq-eqb _ _ c8.if5.false,
       eq-eqb _ _ c6.if6.false,
       passed c11.sizes.ensures c10.if4.false,
-      eq-eqb _ _ (c3.if7.false ∙ c4.log-start.ensures),
-      ne_eqb _ _ (λ e. c.if8.true (e ∙ sym c.before.queue-start.ensures)),
+      eq-eqb _ _ (c3.if7.false ∙ c4.log_start.ensures),
+      ne_eqb _ _ (λ e. c.if8.true (e ∙ sym c.before.queue_start.ensures)),
     ))
 
 end-requires : tie.Need-end-requires
@@ -174,8 +174,8 @@ returns-9 c =
       eq-eqb _ _ c10.if5.false,
       eq-eqb _ _ c8.if6.false,
       passed c13.sizes.ensures c12.if4.false,
-      eq-eqb _ _ (c5.if7.false ∙ c6.log-start.ensures),
-      eq-eqb _ _ (c2.if8.false ∙ c3.queue-start.ensures),
+      eq-eqb _ _ (c5.if7.false ∙ c6.log_start.ensures),
+      eq-eqb _ _ (c2.if8.false ∙ c3.queue_start.ensures),
       ne_eqb _ _ (λ e. c.if9.true (e ∙ sym c.before.end.ensures)),
     ))
 
@@ -202,8 +202,8 @@ returns-10 c =
       eq-eqb _ _ c10.if5.false,
       eq-eqb _ _ c8.if6.false,
       passed c13.sizes.ensures c12.if4.false,
-      eq-eqb _ _ (c5.if7.false ∙ c6.log-start.ensures),
-      eq-eqb _ _ (c2.if8.false ∙ c3.queue-start.ensures),
+      eq-eqb _ _ (c5.if7.false ∙ c6.log_start.ensures),
+      eq-eqb _ _ (c2.if8.false ∙ c3.queue_start.ensures),
       eq-eqb _ _ (c.if9.false ∙ c.before.end.ensures),
     ))
 

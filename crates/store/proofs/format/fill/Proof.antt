@@ -74,8 +74,8 @@ returns c =
     let c10 = c4.before.before.before.before.before.before in
     let a = c10.args in
     filled a.program.now a.log-pairs a.queue-records (c4.clear.ensures ∙ ap (λ (n : ℕ). replicate n 0) c10.requires.1.1)
-    c.before.log-start.ensures
-    c.queue-start.ensures
+    c.before.log_start.ensures
+    c.queue_start.ensures
 
 pub fill_spec : {M : Type 1} → statement M
 fill_spec =

@@ -72,7 +72,7 @@ end-requires c κs =
     let c3 = c2.before in
     let c5 = c3.before.before in
     let w = c5.check.ensures.1 c3.enum_told.given.1 in
-    (w.rows.contents.most-memory, sizes-passed _ _ (passed c2.sizes.ensures c.before.if1.false))
+    (w.rows.contents.most_memory, sizes-passed _ _ (passed c2.sizes.ensures c.before.if1.false))
 
 cast-if2 : tie.Need-overflow-cast-if2
 cast-if2 c = search rules

@@ -51,7 +51,7 @@ returns c =
       store =
           log_written c.before.before.before.before.before.before.before.args.store.now c.before.before.before.before.before.before.before.requires.0 (2 * c.before.before.before.before.before.before.before.args.pair) c.before.before.before.before.before.before.before.args.address c.before.before.save-address.new.0
           (omega arith) c.before.before.save-address.ensures;
-      stored = rw c.before.before.before.before.before.before.before.requires.0.log-start;
+      stored = rw c.before.before.before.before.before.before.before.requires.0.log_start;
     }
 
 pub write-address-spec : {M : Type 1} → statement M

@@ -54,7 +54,7 @@ returns c =
       store =
           log_written c.before.before.before.before.before.before.before.args.store.now c.before.before.before.before.before.before.before.requires.0 (2 * c.before.before.before.before.before.before.before.args.pair + 1) c.before.before.before.before.before.before.before.args.value c.before.before.save-value.new.0
           (omega arith) c.before.before.save-value.ensures;
-      stored = rw c.before.before.before.before.before.before.before.requires.0.log-start;
+      stored = rw c.before.before.before.before.before.before.before.requires.0.log_start;
     }
 
 pub write-value-spec : {M : Type 1} → statement M

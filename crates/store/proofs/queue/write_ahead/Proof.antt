@@ -50,7 +50,7 @@ returns : tie.Need-returns
 unfolding settled stored_word
 returns c =
     let s = c.before.before.before.before.args.store.now in
-    let is = ap (λ (n : ℕ). n + c.around.result) c.before.before.before.before.requires.0.queue-start ∙ word_ahead _ _ _ _ c.before.before.before.before.requires.1.0 c.before.before.before.before.requires.1.1 c.around.ensures s in
+    let is = ap (λ (n : ℕ). n + c.around.result) c.before.before.before.before.requires.0.queue_start ∙ word_ahead _ _ _ _ c.before.before.before.before.requires.1.0 c.before.before.before.before.requires.1.1 c.around.ensures s in
     record { store = ap (λ (i : ℕ). set s i c.before.before.before.before.args.value) is; stored = ap Stored.Word is }
 
 pub write-ahead-spec : {M : Type 1} → statement M
