@@ -16,7 +16,7 @@ mod rules;
 mod statement;
 
 // A line of a text: what is wrong in it, its label, its statement, and the words behind that.
-#[derive(Drop)]
+#[derive(Clone, Copy)]
 pub struct Line {
     pub wrong: u64,
     pub label: u64,
@@ -27,14 +27,14 @@ pub struct Line {
 }
 
 // A mistake: its line, counted from 1, and its number; 0 and 0 where there is none.
-#[derive(Drop)]
+#[derive(Clone, Copy)]
 pub struct Mistake {
     pub line: usize,
     pub number: u64,
 }
 
 // The first mistake, and how many words there are where there is none.
-#[derive(Drop)]
+#[derive(Clone, Copy)]
 pub struct Assembled {
     pub mistake: Mistake,
     pub count: usize,

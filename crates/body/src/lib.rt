@@ -16,7 +16,7 @@ mod ending;
 mod fetching;
 
 // What fetching a body's instruction gives: a refusal, or what the instruction does.
-#[derive(Drop)]
+#[derive(Clone, Copy)]
 enum Fetched {
     Refused(Refusal),
     Does(Effect),

@@ -5,7 +5,7 @@
 use libc::{STDERR_FILENO, STDIN_FILENO, STDOUT_FILENO};
 
 // What was asked for. A name is an argument's number, and 0 where it is standard input or output.
-#[derive(Drop)]
+#[derive(Clone, Copy)]
 pub struct Command {
     pub help: bool,
     pub wrong: bool,
@@ -143,7 +143,7 @@ fn open_input(number: usize) -> i32 {
 }
 
 // What was read, so many bytes, and whether it could be.
-#[derive(Drop)]
+#[derive(Clone, Copy)]
 pub struct Got {
     pub count: usize,
     pub ok: bool,

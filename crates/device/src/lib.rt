@@ -17,7 +17,7 @@ pub mod results;
 
 // The device apart from its registers and its handler. What a step of a body, of a commit or of choosing changes is here and in the
 // registers, for its handler is at rest.
-#[derive(Drop)]
+#[derive(Clone, Copy)]
 pub struct Core {
     pub on: bool,
     pub count: u16,
@@ -25,7 +25,7 @@ pub struct Core {
 }
 
 // What one call answers, which word it stored, and the device after it, apart from its registers and its handler.
-#[derive(Drop)]
+#[derive(Clone, Copy)]
 pub struct CoreResult {
     pub answer: Answer,
     pub stored: Stored,
@@ -33,7 +33,7 @@ pub struct CoreResult {
 }
 
 // What one step answers, which word it stored, and the device after it, apart from its registers and its burst.
-#[derive(Drop)]
+#[derive(Clone, Copy)]
 pub struct StepResult {
     pub answer: Answer,
     pub stored: Stored,
@@ -42,7 +42,7 @@ pub struct StepResult {
 }
 
 // What one call answers, which word it stored, and the device after it.
-#[derive(Drop)]
+#[derive(Clone, Copy)]
 pub struct CallResult {
     pub answer: Answer,
     pub stored: Stored,

@@ -73,7 +73,7 @@ fn feed(
 }
 
 // The state after a part of the schedule, and whether there is more to read for it.
-#[derive(Drop)]
+#[derive(Clone, Copy)]
 struct Turn {
     state: State,
     more: bool,

@@ -10,7 +10,7 @@ ghost use Rattle.image.specs.Image.{Loads, Reads, StoreWords};
 use model::{Checked, Refusal};
 
 // What the check says of an image, and how many words it has where the check accepts it.
-#[derive(Drop)]
+#[derive(Clone, Copy)]
 pub struct Loaded {
     pub checked: Checked,
     pub length: usize,

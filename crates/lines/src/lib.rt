@@ -15,7 +15,7 @@ mod levels;
 mod rows;
 
 // What raising a line posts, as its table says.
-#[derive(Drop)]
+#[derive(Clone, Copy)]
 pub enum Posting {
     Refused(Refusal),
     Nothing,
@@ -23,14 +23,14 @@ pub enum Posting {
 }
 
 // What raising a line answers: that nothing is posted; or as the post does, or the table's check where it refuses.
-#[derive(Drop)]
+#[derive(Clone, Copy)]
 pub enum RaiseAnswer {
     Nothing,
     Answered(Answer),
 }
 
 // What raising a line answers, and the device after it.
-#[derive(Drop)]
+#[derive(Clone, Copy)]
 pub struct RaiseResult {
     pub answer: RaiseAnswer,
     pub device: Device,

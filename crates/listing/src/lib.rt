@@ -18,7 +18,7 @@ use text::put;
 mod lines;
 
 // What the check says of the words, and where the text ends: 0 where they are refused.
-#[derive(Drop)]
+#[derive(Clone, Copy)]
 pub struct Listed {
     pub checked: Checked,
     pub end: usize,

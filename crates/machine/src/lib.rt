@@ -13,7 +13,7 @@ mod kinds;
 
 // What a call left, beside the lent store: six answer words, of which the last is the index of the word that was stored, a run's steps, and the
 // device's words and the totals.
-#[derive(Drop)]
+#[derive(Clone, Copy)]
 pub struct Called {
     pub answer: [u16; 6],
     pub steps: u32,

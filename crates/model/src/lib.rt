@@ -4,14 +4,14 @@
 #![tactic(auto)]
 
 // What a step runs: a task or an event, with its own number.
-#[derive(Drop)]
+#[derive(Clone, Copy)]
 pub enum Body {
     Task(u16),
     Event(u16),
 }
 
 // The handler of an interrupt. The burst that it works on stands beside it, in the device.
-#[derive(Drop)]
+#[derive(Clone, Copy)]
 pub enum Handler {
     Resting,
     // How many records its burst has, and how many of its stores are made.
@@ -23,7 +23,7 @@ pub enum Handler {
 }
 
 // Where the device stands.
-#[derive(Drop)]
+#[derive(Clone, Copy)]
 pub enum Place {
     // No body runs. In phases 1 and 2: how many of the stores that follow the commit store are made.
     Free(u16),
@@ -34,7 +34,7 @@ pub enum Place {
 }
 
 // The device state, which a cut loses. The burst is that of a handler at work, event and data in turn, and 0 behind its last record.
-#[derive(Drop)]
+#[derive(Clone, Copy)]
 pub struct Device {
     pub on: bool,
     pub registers: [u16; 8],
@@ -57,7 +57,7 @@ impl Device {
 }
 
 // Why a call is refused. specs/Answer.antt has each case's number and place.
-#[derive(Drop)]
+#[derive(Clone, Copy)]
 pub enum Refusal {
     ProgramLength,
     ProgramMark,
@@ -82,21 +82,21 @@ pub enum Refusal {
 }
 
 // What a check finds.
-#[derive(Drop)]
+#[derive(Clone, Copy)]
 pub enum Checked {
     Accepted,
     Refused(Refusal),
 }
 
 // What a handler dropped for its burst: nothing, or a record's event and data.
-#[derive(Drop)]
+#[derive(Clone, Copy)]
 pub enum Dropped {
     Nothing,
     Record(u16, u16),
 }
 
 // What a call answers.
-#[derive(Drop)]
+#[derive(Clone, Copy)]
 pub enum Answer {
     Done,
     Chosen(Body),
@@ -108,7 +108,7 @@ pub enum Answer {
 }
 
 // An instruction, by its opcode, with the fields that it uses.
-#[derive(Drop)]
+#[derive(Clone, Copy)]
 pub enum Instruction {
     Set(u16, u16),
     Move(u16, u16),
@@ -131,7 +131,7 @@ pub enum Instruction {
 }
 
 // What an instruction does, memory and log aside. An address is k + b as a whole number.
-#[derive(Drop)]
+#[derive(Clone, Copy)]
 pub enum Effect {
     // A register becomes a value.
     Compute(u16, u16),
@@ -149,21 +149,21 @@ pub enum Effect {
 }
 
 // What the search of the log ends with.
-#[derive(Drop)]
+#[derive(Clone, Copy)]
 pub enum Found {
     Pair(u16),
     Nothing,
 }
 
 // Which word of the store a step stored: none, or the word with this index. Where a word's value stays the same it is told, too.
-#[derive(Drop)]
+#[derive(Clone, Copy)]
 pub enum Stored {
     Nothing,
     Word(u16),
 }
 
 // The host's totals: bodies committed, events accepted, stores made.
-#[derive(Drop)]
+#[derive(Clone, Copy)]
 pub struct Totals {
     pub committed: u32,
     pub accepted: u32,
@@ -171,7 +171,7 @@ pub struct Totals {
 }
 
 // How a run ends.
-#[derive(Drop)]
+#[derive(Clone, Copy)]
 pub enum Ended {
     Spent,
     Refused(Refusal),

@@ -3,7 +3,7 @@ use command::{is_option, is_word};
 use wishes::Wishes;
 
 // Options, and the arguments that are names, by their numbers.
-#[derive(Drop)]
+#[derive(Clone, Copy)]
 pub struct Asked {
     pub help: bool,
     pub wrong: bool,

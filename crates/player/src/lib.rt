@@ -9,7 +9,7 @@ mod changes;
 use script::Reading;
 
 // What is held of a machine, beside lent words: how many of them are its program's and its store's; its device's words; the totals.
-#[derive(Drop)]
+#[derive(Clone, Copy)]
 pub struct Held {
     pub program: usize,
     pub store: usize,
@@ -19,7 +19,7 @@ pub struct Held {
 
 // What is held between two bytes of the list, beside lent words: the machine, and the one that was kept last; L and Q; the number of the line that is
 // being read, and that line; whether the calls have begun, and whether the list has ended.
-#[derive(Drop)]
+#[derive(Clone, Copy)]
 pub struct State {
     pub machine: Held,
     pub kept: Held,
@@ -32,14 +32,14 @@ pub struct State {
 }
 
 // The state after a line, and where its text ends.
-#[derive(Drop)]
+#[derive(Clone, Copy)]
 pub struct Progress {
     pub state: State,
     pub end: usize,
 }
 
 // The state after bytes of the list: how many were taken, and how many bytes of text they printed.
-#[derive(Drop)]
+#[derive(Clone, Copy)]
 pub struct Fed {
     pub state: State,
     pub taken: usize,

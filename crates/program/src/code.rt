@@ -10,7 +10,7 @@ use super::rows;
 use model::{Checked, Instruction, Refusal};
 
 // What the fields a, b and k of an instruction are below.
-#[derive(Drop)]
+#[derive(Clone, Copy)]
 pub struct Below(pub u16, pub u16, pub u32);
 
 // The opcode table, its columns "opcode" and "uses".

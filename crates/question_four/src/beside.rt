@@ -4,7 +4,7 @@ use super::node::Node;
 use super::{cells, listed, node, text, words};
 use model::{Answer, Body, Dropped, Stored};
 
-#[derive(Drop)]
+#[derive(Clone, Copy)]
 pub struct Runs {
     pub right: Node,
     pub mistaken: Node,

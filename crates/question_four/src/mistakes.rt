@@ -4,7 +4,7 @@ use super::node::Node;
 use super::{node, words};
 use model::{Answer, Dropped, Stored};
 
-#[derive(Drop)]
+#[derive(Clone, Copy)]
 pub enum Mistake {
     Nothing,
     HeadPlusOneOnRedo,
@@ -14,7 +14,7 @@ pub enum Mistake {
     EventInOpenTransaction,
 }
 
-#[derive(Drop)]
+#[derive(Clone, Copy)]
 pub struct Kept {
     // A store was made too early; the one that it should have followed is still to be made.
     pub early: bool,

@@ -5,7 +5,7 @@ use super::mistakes::{Kept, Mistake};
 use device::{CallResult, calls};
 use model::{Answer, Device, Stored};
 
-#[derive(Drop)]
+#[derive(Clone, Copy)]
 pub struct Node {
     pub answer: Answer,
     pub stored: Stored,

@@ -14,7 +14,7 @@ use model::{Checked, Device, Refusal};
 use runtime;
 
 // How a recovery ended: after so many steps, by a refusal, or not in the steps that were allowed.
-#[derive(Drop)]
+#[derive(Clone, Copy)]
 pub enum Recovering {
     Recovered(u32),
     Refused(Refusal),

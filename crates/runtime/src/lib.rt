@@ -19,7 +19,7 @@ use steps;
 
 // What steps leave: the answer of the last one, refused or not, and which word it stored; how many were made and how they ended; the
 // device, apart from its registers and burst, and the totals.
-#[derive(Drop)]
+#[derive(Clone, Copy)]
 struct CoreRunResult {
     pub last: Answer,
     pub stored: Stored,
@@ -31,7 +31,7 @@ struct CoreRunResult {
 }
 
 // What a run answers, with the whole device and the totals after it.
-#[derive(Drop)]
+#[derive(Clone, Copy)]
 pub struct RunResult {
     pub steps: u32,
     pub ended: Ended,

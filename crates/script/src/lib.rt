@@ -13,7 +13,7 @@ mod numbers;
 
 // A line as far as it is read: what is wrong in it, 0 for nothing; whether it is a comment; the first bytes of its name, and the name's number once
 // it has ended, 0 before; how many numbers have ended, and those that may be larger than a word; whether a number is being read, and its value so far.
-#[derive(Drop)]
+#[derive(Clone, Copy)]
 pub struct Reading {
     pub wrong: u64,
     pub comment: bool,

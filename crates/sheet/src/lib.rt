@@ -21,7 +21,7 @@ use text::put;
 const LONGEST: usize = 5141;
 
 // A line of the schedule.
-#[derive(Drop)]
+#[derive(Clone, Copy)]
 pub enum Scheduled {
     Boot,
     Step,
@@ -32,7 +32,7 @@ pub enum Scheduled {
 
 // What is held between two bytes of the schedule, beside the store: the device, the next call's number, the bytes of its line so far (of seven
 // and more seven are held), and whether the sheet has ended.
-#[derive(Drop)]
+#[derive(Clone, Copy)]
 pub struct State {
     pub device: Device,
     pub number: u64,
@@ -42,14 +42,14 @@ pub struct State {
 }
 
 // The state after a call, and where its line ends in the text.
-#[derive(Drop)]
+#[derive(Clone, Copy)]
 pub struct Printed {
     pub state: State,
     pub end: usize,
 }
 
 // The state after bytes of the schedule: how many were taken, and how many bytes of text they printed.
-#[derive(Drop)]
+#[derive(Clone, Copy)]
 pub struct Fed {
     pub state: State,
     pub taken: usize,

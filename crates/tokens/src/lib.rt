@@ -12,7 +12,7 @@ pub mod statements;
 pub mod uses;
 
 // What the word is that is being read: none; a number's first 0; a decimal number; a hex number, of which only 0x is there; one with digits; a name.
-#[derive(Drop)]
+#[derive(Clone, Copy)]
 pub enum Kind {
     Nothing,
     Zero,
@@ -23,7 +23,7 @@ pub enum Kind {
 }
 
 // A line, as far as it is read.
-#[derive(Drop)]
+#[derive(Clone, Copy)]
 pub struct Reading {
     pub wrong: u64,
     pub label: u64,
@@ -106,7 +106,7 @@ fn count(text: &[u8]) -> usize
 }
 
 // How many lines are in the room, and the line that is being read.
-#[derive(Drop)]
+#[derive(Clone, Copy)]
 pub struct Progress {
     pub done: usize,
     pub reading: Reading,

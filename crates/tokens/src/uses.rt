@@ -2,7 +2,7 @@
 ghost use Rattle.std.specs.Prelude.{◌≤◌, ◌≡◌};
 ghost use Rattle.tokens.specs.Uses.{uses_a, uses_b, uses_k, is_jump};
 
-#[derive(Drop)]
+#[derive(Clone, Copy)]
 pub struct Uses {
     pub a: bool,
     pub b: bool,

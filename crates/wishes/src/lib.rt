@@ -2,7 +2,7 @@
 
 #![tactic(auto)]
 
-#[derive(Drop)]
+#[derive(Clone, Copy)]
 pub struct Wishes {
     pub tabs: bool,
     pub memory: bool,
