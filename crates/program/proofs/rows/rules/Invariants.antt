@@ -1,0 +1,18 @@
+-- `rows::rules` meets its contract. The invariant: what is left of the rows decides the answer. The measure is how many are left.
+-- Assumes nothing.
+use Prim.Native.Nat.{◌-◌, ◌≤◌, zero-le}
+use mathlib.Core.Path.{◌≡◌, refl, ◌∙◌}
+use native.Mathlib.Nat.{sub-zero}
+use native.Mathlib.Omega.{arith}
+use borrow.Author.Rules.{rules}
+use Rattle.model.specs.Check.{row_rule}
+use Rattle.model.specs.Program.{bodies}
+use Rattle.model.specs.Test.{each}
+use Rattle.model.proofs.TestLaws.{each_none, each_stop, each_go}
+use Rattle.program.proofs.rows.rules.Given as goal
+
+abbrev pub invariant-loop-body_number : goal.invariant-loop-body_number
+invariant-loop-body_number l = (l.bodies ≡ bodies l.program) × (l.body_number ≤ l.bodies) × (each (row_rule l.program) l.body_number (l.bodies - l.body_number) ≡ each (row_rule l.program) 0 l.bodies)
+
+abbrev pub decreases-loop-body_number : goal.decreases-loop-body_number
+decreases-loop-body_number l = l.bodies - l.body_number
