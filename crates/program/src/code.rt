@@ -14,6 +14,7 @@ use model::{Checked, Instruction, Refusal};
 pub struct Below(pub u16, pub u16, pub u32);
 
 // The opcode table, its columns "opcode" and "uses".
+#[tactic(auto, unfolding(model::specs::Program::decode))]
 pub fn decode(opcode: u8, field_a: u16, field_b: u16, operand: u16) -> Instruction
     ensures { result ≡ decode opcode field_a field_b operand }
 {
@@ -41,6 +42,7 @@ pub fn decode(opcode: u8, field_a: u16, field_b: u16, operand: u16) -> Instructi
 
 // The fields' bounds by opcode, for a program of so many memory words and tasks and a body of so many instructions. An unused
 // field is below 1; of GO in an event and DONE in a task no k will do.
+#[tactic(auto, unfolding(model::specs::Program::bounds, model::specs::Test::pick))]
 pub fn bounds(memory_words: u16, tasks: u16, instructions: u16, is_task: bool, opcode: u8) -> Below
     ensures { as_bounds result ≡ bounds memory_words tasks instructions is_task opcode }
 {
@@ -60,6 +62,7 @@ pub fn bounds(memory_words: u16, tasks: u16, instructions: u16, is_task: bool, o
 }
 
 // "A body's last instruction is JUMP, GO or DONE."
+#[tactic(auto, unfolding(model::specs::Program::may_be_last, model::specs::Test::pick))]
 pub fn may_be_last(opcode: u8) -> bool
     ensures { result ≡ may_be_last opcode }
 {

@@ -5,45 +5,40 @@ use borrow.Author.Rules.{rules}
 use Rattle.model.specs.Check.{check}
 use Rattle.model.proofs.ProgramLaws.{check-passed}
 use Rattle.model.proofs.TestLaws.{answered, then_stop, then_go}
+use Rattle.std.proofs.Common.{sym}
 use Rattle.program.proofs.check.Goals as goal
 
-pub returns-in_default : goal.returns-in_default
+pub returns-in_default-clause-value : goal.returns-in_default-clause-value
 unfolding check
-returns-in_default c =
+returns-in_default-clause-value c =
     let contents = c.contents-found in
-    record { value = (answered (check-passed _) (then_stop _ _ contents.ensures.value c.in_default.is)).0; given = (answered (check-passed _) (then_stop _ _ contents.ensures.value c.in_default.is)).1 }
+    then_stop _ _ contents.ensures.value c.in_default.is
 
 pub rows-found-requires : goal.rows-found-requires
 rows-found-requires c = c.contents-found.ensures.given c.in-Accepted.is
 
-pub returns-in_default-found : goal.returns-in_default-found
+pub returns-in_default-found-clause-value : goal.returns-in_default-found-clause-value
 unfolding check
-returns-in_default-found c =
+returns-in_default-found-clause-value c =
     let contents = c.contents-found in
-    let enum_told = c.enum_told-1 in
     let rows = c.rows-found in
-    record {
-      value = (answered (check-passed _)
-          (then_stop _ _ rows.ensures.value c.in_default-found.is ∙ then_go _ _ contents.ensures.value c.in-Accepted.is)).0;
-      given = (answered (check-passed _)
-          (then_stop _ _ rows.ensures.value c.in_default-found.is ∙ then_go _ _ contents.ensures.value c.in-Accepted.is)).1;
-    }
+    then_stop _ _ rows.ensures.value c.in_default-found.is ∙ then_go _ _ contents.ensures.value c.in-Accepted.is
 
 pub bodies-requires : goal.bodies-requires
 bodies-requires c = c.rows-found.ensures.given c.in-Accepted-found.is
 
-pub returns : goal.returns
+pub returns-clause-value : goal.returns-clause-value
 unfolding check
-returns c =
+returns-clause-value c =
     let contents = c.contents-found in
-    let enum_told = c.enum_told-1 in
     let rows = c.rows-found in
-    let enum-told3 = c.enum_told-in-Accepted-found-1 in
-    record {
-      value = (answered (check-passed _)
-          (c.bodies.ensures ∙ then_go _ _ rows.ensures.value c.in-Accepted-found.is
-          ∙ then_go _ _ contents.ensures.value c.in-Accepted.is)).0;
-      given = (answered (check-passed _)
-          (c.bodies.ensures ∙ then_go _ _ rows.ensures.value c.in-Accepted-found.is
-          ∙ then_go _ _ contents.ensures.value c.in-Accepted.is)).1;
-    }
+    c.bodies.ensures ∙ then_go _ _ rows.ensures.value c.in-Accepted-found.is
+    ∙ then_go _ _ contents.ensures.value c.in-Accepted.is
+
+pub returns-clause-given : goal.returns-clause-given
+unfolding check
+returns-clause-given c =
+    let contents = c.contents-found in
+    let rows = c.rows-found in
+    λ e. (check-passed _) (sym (c.bodies.ensures ∙ then_go _ _ rows.ensures.value c.in-Accepted-found.is
+    ∙ then_go _ _ contents.ensures.value c.in-Accepted.is) ∙ e)

@@ -7,47 +7,53 @@ use Rattle.model.specs.Program.{program_mark}
 use Rattle.model.specs.Test.{must, ◌then◌}
 use Rattle.model.proofs.ProgramLaws.{contents-passed}
 use Rattle.model.proofs.TestLaws.{tests, answered}
+use Rattle.std.proofs.Common.{sym}
+use Rattle.std.proofs.Common.{◌∙◌}
 use Rattle.program.proofs.contents.Goals as goal
 
-pub returns-then-program-lt6 : goal.returns-then-program-lt6
+pub returns-then-program-lt6-clause-value : goal.returns-then-program-lt6-clause-value
 unfolding contents_rule must ◌then◌ program_mark
-returns-then-program-lt6 c = record { value = (answered (contents-passed _) (search tests)).0; given = (answered (contents-passed _) (search tests)).1 }
+returns-then-program-lt6-clause-value c = search tests
 
 pub overflow_cast-program : goal.overflow_cast-program
 overflow_cast-program c = omega (arith, c.shared_slice_known-1.given 5)
 
-pub returns-then-program : goal.returns-then-program
+pub returns-then-program-clause-value : goal.returns-then-program-clause-value
 unfolding contents_rule must ◌then◌ program_mark
-returns-then-program c = record { value = (answered (contents-passed _) (search tests)).0; given = (answered (contents-passed _) (search tests)).1 }
+returns-then-program-clause-value c = search tests
 
-pub returns-then-program-2 : goal.returns-then-program-2
+pub returns-then-program-2-clause-value : goal.returns-then-program-2-clause-value
 unfolding contents_rule must ◌then◌ program_mark
-returns-then-program-2 c = record { value = (answered (contents-passed _) (search tests)).0; given = (answered (contents-passed _) (search tests)).1 }
+returns-then-program-2-clause-value c = search tests
 
-pub returns-then-program-lt1 : goal.returns-then-program-lt1
+pub returns-then-program-lt1-clause-value : goal.returns-then-program-lt1-clause-value
 unfolding contents_rule must ◌then◌ program_mark
-returns-then-program-lt1 c = record { value = (answered (contents-passed _) (search tests)).0; given = (answered (contents-passed _) (search tests)).1 }
+returns-then-program-lt1-clause-value c = search tests
 
-pub returns-then-program-gt32 : goal.returns-then-program-gt32
+pub returns-then-program-gt32-clause-value : goal.returns-then-program-gt32-clause-value
 unfolding contents_rule must ◌then◌ program_mark
-returns-then-program-gt32 c = record { value = (answered (contents-passed _) (search tests)).0; given = (answered (contents-passed _) (search tests)).1 }
+returns-then-program-gt32-clause-value c = search tests
 
-pub returns-then-program-gt16 : goal.returns-then-program-gt16
+pub returns-then-program-gt16-clause-value : goal.returns-then-program-gt16-clause-value
 unfolding contents_rule must ◌then◌ program_mark
-returns-then-program-gt16 c = record { value = (answered (contents-passed _) (search tests)).0; given = (answered (contents-passed _) (search tests)).1 }
+returns-then-program-gt16-clause-value c = search tests
 
-pub returns-then-program-lt1-2 : goal.returns-then-program-lt1-2
+pub returns-then-program-lt1-2-clause-value : goal.returns-then-program-lt1-2-clause-value
 unfolding contents_rule must ◌then◌ program_mark
-returns-then-program-lt1-2 c = record { value = (answered (contents-passed _) (search tests)).0; given = (answered (contents-passed _) (search tests)).1 }
+returns-then-program-lt1-2-clause-value c = search tests
 
-pub returns-then-program-gt1024 : goal.returns-then-program-gt1024
+pub returns-then-program-gt1024-clause-value : goal.returns-then-program-gt1024-clause-value
 unfolding contents_rule must ◌then◌ program_mark
-returns-then-program-gt1024 c = record { value = (answered (contents-passed _) (search tests)).0; given = (answered (contents-passed _) (search tests)).1 }
+returns-then-program-gt1024-clause-value c = search tests
 
-pub returns-then-program-3 : goal.returns-then-program-3
+pub returns-then-program-3-clause-value : goal.returns-then-program-3-clause-value
 unfolding contents_rule must ◌then◌ program_mark
-returns-then-program-3 c = record { value = (answered (contents-passed _) (search tests)).0; given = (answered (contents-passed _) (search tests)).1 }
+returns-then-program-3-clause-value c = search tests
 
-pub returns : goal.returns
+pub returns-clause-value : goal.returns-clause-value
 unfolding contents_rule must ◌then◌ program_mark
-returns c = record { value = (answered (contents-passed _) (search tests)).0; given = (answered (contents-passed _) (search tests)).1 }
+returns-clause-value c = search tests
+
+pub returns-clause-given : goal.returns-clause-given
+unfolding contents_rule must ◌then◌ program_mark
+returns-clause-given c = λ e. (contents-passed _) (sym (search tests) ∙ e)

@@ -12,6 +12,7 @@ use lib.Signed.{mag, quot_z, shr_z}
 use mir.Syntax.{w32}
 use mir.Val.{to_z, of_z}
 use Rattle.signed.proofs.TwosComplement.{read_back, below-zero, from_zero}
+use Rattle.signed.proofs.divided.Goals.{Else-number-lt0, Then-number-lt0}
 use Rattle.signed.proofs.divided.Goals as goal
 
 -- ---- -(n + 1), plus one, divided, minus one
@@ -80,10 +81,10 @@ module _ (z e : ℤ) (k : ℕ) (small : mag z < 32768) (fits : k < 16) (is-d : e
 
 -- ---- The needs
 
-negative : (c : goal.Then-number-lt0) → c.args.number ≡ negsuc (mag c.args.number)
+negative : (c : Then-number-lt0) → c.args.number ≡ negsuc (mag c.args.number)
 negative c = below-zero c.args.number _ (omega arith) refl c.if-number-lt0.true
 
-other : (c : goal.Else-number-lt0) → c.args.number ≡ pos (mag c.args.number)
+other : (c : Else-number-lt0) → c.args.number ≡ pos (mag c.args.number)
 other c = from_zero c.args.number _ (omega arith) refl c.if-number-lt0.false
 
 pub overflow_add-result : goal.overflow_add-result

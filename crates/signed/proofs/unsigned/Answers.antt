@@ -9,6 +9,7 @@ use mir.Syntax.{w32}
 use mir.Val.{to_z, of_z}
 use Rattle.model.specs.Program.{unsigned}
 use Rattle.signed.proofs.TwosComplement.{read_back, below-zero, from_zero}
+use Rattle.signed.proofs.unsigned.Goals.{Else-value-lt0, Then-value-lt0}
 use Rattle.signed.proofs.unsigned.Goals as goal
 
 module _ (z : ℤ) (n : ℕ) (h : n < 32768) (e : z ≡ negsuc n) where
@@ -22,10 +23,10 @@ module _ (z : ℤ) (n : ℕ) (h : n < 32768) (e : z ≡ pos n) where
   back : to_z w32 (of_z w32 z) ≡ pos n
   back = rw e (read_back (pos n) (omega arith))
 
-negative : (c : goal.Then-value-lt0) → c.args.value ≡ negsuc (mag c.args.value)
+negative : (c : Then-value-lt0) → c.args.value ≡ negsuc (mag c.args.value)
 negative c = below-zero c.args.value _ (omega arith) refl c.if-value-lt0.true
 
-other : (c : goal.Else-value-lt0) → c.args.value ≡ pos (mag c.args.value)
+other : (c : Else-value-lt0) → c.args.value ≡ pos (mag c.args.value)
 other c = from_zero c.args.value _ (omega arith) refl c.if-value-lt0.false
 
 pub overflow_add-result : goal.overflow_add-result

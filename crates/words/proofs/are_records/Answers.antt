@@ -14,21 +14,21 @@ returns-then-length-eq0 c = simp (c.if-length-eq0.true, both_zero)
 
 pub returns-then-not-is_record : goal.returns-then-not-is_record
 unfolding are_records ◌and◌
-returns-then-not-is_record c = simp (sym c.is_record.ensures ∙ not-true _ c.if-not-is_record.true)
+returns-then-not-is_record c = simp (sym c.is_record.ensures ∙ c.if-not-is_record.true)
 
 pub returns-then-not-is_record-2 : goal.returns-then-not-is_record-2
 unfolding are_records ◌and◌
-returns-then-not-is_record-2 c = simp (sym c.is_record.ensures ∙ not-false _ c.if-not-is_record.false, sym c.is_record-2.ensures ∙ not-true _ c.if-not-is_record-2.true)
+returns-then-not-is_record-2 c = simp (sym c.is_record.ensures ∙ c.if-not-is_record.false, sym c.is_record-2.ensures ∙ c.if-not-is_record-2.true)
 
 pub returns-then-not-is_record-3 : goal.returns-then-not-is_record-3
 unfolding are_records ◌and◌
-returns-then-not-is_record-3 c = simp (sym c.is_record.ensures ∙ not-false _ c.if-not-is_record.false, sym c.is_record-2.ensures ∙ not-false _ c.if-not-is_record-2.false, sym c.is_record-3.ensures ∙ not-true _ c.if-not-is_record-3.true)
+returns-then-not-is_record-3 c = simp (sym c.is_record.ensures ∙ c.if-not-is_record.false, sym c.is_record-2.ensures ∙ c.if-not-is_record-2.false, sym c.is_record-3.ensures ∙ c.if-not-is_record-3.true)
 
 pub returns : goal.returns
 unfolding are_records
 returns c =
     c.is_record-4.ensures
     ∙ sym
-    (and_skip _ (sym c.is_record.ensures ∙ not-false _ c.if-not-is_record.false)
-    ∙ and_skip _ (sym c.is_record-2.ensures ∙ not-false _ c.if-not-is_record-2.false)
-    ∙ and_skip _ (sym c.is_record-3.ensures ∙ not-false _ c.if-not-is_record-3.false))
+    (and_skip _ (sym c.is_record.ensures ∙ c.if-not-is_record.false)
+    ∙ and_skip _ (sym c.is_record-2.ensures ∙ c.if-not-is_record-2.false)
+    ∙ and_skip _ (sym c.is_record-3.ensures ∙ c.if-not-is_record-3.false))

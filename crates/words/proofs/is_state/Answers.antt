@@ -12,12 +12,12 @@ returns-then-words-gt1 c = simp (lt-leb _ _ c.if-words-gt1.true)
 
 pub returns-then-not-is_place : goal.returns-then-not-is_place
 unfolding is_state ◌and◌
-returns-then-not-is_place c = simp (le-leb _ _ c.if-words-gt1.false, sym c.is_place.ensures ∙ not-true _ c.if-not-is_place.true)
+returns-then-not-is_place c = simp (le-leb _ _ c.if-words-gt1.false, sym c.is_place.ensures ∙ c.if-not-is_place.true)
 
 pub returns-then-not-is_handler : goal.returns-then-not-is_handler
 unfolding is_state ◌and◌
-returns-then-not-is_handler c = simp (le-leb _ _ c.if-words-gt1.false, sym c.is_place.ensures ∙ not-false _ c.if-not-is_place.false, sym c.is_handler.ensures ∙ not-true _ c.if-not-is_handler.true)
+returns-then-not-is_handler c = simp (le-leb _ _ c.if-words-gt1.false, sym c.is_place.ensures ∙ c.if-not-is_place.false, sym c.is_handler.ensures ∙ c.if-not-is_handler.true)
 
 pub returns : goal.returns
 unfolding is_state ◌and◌
-returns c = simp (le-leb _ _ c.if-words-gt1.false, sym c.is_place.ensures ∙ not-false _ c.if-not-is_place.false, sym c.is_handler.ensures ∙ not-false _ c.if-not-is_handler.false, c.are_records.ensures)
+returns c = simp (le-leb _ _ c.if-words-gt1.false, sym c.is_place.ensures ∙ c.if-not-is_place.false, sym c.is_handler.ensures ∙ c.if-not-is_handler.false, c.are_records.ensures)

@@ -10,8 +10,13 @@ use lib.Dec.{ltb}
 use Rattle.model.specs.Check.{fields_fit, instruction_rule}
 use Rattle.model.specs.Program.{memory_words, tasks, instructions, opcode, code, operand, bounds}
 use Rattle.model.specs.Test.{must, ◌then◌}
-use Rattle.model.proofs.TestLaws.{answered}
+use Rattle.program.specs.Fields.{as_bounds}
+use Rattle.program.specs.declared.code.Below.{Below}
+use Rattle.model.specs.declared.Checked.{Checked}
 use Rattle.model.proofs.Passed.{rule-passed}
+use Rattle.std.proofs.Common.{sym}
+use Rattle.std.proofs.Common.{◌∙◌}
+
 use Rattle.program.proofs.code.rule.Goals as goal
 
 -- the test of the definition
@@ -20,77 +25,55 @@ fieldsTest p i j =
     fields_fit (bounds (memory_words p) (tasks p) (instructions p i) (ltb i (tasks p)) (opcode (code p i j))) (code p i j)
     (operand p i j)
 
--- is the one that the code makes
-fits : (c : goal.After-fields-fit) →
-    let a = c.before.before.before.before.before.before.before.before.before.before.args in
-    c.fields_fit.result ≡ fieldsTest a.program.now a.body-number a.instruction
+-- is the one that the code makes, of what its calls return
+fits : (p : List ℕ) (i j : ℕ) {w n op k : ℕ} {bounded : Below} {r : Bool} → w ≡ code p i j → n ≡ instructions p i → op ≡ opcode w
+    → as_bounds bounded ≡ bounds (memory_words p) (tasks p) n (ltb i (tasks p)) op → k ≡ operand p i j → r ≡ fields_fit (as_bounds bounded) w k
+    → r ≡ fieldsTest p i j
 unfolding fieldsTest
-fits c =
-    let code_call = c.before.before.before.before.before.before.before.before.code in
-    let instructions-call = c.before.before.before.before.before.instructions in
-    let opcode-call = c.before.before.before.opcode in
-    let bounds-call = c.before.before.bounds in
-    let operand-call = c.before.operand in
-    rw
-    (← code_call.ensures, ← instructions-call.ensures, ← operand-call.ensures, ← opcode-call.ensures, ← bounds-call.ensures)
-    c.fields_fit.ensures
+fits p i j a b o e d f = rw (← a, ← b, ← d, ← o, ← e) f
 
-pub returns-then-not-fields_fit : goal.returns-then-not-fields_fit
+pub returns-then-not-fields_fit-clause-value : goal.returns-then-not-fields_fit-clause-value
 unfolding instruction_rule must ◌then◌ fieldsTest
-returns-then-not-fields_fit c =
+returns-then-not-fields_fit-clause-value c =
     let pre = c.requires in
-    let fields_fit = c.fields_fit in
-    record {
-      value = (answered (rule-passed _ _ _ pre.place)
-          (rw (← fits c, not-true fields_fit.result c.if-not-fields_fit.true))).0;
-      given = (answered (rule-passed _ _ _ pre.place)
-          (rw (← fits c, not-true fields_fit.result c.if-not-fields_fit.true))).1;
-    }
+    rw (← fits c.args.program.now c.args.body_number c.args.instruction c.code-word.ensures c.instructions.ensures c.opcode.ensures c.bounds-below.ensures c.operand.ensures c.fields_fit.ensures, c.if-not-fields_fit.true)
 
-pub returns-then-not-last_fits : goal.returns-then-not-last_fits
+pub returns-then-not-last_fits-clause-value : goal.returns-then-not-last_fits-clause-value
 unfolding instruction_rule must ◌then◌ fieldsTest
-returns-then-not-last_fits c =
+returns-then-not-last_fits-clause-value c =
     let pre = c.requires in
-    let fields_fit = c.fields_fit in
     let if1 = c.if-not-fields_fit in
     let last_fits = c.last_fits in
-    record {
-      value = (answered (rule-passed _ _ _ pre.place)
-          (rw (
-            ← fits c,
-            not-false fields_fit.result if1.false,
-            ← last_fits.ensures,
-            not-true last_fits.result c.if-not-last_fits.true,
-          ))).0;
-      given = (answered (rule-passed _ _ _ pre.place)
-          (rw (
-            ← fits c,
-            not-false fields_fit.result if1.false,
-            ← last_fits.ensures,
-            not-true last_fits.result c.if-not-last_fits.true,
-          ))).1;
-    }
+    rw (
+      ← fits c.args.program.now c.args.body_number c.args.instruction c.code-word.ensures c.instructions.ensures c.opcode.ensures c.bounds-below.ensures c.operand.ensures c.fields_fit.ensures,
+      if1.false,
+      ← last_fits.ensures,
+      c.if-not-last_fits.true,
+    )
 
-pub returns : goal.returns
+pub returns-clause-value : goal.returns-clause-value
 unfolding instruction_rule must ◌then◌ fieldsTest
-returns c =
+returns-clause-value c =
     let pre = c.requires in
-    let fields_fit = c.fields_fit in
     let if1 = c.if-not-fields_fit in
     let last_fits = c.last_fits in
-    record {
-      value = (answered (rule-passed _ _ _ pre.place)
-          (rw (
-            ← fits c,
-            not-false fields_fit.result if1.false,
-            ← last_fits.ensures,
-            not-false last_fits.result c.if-not-last_fits.false,
-          ))).0;
-      given = (answered (rule-passed _ _ _ pre.place)
-          (rw (
-            ← fits c,
-            not-false fields_fit.result if1.false,
-            ← last_fits.ensures,
-            not-false last_fits.result c.if-not-last_fits.false,
-          ))).1;
-    }
+    rw (
+      ← fits c.args.program.now c.args.body_number c.args.instruction c.code-word.ensures c.instructions.ensures c.opcode.ensures c.bounds-below.ensures c.operand.ensures c.fields_fit.ensures,
+      if1.false,
+      ← last_fits.ensures,
+      c.if-not-last_fits.false,
+    )
+
+pub returns-clause-given : goal.returns-clause-given
+unfolding instruction_rule must ◌then◌ fieldsTest
+returns-clause-given c =
+    let pre = c.requires in
+    let if1 = c.if-not-fields_fit in
+    let last_fits = c.last_fits in
+    let value : Checked.Accepted ≡ instruction_rule c.args.program.now c.args.body_number c.args.instruction = rw (
+      ← fits c.args.program.now c.args.body_number c.args.instruction c.code-word.ensures c.instructions.ensures c.opcode.ensures c.bounds-below.ensures c.operand.ensures c.fields_fit.ensures,
+      if1.false,
+      ← last_fits.ensures,
+      c.if-not-last_fits.false,
+    ) in
+    λ e. rule-passed _ _ _ pre.place (sym value)

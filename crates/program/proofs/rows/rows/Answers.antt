@@ -7,69 +7,58 @@ use Rattle.model.specs.Check.{rows}
 use Rattle.model.specs.Test.{must, ◌then◌}
 use Rattle.model.proofs.ProgramLaws.{rows-passed}
 use Rattle.model.proofs.TestLaws.{tests, answered, then_stop, then_go}
+use Rattle.std.proofs.Common.{sym}
 use Rattle.program.proofs.rows.rows.Goals as goal
 
-pub returns-in_default : goal.returns-in_default
+pub returns-in_default-clause-value : goal.returns-in_default-clause-value
 unfolding rows
-returns-in_default c =
+returns-in_default-clause-value c =
     let pre = c.requires in
     let inside = c.inside-found in
-    record { value = (answered (rows-passed _ pre) (then_stop _ _ inside.ensures.value c.in_default.is)).0; given = (answered (rows-passed _ pre) (then_stop _ _ inside.ensures.value c.in_default.is)).1 }
+    then_stop _ _ inside.ensures.value c.in_default.is
 
 pub rules-found-requires : goal.rules-found-requires
 rules-found-requires c = c.inside-found.ensures.given c.in-Accepted.is
 
-pub returns-in_default-found : goal.returns-in_default-found
+pub returns-in_default-found-clause-value : goal.returns-in_default-found-clause-value
 unfolding rows
-returns-in_default-found c =
+returns-in_default-found-clause-value c =
     let pre = c.requires in
     let inside = c.inside-found in
-    let enum_told = c.enum_told-1 in
     let rules = c.rules-found in
-    record {
-      value = (answered (rows-passed _ pre)
-          (then_stop _ _ rules.ensures c.in_default-found.is ∙ then_go _ _ inside.ensures.value c.in-Accepted.is)).0;
-      given = (answered (rows-passed _ pre)
-          (then_stop _ _ rules.ensures c.in_default-found.is ∙ then_go _ _ inside.ensures.value c.in-Accepted.is)).1;
-    }
+    then_stop _ _ rules.ensures c.in_default-found.is ∙ then_go _ _ inside.ensures.value c.in-Accepted.is
 
 pub due-requires : goal.due-requires
 due-requires c =
     let inside = c.inside-found in
-    let enum_told = c.enum_told-1 in
     record { rows_inside = inside.ensures.given c.in-Accepted.is; body_number_bound = search rules }
 
 pub overflow_cast-program : goal.overflow_cast-program
 overflow_cast-program c = omega (arith, c.shared_slice_known-4-1.given 5)
 
-pub returns-then-due-program : goal.returns-then-due-program
+pub returns-then-due-program-clause-value : goal.returns-then-due-program-clause-value
 unfolding rows must ◌then◌
-returns-then-due-program c =
+returns-then-due-program-clause-value c =
     let pre = c.requires in
     let inside = c.inside-found in
-    let enum_told = c.enum_told-1 in
     let rules = c.rules-found in
-    let enum-told3 = c.enum_told-in-Accepted-found-1 in
     let due = c.due in
-    record {
-      value = (answered (rows-passed _ pre)
-          (rw (← inside.ensures.value, c.in-Accepted.is, ← rules.ensures, c.in-Accepted-found.is, ← due.ensures) (search tests))).0;
-      given = (answered (rows-passed _ pre)
-          (rw (← inside.ensures.value, c.in-Accepted.is, ← rules.ensures, c.in-Accepted-found.is, ← due.ensures) (search tests))).1;
-    }
+    rw (← inside.ensures.value, c.in-Accepted.is, ← rules.ensures, c.in-Accepted-found.is, ← due.ensures) (search tests)
 
-pub returns : goal.returns
+pub returns-clause-value : goal.returns-clause-value
 unfolding rows must ◌then◌
-returns c =
+returns-clause-value c =
     let pre = c.requires in
     let inside = c.inside-found in
-    let enum_told = c.enum_told-1 in
     let rules = c.rules-found in
-    let enum-told3 = c.enum_told-in-Accepted-found-1 in
     let due = c.due in
-    record {
-      value = (answered (rows-passed _ pre)
-          (rw (← inside.ensures.value, c.in-Accepted.is, ← rules.ensures, c.in-Accepted-found.is, ← due.ensures) (search tests))).0;
-      given = (answered (rows-passed _ pre)
-          (rw (← inside.ensures.value, c.in-Accepted.is, ← rules.ensures, c.in-Accepted-found.is, ← due.ensures) (search tests))).1;
-    }
+    rw (← inside.ensures.value, c.in-Accepted.is, ← rules.ensures, c.in-Accepted-found.is, ← due.ensures) (search tests)
+
+pub returns-clause-given : goal.returns-clause-given
+unfolding rows must ◌then◌
+returns-clause-given c =
+    let pre = c.requires in
+    let inside = c.inside-found in
+    let rules = c.rules-found in
+    let due = c.due in
+    λ e. (rows-passed _ pre) (sym (rw (← inside.ensures.value, c.in-Accepted.is, ← rules.ensures, c.in-Accepted-found.is, ← due.ensures) (search tests)) ∙ e)

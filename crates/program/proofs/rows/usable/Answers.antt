@@ -5,61 +5,55 @@ use Rattle.model.specs.Check.{row_usable}
 use Rattle.model.specs.Test.{must, ◌then◌}
 use Rattle.model.proofs.ProgramLaws.{used_passed}
 use Rattle.model.proofs.TestLaws.{tests, answered, then_stop}
+use Rattle.std.proofs.Common.{sym}
+use Rattle.std.proofs.Common.{◌∙◌}
 use Rattle.program.proofs.rows.usable.Goals as goal
 
-pub returns-in_default : goal.returns-in_default
+pub returns-in_default-clause-value : goal.returns-in_default-clause-value
 unfolding row_usable
-returns-in_default c =
+returns-in_default-clause-value c =
     let pre = c.requires in
     let limits = c.limits-found in
-    record { value = (answered (used_passed _ _ pre) (then_stop _ _ limits.ensures c.in_default.is)).0; given = (answered (used_passed _ _ pre) (then_stop _ _ limits.ensures c.in_default.is)).1 }
+    then_stop _ _ limits.ensures c.in_default.is
 
-pub returns-then-at-first_body : goal.returns-then-at-first_body
+pub returns-then-at-first_body-clause-value : goal.returns-then-at-first_body-clause-value
 unfolding row_usable must ◌then◌
-returns-then-at-first_body c =
+returns-then-at-first_body-clause-value c =
     let pre = c.requires in
     let limits = c.limits-found in
-    let enum_told = c.enum_told-1 in
     let start = c.start-at in
     let first_body = c.first_body in
-    record {
-      value = (answered (used_passed _ _ pre)
-          (rw (← limits.ensures, c.in-Accepted.is, ← first_body.ensures, ← start.ensures) (search tests))).0;
-      given = (answered (used_passed _ _ pre)
-          (rw (← limits.ensures, c.in-Accepted.is, ← first_body.ensures, ← start.ensures) (search tests))).1;
-    }
+    rw (← limits.ensures, c.in-Accepted.is, ← first_body.ensures, ← start.ensures) (search tests)
 
 pub overflow_cast-program : goal.overflow_cast-program
 overflow_cast-program c = omega (arith, c.shared_slice_known-2-1.given 5)
 
-pub returns-then-at-instructions : goal.returns-then-at-instructions
+pub returns-then-at-instructions-clause-value : goal.returns-then-at-instructions-clause-value
 unfolding row_usable must ◌then◌
-returns-then-at-instructions c =
+returns-then-at-instructions-clause-value c =
     let pre = c.requires in
     let limits = c.limits-found in
-    let enum_told = c.enum_told-1 in
     let start = c.start-at in
     let first_body = c.first_body in
     let instructions = c.instructions in
-    record {
-      value = (answered (used_passed _ _ pre)
-          (rw (← limits.ensures, c.in-Accepted.is, ← first_body.ensures, ← instructions.ensures, ← start.ensures) (search tests))).0;
-      given = (answered (used_passed _ _ pre)
-          (rw (← limits.ensures, c.in-Accepted.is, ← first_body.ensures, ← instructions.ensures, ← start.ensures) (search tests))).1;
-    }
+    rw (← limits.ensures, c.in-Accepted.is, ← first_body.ensures, ← instructions.ensures, ← start.ensures) (search tests)
 
-pub returns : goal.returns
+pub returns-clause-value : goal.returns-clause-value
 unfolding row_usable must ◌then◌
-returns c =
+returns-clause-value c =
     let pre = c.requires in
     let limits = c.limits-found in
-    let enum_told = c.enum_told-1 in
     let start = c.start-at in
     let first_body = c.first_body in
     let instructions = c.instructions in
-    record {
-      value = (answered (used_passed _ _ pre)
-          (rw (← limits.ensures, c.in-Accepted.is, ← first_body.ensures, ← instructions.ensures, ← start.ensures) (search tests))).0;
-      given = (answered (used_passed _ _ pre)
-          (rw (← limits.ensures, c.in-Accepted.is, ← first_body.ensures, ← instructions.ensures, ← start.ensures) (search tests))).1;
-    }
+    rw (← limits.ensures, c.in-Accepted.is, ← first_body.ensures, ← instructions.ensures, ← start.ensures) (search tests)
+
+pub returns-clause-given : goal.returns-clause-given
+unfolding row_usable must ◌then◌
+returns-clause-given c =
+    let pre = c.requires in
+    let limits = c.limits-found in
+    let start = c.start-at in
+    let first_body = c.first_body in
+    let instructions = c.instructions in
+    λ e. (used_passed _ _ pre) (sym (rw (← limits.ensures, c.in-Accepted.is, ← first_body.ensures, ← instructions.ensures, ← start.ensures) (search tests)) ∙ e)
