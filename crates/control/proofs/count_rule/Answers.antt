@@ -1,0 +1,30 @@
+-- `control::count_rule` meets its contract: its tests are the rule's. Assumes nothing.
+use borrow.Author.Rules.{rules}
+use Rattle.model.specs.Control.{obey, count_rule}
+use Rattle.model.specs.Test.{must, ◌and◌}
+use Rattle.model.proofs.TestLaws.{tests, passed, failed}
+use Rattle.std.proofs.Common.{sym}
+use Rattle.std.proofs.Common.{◌∙◌}
+use Rattle.control.proofs.count_rule.Goals as goal
+
+pub returns-then-not-is_committing : goal.returns-then-not-is_committing
+unfolding obey count_rule must ◌and◌
+returns-then-not-is_committing c = search (tests, sym c.is_committing.ensures ∙ c.if-not-is_committing.true)
+
+pub returns-then-store : goal.returns-then-store
+unfolding obey count_rule must ◌and◌
+returns-then-store c =
+    search (
+      tests,
+      passed c.is_committing.ensures
+          c.if-not-is_committing.false,
+    )
+
+pub returns : goal.returns
+unfolding obey count_rule must ◌and◌
+returns c =
+    search (
+      tests,
+      passed c.is_committing.ensures
+          c.if-not-is_committing.false,
+    )

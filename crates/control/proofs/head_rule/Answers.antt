@@ -1,0 +1,14 @@
+-- `control::head_rule` meets its contract: its test is the rule's. Assumes nothing.
+use borrow.Author.Rules.{rules}
+use Rattle.model.specs.Control.{obey, head_rule}
+use Rattle.model.specs.Test.{must, ◌and◌}
+use Rattle.model.proofs.TestLaws.{tests}
+use Rattle.control.proofs.head_rule.Goals as goal
+
+pub returns-then-store : goal.returns-then-store
+unfolding obey head_rule must ◌and◌
+returns-then-store c = search tests
+
+pub returns : goal.returns
+unfolding obey head_rule must ◌and◌
+returns c = search tests

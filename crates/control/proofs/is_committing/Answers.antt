@@ -1,0 +1,13 @@
+-- `control::is_committing` meets its contract: its tests are those of an `or`. Assumes nothing.
+use borrow.Author.Rules.{rules}
+use Rattle.model.specs.Test.{◌or◌}
+use Rattle.model.proofs.TestLaws.{tests}
+use Rattle.control.proofs.is_committing.Goals as goal
+
+pub returns-then-store-eq1 : goal.returns-then-store-eq1
+unfolding ◌or◌
+returns-then-store-eq1 c = search tests
+
+pub returns : goal.returns
+unfolding ◌or◌
+returns c = search tests

@@ -1,0 +1,14 @@
+-- `control::task_rule` meets its contract: its test is the rule's. Assumes nothing.
+use borrow.Author.Rules.{rules}
+use Rattle.model.specs.Control.{obey, task_rule}
+use Rattle.model.specs.Test.{must, ◌and◌}
+use Rattle.model.proofs.TestLaws.{tests}
+use Rattle.control.proofs.task_rule.Goals as goal
+
+pub returns-then-store-program : goal.returns-then-store-program
+unfolding obey task_rule must ◌and◌
+returns-then-store-program c = search tests
+
+pub returns : goal.returns
+unfolding obey task_rule must ◌and◌
+returns c = search tests

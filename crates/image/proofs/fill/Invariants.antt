@@ -1,0 +1,16 @@
+-- `fill` meets its contract. The invariant: so many words are filled. The measure is how many are left. Assumes nothing.
+use Prim.Native.Nat.{◌≤◌, ◌-◌, zero-le}
+use mathlib.Core.Path.{◌≡◌, refl, ◌∙◌}
+use native.Mathlib.Numerals.{add-one}
+use native.Mathlib.Omega.{arith}
+use lib.ListN.{length, take, length-set}
+use lib.Seq.{take-suc-set}
+use Rattle.image.specs.Image.{low_first, first_words}
+use borrow.Author.Rules.{rules}
+use Rattle.image.proofs.fill.Given as goal
+
+abbrev pub invariant-loop-i : goal.invariant-loop-i
+invariant-loop-i l = (l.i ≤ l.words) × (length l.initial.i ≡ length l.initial.words) × (take l.i l.initial.i ≡ first_words l.image l.i)
+
+abbrev pub decreases-loop-i : goal.decreases-loop-i
+decreases-loop-i l = l.words - l.i
