@@ -16,8 +16,7 @@ unfolding obey count_rule must ◌and◌
 returns-then-store c =
     search (
       tests,
-      passed c.is_committing.ensures
-          c.if-not-is_committing.false,
+      sym c.is_committing.ensures ∙ c.if-not-is_committing.false,
     )
 
 pub returns : goal.returns
@@ -25,6 +24,5 @@ unfolding obey count_rule must ◌and◌
 returns c =
     search (
       tests,
-      passed c.is_committing.ensures
-          c.if-not-is_committing.false,
+      sym c.is_committing.ensures ∙ c.if-not-is_committing.false,
     )

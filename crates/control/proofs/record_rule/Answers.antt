@@ -8,19 +8,20 @@ use Rattle.model.specs.Control.{record_rule}
 use Rattle.model.specs.Store.{view}
 use Rattle.model.proofs.TestLaws.{passed, failed}
 use Rattle.model.proofs.RuleLaws.{obey_unasked, obey-kept, obey-broken}
+use Rattle.std.proofs.Common.{◌∙◌}
 use Rattle.control.proofs.record_rule.Goals as goal
 
 pub returns-then-not-record_waits : goal.returns-then-not-record_waits
 unfolding record_rule
 returns-then-not-record_waits c =
     sym (obey_unasked (record_rule c.args.program.now (view c.args.store.now) c.args.slot)
-    (failed (c.record_waits.ensures c.args.program.now) c.if-not-record_waits.true))
+    (sym (c.record_waits.ensures c.args.program.now) ∙ c.if-not-record_waits.true))
 
 pub returns-then-event-program : goal.returns-then-event-program
 unfolding record_rule
 returns-then-event-program c =
     obey-broken (record_rule c.args.program.now (view c.args.store.now) c.args.slot)
-    (passed (c.record_waits.ensures c.args.program.now) c.if-not-record_waits.false)
+    (sym (c.record_waits.ensures c.args.program.now) ∙ c.if-not-record_waits.false)
     (rw (sym c.event.ensures) (le-ltb _ _ c.if-event-program.true)) (omega arith)
 
 pub returns : goal.returns

@@ -5,6 +5,7 @@ use borrow.Author.Tests.{le-leb}
 use Rattle.model.specs.Control.{record_rule, phase_rule, head_rule, tail_rule}
 use Rattle.model.specs.Test.{◌and◌}
 use Rattle.model.proofs.TestLaws.{tests, passed, failed}
+use Rattle.std.proofs.Common.{◌∙◌}
 use Rattle.control.proofs.record_waits.Goals as goal
 
 pub returns-then-store-gt2 : goal.returns-then-store-gt2
@@ -26,8 +27,7 @@ returns-then-not-start_kept c =
       le-leb _ _ c.if-store-gt2.false,
       le-leb _ _ c.if-store.false,
       le-leb _ _ c.if-store-2.false,
-      failed
-          c.start_kept.ensures c.if-not-start_kept.true,
+      sym c.start_kept.ensures ∙ c.if-not-start_kept.true,
     )
 
 pub returns : goal.returns
@@ -37,7 +37,6 @@ returns c =
       le-leb _ _ c.if-store-gt2.false,
       le-leb _ _ c.if-store.false,
       le-leb _ _ c.if-store-2.false,
-      passed
-          c.start_kept.ensures c.if-not-start_kept.false,
+      sym c.start_kept.ensures ∙ c.if-not-start_kept.false,
       sym c.first_waiting.ensures,
     ) c.between.ensures

@@ -2,7 +2,6 @@
 use Prim.Native.Nat.{ℕ}
 use mathlib.Core.List.{List, ◌∷◌, ◌++◌}
 use mathlib.Core.Path.{◌≡◌, sym, ap, ◌∙◌}
-use borrow.Author.Rules.{rules}
 use Rattle.model.specs.Control.{obey, obey_all, phase_rule, task_rule, open_rule, pending_open_rule, head_rule, tail_rule, begun_rule, begun_event_rule, control_rules, rules}
 use Rattle.model.specs.Store.{Store}
 use Rattle.model.specs.Test.{◌then◌}
@@ -31,13 +30,13 @@ in-groups p v =
     ∙ sym (obey_all-append (commit_rules p v) (pending_open_rule p v ∷ head_rule v ∷ tail_rule v ∷ begun_rule v ∷ begun_event_rule v ∷ address_rules p v ++ record_rules p v)))
 
 pub begun_event_rule-requires : goal.begun_event_rule-requires
-begun_event_rule-requires c = c.pre.1.shaped
+begun_event_rule-requires c = c.requires.shaped_for.shaped
 
 pub addresses-requires : goal.addresses-requires
-addresses-requires c = record { contents = c.pre.0.contents; shaped_for = c.pre.1 }
+addresses-requires c = record { contents = c.requires.rows_inside.contents; shaped_for = c.requires.shaped_for }
 
 pub records-requires : goal.records-requires
-records-requires c = record { contents = c.pre.0.contents; shaped_for = c.pre.1 }
+records-requires c = record { contents = c.requires.rows_inside.contents; shaped_for = c.requires.shaped_for }
 
 pub returns : goal.returns
 returns c =
