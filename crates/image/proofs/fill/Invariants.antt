@@ -10,7 +10,7 @@ use borrow.Author.Rules.{rules}
 use Rattle.image.proofs.fill.Given as goal
 
 abbrev pub invariant-loop-i : goal.invariant-loop-i
-invariant-loop-i l = (l.i ≤ l.words) × (length l.initial.i ≡ length l.initial.words) × (take l.i l.initial.i ≡ first_words l.image l.i)
+invariant-loop-i l = (l.i ≤ l.count) × (length l.words ≡ length l.initial.words) × (take l.i l.words ≡ first_words l.image l.i)
 
 abbrev pub decreases-loop-i : goal.decreases-loop-i
-decreases-loop-i l = l.words - l.i
+decreases-loop-i l = l.count - l.i

@@ -7,7 +7,7 @@ use Rattle.device.proofs.calls.taken_up.Goals as goal
 
 pub returns-then-store-ne0 : goal.returns-then-store-ne0
 unfolding taken_up begun_of data_for started pick
-returns-then-store-ne0 c = simp (c.UNKNOWN-Turned-on.ensures, ne_eqb _ _ c.if-store-ne0.true)
+returns-then-store-ne0 c = simp (c.turned_on.ensures, ne_eqb _ _ c.if-store-ne0.true)
 
 pub returns-then-store-eq1 : goal.returns-then-store-eq1
 unfolding taken_up begun_of data_for started pick

@@ -37,12 +37,12 @@ returns-then-not-device_sound-clause-value c = must_stop _ _ (sym c.device_sound
 
 pub returns-then-not-core-clause-value : goal.returns-then-not-core-clause-value
 unfolding look
-returns-then-not-core-clause-value c = must_refuses _ c.if-not-core.true ∙ must_go _ _ (sym c.device_sound.ensures ∙ c.if-not-device_sound.false) ∙ then_go _ _ c.early-found.ensures c.in-Accepted-found-2.is ∙ then_go _ _ c.store_rule-found.ensures.value c.in-Accepted-found.is ∙ then_go _ _ c.contents-found.ensures.value c.in-Accepted.is
+returns-then-not-core-clause-value c = must_refuses _ (not-true _ c.if-not-core.true) ∙ must_go _ _ (sym c.device_sound.ensures ∙ c.if-not-device_sound.false) ∙ then_go _ _ c.early-found.ensures c.in-Accepted-found-2.is ∙ then_go _ _ c.store_rule-found.ensures.value c.in-Accepted-found.is ∙ then_go _ _ c.contents-found.ensures.value c.in-Accepted.is
 
 pub returns-clause-value : goal.returns-clause-value
 unfolding look
-returns-clause-value c = must-accepts _ c.if-not-core.false ∙ must_go _ _ (sym c.device_sound.ensures ∙ c.if-not-device_sound.false) ∙ then_go _ _ c.early-found.ensures c.in-Accepted-found-2.is ∙ then_go _ _ c.store_rule-found.ensures.value c.in-Accepted-found.is ∙ then_go _ _ c.contents-found.ensures.value c.in-Accepted.is
+returns-clause-value c = must-accepts _ (not-false _ c.if-not-core.false) ∙ must_go _ _ (sym c.device_sound.ensures ∙ c.if-not-device_sound.false) ∙ then_go _ _ c.early-found.ensures c.in-Accepted-found-2.is ∙ then_go _ _ c.store_rule-found.ensures.value c.in-Accepted-found.is ∙ then_go _ _ c.contents-found.ensures.value c.in-Accepted.is
 
 pub returns-clause-given : goal.returns-clause-given
 unfolding look
-returns-clause-given c = λ e. (look-passed c.args.program.now c.args.store.now (device_with c.args.core c.args.registers.now c.args.handler c.args.burst.now)) (sym (must-accepts _ c.if-not-core.false ∙ must_go _ _ (sym c.device_sound.ensures ∙ c.if-not-device_sound.false) ∙ then_go _ _ c.early-found.ensures c.in-Accepted-found-2.is ∙ then_go _ _ c.store_rule-found.ensures.value c.in-Accepted-found.is ∙ then_go _ _ c.contents-found.ensures.value c.in-Accepted.is) ∙ e)
+returns-clause-given c = λ e. (look-passed c.args.program.now c.args.store.now (device_with c.args.core c.args.registers.now c.args.handler c.args.burst.now)) (sym (must-accepts _ (not-false _ c.if-not-core.false) ∙ must_go _ _ (sym c.device_sound.ensures ∙ c.if-not-device_sound.false) ∙ then_go _ _ c.early-found.ensures c.in-Accepted-found-2.is ∙ then_go _ _ c.store_rule-found.ensures.value c.in-Accepted-found.is ∙ then_go _ _ c.contents-found.ensures.value c.in-Accepted.is) ∙ e)

@@ -1,0 +1,23 @@
+-- `ending::end_event` meets its contract, by the number of the stores made. Assumes nothing.
+use mathlib.Core.Path.{◌≡◌}
+use native.Mathlib.Omega.{arith}
+use Rattle.model.specs.Device.{act, storing, event_stores, with_place, fresh}
+use Rattle.model.specs.Store.{settled, stored_word, index}
+use Rattle.model.specs.Test.{pick}
+use borrow.Author.Rules.{rules}
+use Rattle.body.proofs.ending.end_event.Goals as goal
+
+pub returns-then-made-eq0 : goal.returns-then-made-eq0
+unfolding act storing event_stores with_place settled stored_word index pick
+returns-then-made-eq0 c = λ p. simp (c.if-made-eq0.true, c.stored.ensures)
+
+pub returns-then-made-eq1 : goal.returns-then-made-eq1
+unfolding act storing event_stores with_place settled stored_word index pick
+returns-then-made-eq1 c = λ p. simp (c.if-made-eq1.true, c.stored-then-made-eq1.ensures, c.slot_after-next.ensures)
+
+pub returns : goal.returns
+unfolding act storing event_stores with_place settled stored_word index pick fresh
+returns c =
+    λ p.
+    let e : c.args.made ≡ 2 = omega arith in
+    simp (e, c.turned_on.ensures.0, c.turned_on.ensures.1)

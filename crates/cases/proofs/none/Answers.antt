@@ -1,0 +1,6 @@
+-- `none` meets its contract. Assumes nothing.
+use mathlib.Core.Path.{refl}
+use Rattle.cases.proofs.none.Goals as goal
+
+pub returns : goal.returns
+returns c = refl

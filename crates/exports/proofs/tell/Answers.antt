@@ -1,0 +1,6 @@
+-- `tell` meets its contract. Assumes nothing.
+use borrow.Author.Rules.{rules}
+use Rattle.exports.proofs.tell.Goals as goal
+
+pub returns : goal.returns
+returns c = (c.write_answer.ensures, c.write_device.ensures)

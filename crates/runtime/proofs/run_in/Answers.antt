@@ -1,0 +1,113 @@
+-- `run_in` meets its contract. The loop's invariant: what is left of the run, from here, is the run; where the early checks are known
+-- to pass, they do; before the first step, the step from here is the step, and after it, it is made. Assumes nothing.
+use Prim.Native.Nat.{ℕ, suc, ◌+◌, ◌-◌, ◌≤◌}
+use mathlib.Core.Bool.{true}
+use mathlib.Core.List.{List}
+use mathlib.Core.Path.{◌≡◌, refl, sym, ap, ◌∙◌}
+use native.Mathlib.Omega.{arith}
+use lib.ListN.{length}
+use Rattle.device.specs.Result.{Eight, Result, device_with, of_outcome}
+use Rattle.model.proofs.Words.{settled-length}
+use Rattle.model.specs.Calls.{run, run_from}
+use Rattle.model.specs.Device.{look, step}
+use Rattle.model.specs.declared.Answer.{Answer}
+use Rattle.model.specs.declared.Checked.{Checked}
+use Rattle.model.specs.declared.Device.{Device}
+use Rattle.model.specs.declared.Ended.{Ended}
+use Rattle.model.specs.declared.Stored.{Stored}
+use Rattle.model.specs.declared.Totals.{Totals}
+use Rattle.runtime.proofs.Runs.{unrefused, control-there, refusal_of, ended, run_spent, run_stops, run_goes}
+use Rattle.model.proofs.LookStays.{look_stays}
+use Rattle.model.specs.Claims.{sound_after}
+use Rattle.totals.specs.Counted.{counted_from}
+use borrow.Author.Rules.{rules}
+use Rattle.runtime.proofs.run_in.Invariants.{leaving}
+use Rattle.runtime.proofs.run_in.Goals as goal
+
+pub loop-steps-init : goal.loop-steps-init
+unfolding run
+loop-steps-init c =
+    let a = c.args in
+    let e : a.budget - 0 ≡ a.budget = omega arith in (
+      omega arith,
+      refl,
+      ap (λ (k : ℕ). run_from a.program.now k 0 a.store.now (device_with a.core a.registers.now a.handler a.burst.now) a.totals) e,
+      c.requires.burst_value,
+      λ z. refl,
+      λ z. absurd (omega arith),
+      c.requires.eight,
+    )
+
+pub step_known-step-requires : goal.step_known-step-requires
+step_known-step-requires c = record { eight = c.loop-steps.invariant.6; burst_value = c.loop-steps.invariant.3 }
+
+pub shape_of-store-in-Refused : goal.shape_of-store-in-Refused
+shape_of-store-in-Refused c = ap (λ (x : Result). length x.store) c.step_known-step.ensures.store_after ∙ settled-length c.loop-steps.store _ ∙ c.loop-steps.invariant.1
+
+pub returns-in-Refused : goal.returns-in-Refused
+returns-in-Refused c =
+    let p = c.args.program.now in
+    let s = c.loop-steps.store in
+    let d = device_with c.loop-steps.core c.loop-steps.registers c.loop-steps.handler c.loop-steps.burst in
+    let n = c.loop-steps.steps in
+    let t = c.loop-steps.totals in
+    let k = c.args.budget - n in
+    let j = c.args.budget - (n + 1) in
+    let left : k ≡ suc j = omega (arith, c.loop-steps-test.true) in
+    let q = c.step_known-step.ensures.store_after in
+    record {
+      run = rw c.refused_run.ensures (ap (λ (x : Result). ended n (Ended.Refused c.in-Refused.why) x.store x.device t) q
+          ∙ sym (run_stops p k j n s d t left (ap (λ (x : Result). refusal_of x.answer) (sym q) ∙ sym c.refusal-found.ensures ∙ c.in-Refused.is))
+          ∙ c.loop-steps.invariant.2);
+      single = λ one. rw c.refused_run.ensures (q ∙ c.loop-steps.invariant.4 (omega (arith, one, c.loop-steps-test.true)));
+    }
+
+pub sound_after-known-requires : goal.sound_after-known-requires
+sound_after-known-requires c =
+    let p = c.args.program.now in
+    let s = c.loop-steps.store in
+    let d = device_with c.loop-steps.core c.loop-steps.registers c.loop-steps.handler c.loop-steps.burst in
+    let q = c.step_known-step.ensures.store_after in
+    let there = control-there p s d (ap (λ (x : Result). refusal_of x.answer) (sym q) ∙ sym c.refusal-found.ensures ∙ c.in_default.is) in
+    let same : length c.step_known-step.new.store ≡ length s = ap (λ (x : Result). length x.store) q ∙ settled-length s _ in
+    omega (arith, there, same)
+
+pub loop-steps-preserved : goal.loop-steps-preserved
+loop-steps-preserved c =
+    let p = c.args.program.now in
+    let s = c.loop-steps.store in
+    let d = device_with c.loop-steps.core c.loop-steps.registers c.loop-steps.handler c.loop-steps.burst in
+    let n = c.loop-steps.steps in
+    let t = c.loop-steps.totals in
+    let k = c.args.budget - n in
+    let j = c.args.budget - (n + 1) in
+    let left : k ≡ suc j = omega (arith, c.loop-steps-test.true) in
+    let q = c.step_known-step.ensures.store_after in
+    let passes = ap (λ (x : Result). refusal_of x.answer) (sym q) ∙ sym c.refusal-found.ensures ∙ c.in_default.is in (
+      omega (arith, c.loop-steps-test.true),
+      ap (λ (x : Result). length x.store) q ∙ settled-length s _ ∙ c.loop-steps.invariant.1,
+      ap (λ (x : Totals). run_from p j (n + 1) c.step_known-step.new.store (device_with c.step_known-step.result.core c.step_known-step.new.registers c.step_known-step.result.handler c.step_known-step.new.burst) x) c.counted-totals.ensures
+          ∙ ap (λ (x : Result). run_from p j (n + 1) x.store x.device (counted_from t c.loop-steps.handler x.answer x.stored)) q
+          ∙ sym (run_goes p k j n s d t left passes)
+          ∙ c.loop-steps.invariant.2,
+      λ known.
+          ap (λ (x : Result). look p x.store x.device) q
+          ∙ look_stays p s d (unrefused (step p s d).answer passes) (ap (λ (x : Result). sound_after x.stored x.answer x.store) (sym q) ∙ sym c.sound_after-known.ensures ∙ known),
+      λ zero. absurd (omega (arith, zero)),
+      λ one. q ∙ c.loop-steps.invariant.4 (omega (arith, one)),
+      c.step_known-step.ensures.eight_2,
+    )
+
+pub shape_of-store : goal.shape_of-store
+shape_of-store c = c.loop-steps.invariant.1
+
+pub returns : goal.returns
+returns c =
+    let p = c.args.program.now in
+    let n = c.loop-steps.steps in
+    let d = device_with c.loop-steps.core c.loop-steps.registers c.loop-steps.handler c.loop-steps.burst in
+    let e : 0 ≡ c.args.budget - n = omega (arith, c.loop-steps-test.false) in
+    record {
+      run = (sym (run_spent p n c.loop-steps.store d c.loop-steps.totals) ∙ ap (λ (k : ℕ). run_from p k n c.loop-steps.store d c.loop-steps.totals) e ∙ c.loop-steps.invariant.2);
+      single = λ one. (c.loop-steps.invariant.5 (omega (arith, one, c.loop-steps-test.false, c.loop-steps.invariant.0)));
+    }
