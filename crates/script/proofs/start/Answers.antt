@@ -3,10 +3,9 @@ use Prim.Native.Nat.{zero-le}
 use mathlib.Core.Path.{refl}
 use native.Mathlib.Omega.{arith}
 use Rattle.model.proofs.TestLaws.{clash}
-use Rattle.script.proofs.start.Statement.{statement}
-use Rattle.script.proofs.start.Tie as tie
+use Rattle.script.proofs.start.Goals as goal
 
-returns : tie.Need-returns
+pub returns : goal.returns
 returns c =
     λ words room.
     record {
@@ -23,6 +22,3 @@ returns c =
         value_most = zero-le;
       };
     }
-
-pub start_spec : {M : Type 1} → statement M
-start_spec = tie.close (tie.spec returns)
