@@ -1,12 +1,11 @@
 -- `put` meets its contract. The invariant: so many bytes are put. The measure is how many are left. Assumes nothing.
-use Prim.Native.Nat.{ℕ, ◌+◌, ◌-◌, ◌≤◌, zero-le}
+use Prim.Native.Nat.{ℕ, ◌+◌, zero-le}
 use mathlib.Core.List.{List, ◌++◌}
 use mathlib.Core.Path.{◌≡◌, refl, ap, ◌∙◌}
 use native.Mathlib.Numerals.{add-one}
 use native.Mathlib.Omega.{arith}
 use lib.ListN.{length, set, get_or, take, length-set}
-use lib.Seq.{paste, paste-zero, paste-suc, take-paste, take-length}
-use borrow.Author.Rules.{rules}
+use lib.Seq.{paste-zero, paste-suc, take-paste, take-length}
 use Rattle.text.proofs.put.Goals as goal
 
 pub loop-i-init : goal.loop-i-init

@@ -2,7 +2,6 @@
 use native.Mathlib.Omega.{arith}
 use Rattle.text.proofs.TextLaws.{puts_then}
 use Rattle.text.specs.Text.{spaced}
-use borrow.Author.Rules.{rules}
 use Rattle.text.proofs.spaced.Goals as goal
 
 pub returns : goal.returns

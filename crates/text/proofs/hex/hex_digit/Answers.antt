@@ -2,7 +2,6 @@
 use Rattle.model.proofs.TestLaws.{tests}
 use Rattle.model.specs.Test.{pick}
 use Rattle.text.specs.Text.{hex_digit}
-use borrow.Author.Rules.{rules}
 use Rattle.text.proofs.hex.hex_digit.Goals as goal
 
 pub returns-then-n-lt10 : goal.returns-then-n-lt10

@@ -1,7 +1,6 @@
 -- `hex::hex_word` meets its contract. Assumes nothing.
 use Rattle.text.proofs.TextLaws.{puts_as}
 use Rattle.text.specs.Text.{hex_word}
-use borrow.Author.Rules.{rules}
 use Rattle.text.proofs.hex.hex_word.Goals as goal
 
 pub returns : goal.returns

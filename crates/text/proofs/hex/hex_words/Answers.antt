@@ -1,15 +1,13 @@
 -- `hex::hex_words` meets its contract. The invariant: so many words are put. The measure is how many are left. Assumes nothing.
-use Prim.Native.Nat.{ℕ, ◌+◌, ◌-◌, ◌*◌, ◌≤◌, zero-le}
+use Prim.Native.Nat.{ℕ, zero-le}
 use mathlib.Core.List.{List, ◌++◌}
-use mathlib.Core.Path.{◌≡◌, refl, sym, ap, ◌∙◌}
+use mathlib.Core.Path.{refl, sym, ap, ◌∙◌}
 use native.Mathlib.Numerals.{add-one}
 use native.Mathlib.Omega.{arith}
-use lib.ListN.{length, take}
+use lib.ListN.{take}
 use lib.Seq.{take-suc, take_all}
 use Rattle.text.proofs.TextLaws.{puts_nothing, puts_then, puts_as, hex_append, hex_one}
-use Rattle.text.specs.Puts.{Puts}
 use Rattle.text.specs.Text.{hex_word, hex_words}
-use borrow.Author.Rules.{rules}
 use Rattle.text.proofs.hex.hex_words.Goals as goal
 
 pub loop-i-init : goal.loop-i-init
@@ -25,7 +23,7 @@ loop-i-preserved c =
     let ws = c.args.words.now in
     let i = c.loop-i.i in (
       omega arith,
-      c.hex_word-end.auto.0 ∙ c.loop-i.invariant.1,
+      c.hex_word-end.auto.text ∙ c.loop-i.invariant.1,
       omega (arith, c.hex_word-end.ensures.ends, c.loop-i.invariant.2),
       rw add-one (puts_as (puts_then c.loop-i.invariant.3 c.hex_word-end.ensures) (sym (ap hex_words (take-suc ws i 0 (omega arith)) ∙ hex_append (take i ws) _ ∙ ap (λ (l : List ℕ). hex_words (take i ws) ++ l) (hex_one _)))),
     )

@@ -1,0 +1,11 @@
+-- `lines::label_number` meets its contract: The invariant: what is looked for stands in the lines from i on. The measure is how many are left. Assumes nothing.
+use Prim.Native.Nat.{◌-◌, ◌≤◌}
+use mathlib.Core.Path.{◌≡◌}
+use Rattle.assembly.specs.Lines.{lines_at, label_number}
+use Rattle.assembly.proofs.lines.label_number.Given as goal
+
+abbrev pub invariant-loop-i : goal.invariant-loop-i
+invariant-loop-i l = (l.i ≤ l.n) × (l.number ≤ l.i) × (label_number l.name (lines_at l.room l.i (l.n - l.i)) l.number ≡ label_number l.name (lines_at l.room l.from (l.n - l.from)) 0)
+
+abbrev pub decreases-loop-i : goal.decreases-loop-i
+decreases-loop-i l = l.n - l.i

@@ -1,0 +1,32 @@
+-- `line::larger` meets its contract. Assumes nothing.
+use mathlib.Core.Path.{refl, sym}
+use borrow.Author.Tests.{le-leb, lt-leb}
+use Rattle.model.proofs.TestLaws.{pick_true, pick-false}
+use Rattle.script.proofs.ReadingLaws.{numbers-counted, holds_as}
+use Rattle.script.specs.Script.{sized}
+use Rattle.script.proofs.line.larger.Goals as goal
+
+pub returns-then-value-largest : goal.returns-then-value-largest
+unfolding sized
+returns-then-value-largest c = λ words sizes. holds_as (c.mistaken.ensures words sizes) (sym (pick-false _ _ (rw (numbers-counted c.args.reading words sizes, sym c.largest.ensures) (lt-leb _ _ c.if-value-largest.true))))
+
+pub returns : goal.returns
+unfolding sized
+returns c =
+    λ words sizes.
+    holds_as
+    record {
+      read = refl;
+      sized = record {
+        room = sizes.room;
+        name_long_lem = sizes.name_long_lem;
+        held_most = sizes.held_most;
+        kind_most = sizes.kind_most;
+        wide_long = sizes.wide_long;
+        wide_in = sizes.wide_in;
+        count_most = sizes.count_most;
+        begun_more = λ _. c.requires;
+        value_most = rw (sym c.largest.ensures) c.if-value-largest.false;
+      };
+    }
+    (sym (pick_true _ _ (rw (numbers-counted c.args.reading words sizes, sym c.largest.ensures) (le-leb _ _ c.if-value-largest.false))))
