@@ -4,8 +4,7 @@ use mathlib.Core.List.{List, [], ◌∷◌}
 use mathlib.Core.Path.{◌≡◌, refl, ap, ◌∙◌}
 use lib.ListN.{replicate}
 use Rattle.model.proofs.Definitions.{definitions}
-use Rattle.model.specs.Test.{◌or◌}
-use Rattle.model.specs.Store.{formatted, format}
+use Rattle.model.specs.Store.{format}
 use Rattle.model.specs.Burst.{single}
 use Rattle.model.specs.Device.{off, boot, cut, post}
 use Rattle.device.specs.Result.{Result}

@@ -22,7 +22,7 @@ use Rattle.model.specs.Control.{obey, obey_all, up_to, phase_rule, task_rule, op
 use Rattle.model.specs.Device.{task_stores, event_stores, eligible, may_run, end_stores, place_sound, records_sound, zeros, handler_sound, device_sound, record_sound, head_sound, named_row, open_sound, head_is, ends, saves, place_fits, body_sound, fits}
 use Rattle.model.specs.Program.{tasks, events, memory_words, instructions, transaction, body_number, effect_at}
 use Rattle.model.specs.Serial.{Serial}
-use Rattle.model.specs.Store.{Store, event, slot_after, first_waiting, distance, room, Task, Write, Record}
+use Rattle.model.specs.Store.{Store, event, slot_after, first_waiting, distance, room, Write, Record}
 use Rattle.model.specs.Test.{◌and◌, ◌or◌}
 use Rattle.model.specs.Types.{Body, Checked, Device, Effect, Free, Half, Handler, Place, Resting, Run, Storing, Dropped, Replacing, Dropping}
 

@@ -20,7 +20,7 @@ use Rattle.model.specs.Burst.{carried}
 use Rattle.model.specs.Calls.{unless_refused, is_refusal}
 use Rattle.model.specs.Device.{Outcome, out, refuse, judged, turned_on, with_place, with_handler, resting, storing, record_stores, task_stores, event_stores, task_last_stores, event_last_stores, last_stores, current_task, oldest_event, end_stores, look, boot_check, boot, post_check, post, handler_step, pair_sound, copy_step, record_sound, event_next, choosing, choose_step, saves, place_fits, body_sound, shown, save_step, act, save_rest, place_step, next_step, step, drop_step, dropped_record}
 use Rattle.model.specs.Program.{events, memory_words, transaction, body_number, effect_at, new_open}
-use Rattle.model.specs.Store.{Store, view, address, value, event, empty, Record, slot_after, forward, find, log_at, queue_at, Phase, Task, Open, Count, Pending, PendingOpen, Head, Tail, Begun, Memory, Address, Value, Event, Write, none, to}
+use Rattle.model.specs.Store.{Store, view, address, value, event, empty, Record, slot_after, forward, find, log_at, queue_at, Phase, Task, Open, Count, Pending, PendingOpen, Head, Tail, Begun, Memory, Address, Value, Write, none, to}
 use Rattle.model.specs.Test.{pick, ◌and◌, must}
 use Rattle.model.specs.Types.{Answer, Body, Checked, Device, Effect, Found, Free, Half, Handler, Place, Refusal, Resting, Run, Storing, Dropping, Dropped, Replacing}
 

@@ -21,7 +21,7 @@ use Rattle.model.specs.Control.{obey_all, phase_rule, task_rule, open_serving, c
 use Rattle.model.specs.Device.{eligible, may_run, place_sound, records_sound, handler_sound, device_sound, look, boot_check, body_sound, fits}
 use Rattle.model.specs.Program.{word, tasks, memory_words, instructions, body_number, opcode, field_a, field_b, code, operand, bounds, decode}
 use Rattle.model.specs.Store.{Store, view, room, log_at, queue_at, store_length, store_rule, sizes_rule, Record}
-use Rattle.model.specs.Test.{◌and◌, ◌or◌, pick}
+use Rattle.model.specs.Test.{◌or◌, pick}
 use Rattle.model.specs.Types.{Body, Checked, Device, Effect, Free, Half, Handler, Instruction, Place, Resting, Run, Storing, Replacing, Dropping}
 
 -- ---- an instruction

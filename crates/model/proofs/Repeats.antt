@@ -28,7 +28,7 @@ use Rattle.model.specs.Device.{Outcome, out, refuse, with_handler, resting, zero
 use Rattle.model.specs.Program.{word, memory_words, body_number}
 use Rattle.model.specs.Store.{Store, view, event, Record, distance, slot, Word, Event, Datum, Tail, Write, to, queue_at, index, settled, stored_word, forward, Head}
 use Rattle.model.specs.Test.{pick, ◌and◌, ◌or◌, must}
-use Rattle.model.specs.Types.{Answer, Body, Checked, Device, Effect, Handler, Place, Refusal, Resting, Run, Stored, Storing, Dropping, Replacing, Dropped}
+use Rattle.model.specs.Types.{Answer, Body, Checked, Device, Effect, Handler, Place, Refusal, Resting, Run, Storing, Dropping, Replacing, Dropped}
 
 -- ---- 23 and 24 come from an instruction alone
 

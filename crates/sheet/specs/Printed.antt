@@ -3,7 +3,6 @@
 -- doesn't matter in what pieces the schedule comes. They hold for the store and the device that the library left before: of words that
 -- anything else has written, a call promises only that it ends and stays inside what it was lent. Assumes nothing.
 use Rattle.std.specs.Prelude.{ℕ, ◌+◌, ◌^◌, ◌≤◌, ◌<◌, Bool, false, List, [], ◌∷◌, ◌++◌, ◌≡◌, length, take}
-use Rattle.std.proofs.Math.Option.{some}
 use Rattle.image.specs.Image.{Loads, StoreWords}
 use Rattle.image.specs.declared.Loaded.{Loaded}
 use Rattle.model.specs.Calls.{Call, after_calls, recovered, recovery}

@@ -3,7 +3,6 @@ use mathlib.Core.Path.{refl}
 use Rattle.model.specs.Store.{view, settled, stored_word}
 use Rattle.device.specs.Result.{device}
 use Rattle.body.proofs.Running.{running-at, fetched-there, fetches_there, there-refused}
-use borrow.Author.Rules.{rules}
 use Rattle.body.proofs.body_step.Goals as goal
 
 pub fetch-got-requires : goal.fetch-got-requires

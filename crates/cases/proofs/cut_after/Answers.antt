@@ -5,7 +5,6 @@ use mathlib.Core.Path.{ap, ◌∙◌}
 use lib.ListN.{replicate}
 use Rattle.cases.specs.Seen.{store_after_cut, cut_after}
 use Rattle.model.specs.Program.{word}
-use borrow.Author.Rules.{rules}
 use Rattle.cases.proofs.cut_after.Goals as goal
 
 pub returns : goal.returns

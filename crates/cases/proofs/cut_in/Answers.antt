@@ -4,7 +4,6 @@ use mathlib.Core.Path.{ap, ◌∙◌}
 use Rattle.cases.proofs.Shown.{device_of_lem, store_of, from_none, cut_seen}
 use Rattle.device.specs.Result.{Result}
 use Rattle.model.specs.Device.{fresh, boot, cut}
-use borrow.Author.Rules.{rules}
 use Rattle.cases.proofs.cut_in.Goals as goal
 
 pub shape_of-store : goal.shape_of-store

@@ -1,7 +1,6 @@
 -- `further_post` meets its contract. Assumes nothing.
 use mathlib.Core.Path.{◌∙◌}
 use Rattle.cases.proofs.Shown.{cases}
-use borrow.Author.Rules.{rules}
 use Rattle.cases.proofs.further_post.Goals as goal
 
 pub returns : goal.returns

@@ -4,7 +4,6 @@ use mathlib.Core.List.{List}
 use mathlib.Core.Path.{ap, ◌∙◌}
 use lib.ListN.{replicate}
 use Rattle.cases.specs.Seen.{further_post}
-use borrow.Author.Rules.{rules}
 use Rattle.cases.proofs.post_after.Goals as goal
 
 pub returns : goal.returns

@@ -1,7 +1,6 @@
 -- `post_at_once` meets its contract. Assumes nothing.
 use mathlib.Core.Path.{◌∙◌}
 use Rattle.cases.proofs.Shown.{cases}
-use borrow.Author.Rules.{rules}
 use Rattle.cases.proofs.post_at_once.Goals as goal
 
 pub returns : goal.returns

@@ -4,7 +4,6 @@ use Rattle.cases.proofs.Shown.{device_of_lem, store_of, from_none, post_seen}
 use Rattle.device.specs.Result.{Result}
 use Rattle.model.specs.Calls.{RunOutcome}
 use Rattle.model.specs.Device.{fresh}
-use borrow.Author.Rules.{rules}
 use Rattle.cases.proofs.post_in.Goals as goal
 
 pub shape_of-store : goal.shape_of-store

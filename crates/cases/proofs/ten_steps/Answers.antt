@@ -1,7 +1,6 @@
 -- `ten_steps` meets its contract. Assumes nothing.
 use mathlib.Core.Path.{◌∙◌}
 use Rattle.cases.proofs.Shown.{cases}
-use borrow.Author.Rules.{rules}
 use Rattle.cases.proofs.ten_steps.Goals as goal
 
 pub returns : goal.returns

@@ -2,12 +2,10 @@
 -- 6's number plus that of the pair's words. Assumes nothing.
 use mathlib.Core.Path.{sym}
 use native.Mathlib.Omega.{arith}
-use borrow.Author.Rules.{rules}
 use borrow.Author.Tests.{le-ltb, lt-ltb, le-leb, lt-leb}
 use Rattle.model.specs.Control.{address_rule, count_rule}
 use Rattle.model.specs.Store.{view}
 use Rattle.model.specs.Test.{◌and◌}
-use Rattle.model.proofs.TestLaws.{passed, failed}
 use Rattle.model.proofs.RuleLaws.{obey_unasked, obey-kept, obey-broken}
 use Rattle.std.proofs.Common.{◌∙◌}
 use Rattle.control.proofs.address_rule.Goals as goal

@@ -1,6 +1,5 @@
 -- `control::begun_event_rule` meets its contract: its tests are the rule's; where word 16 isn't 2 the rule is kept. Assumes nothing.
 use mathlib.Core.Path.{sym}
-use borrow.Author.Rules.{rules}
 use borrow.Author.Tests.{ne_eqb}
 use Rattle.model.specs.Control.{obey, begun_event_rule, head_rule, tail_rule}
 use Rattle.model.specs.Test.{must, ◌and◌, ◌or◌}

@@ -1,6 +1,5 @@
 -- `commit_rules` meets its contract: the answers of its rules are joined. Assumes nothing.
 use mathlib.Core.Path.{sym, ◌∙◌}
-use borrow.Author.Rules.{rules}
 use Rattle.model.specs.Control.{obey_all}
 use Rattle.model.proofs.TestLaws.{then_accepted, last, next, begin}
 use Rattle.control.proofs.commit_rules.Goals as goal

@@ -1,8 +1,7 @@
 -- `control::count_rule` meets its contract: its tests are the rule's. Assumes nothing.
-use borrow.Author.Rules.{rules}
 use Rattle.model.specs.Control.{obey, count_rule}
 use Rattle.model.specs.Test.{must, ◌and◌}
-use Rattle.model.proofs.TestLaws.{tests, passed, failed}
+use Rattle.model.proofs.TestLaws.{tests}
 use Rattle.std.proofs.Common.{sym}
 use Rattle.std.proofs.Common.{◌∙◌}
 use Rattle.control.proofs.count_rule.Goals as goal

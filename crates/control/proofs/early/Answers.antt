@@ -2,7 +2,6 @@
 use Prim.Native.Nat.{ℕ}
 use mathlib.Core.List.{List, [], ◌∷◌}
 use mathlib.Core.Path.{◌≡◌, sym, ap, ◌∙◌}
-use borrow.Author.Rules.{rules}
 use Rattle.model.specs.Control.{obey, obey_all, phase_rule, task_rule, head_rule, tail_rule, begun_rule, begun_event_rule, early_rules}
 use Rattle.model.specs.Store.{Store}
 use Rattle.model.specs.Test.{◌then◌}

@@ -2,7 +2,6 @@
 use Prim.Native.Nat.{◌<◌}
 use mathlib.Core.Path.{◌≡◌, sym}
 use native.Mathlib.Omega.{arith}
-use borrow.Author.Rules.{rules}
 use borrow.Author.Tests.{le-leb, ne_eqb}
 use Rattle.model.specs.Control.{obey, begun_rule, begun_event_rule}
 use Rattle.model.specs.Store.{Store}

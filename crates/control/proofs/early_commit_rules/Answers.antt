@@ -1,5 +1,4 @@
 -- `early_commit_rules` meets its contract: in phase 0 no rule of them is asked. Assumes nothing.
-use borrow.Author.Rules.{rules}
 use Rattle.model.specs.Control.{obey, obey_all, open_serving, count_rule, pending_task_rule, pending_head_rule, pending_move_rule}
 use Rattle.model.specs.Test.{must, ◌and◌, ◌or◌, ◌then◌}
 use Rattle.control.proofs.early_commit_rules.Goals as goal

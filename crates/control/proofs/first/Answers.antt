@@ -1,5 +1,4 @@
 -- `control::first` meets its contract: a refusal ends `then`, and an accepted check goes on. Assumes nothing.
-use borrow.Author.Rules.{rules}
 use Rattle.model.specs.Test.{◌then◌}
 use Rattle.control.proofs.first.Goals as goal
 

@@ -1,5 +1,4 @@
 -- `control::head_rule` meets its contract: its test is the rule's. Assumes nothing.
-use borrow.Author.Rules.{rules}
 use Rattle.model.specs.Control.{obey, head_rule}
 use Rattle.model.specs.Test.{must, ◌and◌}
 use Rattle.model.proofs.TestLaws.{tests}

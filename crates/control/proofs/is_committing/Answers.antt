@@ -1,5 +1,4 @@
 -- `control::is_committing` meets its contract: its tests are those of an `or`. Assumes nothing.
-use borrow.Author.Rules.{rules}
 use Rattle.model.specs.Test.{◌or◌}
 use Rattle.model.proofs.TestLaws.{tests}
 use Rattle.control.proofs.is_committing.Goals as goal

@@ -1,5 +1,4 @@
 -- `control::open_kept` meets its contract: the tests are those of an `or`. Assumes nothing.
-use borrow.Author.Rules.{rules}
 use borrow.Author.Tests.{eq-eqb, ne_eqb}
 use Rattle.model.specs.Test.{◌or◌}
 use Rattle.control.proofs.open_kept.Goals as goal

@@ -1,6 +1,5 @@
 -- `control::pending_move_kept` meets its contract: each test is one of the rule's. Assumes nothing.
 use mathlib.Core.Path.{sym}
-use borrow.Author.Rules.{rules}
 use Rattle.model.specs.Control.{pending_move_rule}
 use Rattle.model.specs.Test.{◌and◌, ◌or◌}
 use Rattle.model.proofs.TestLaws.{tests}

@@ -1,8 +1,7 @@
 -- `control::pending_move_rule` meets its contract: its tests are the rule's. Assumes nothing.
-use borrow.Author.Rules.{rules}
 use Rattle.model.specs.Control.{obey, pending_move_rule, head_rule, tail_rule}
 use Rattle.model.specs.Test.{must, ◌and◌}
-use Rattle.model.proofs.TestLaws.{tests, passed, failed}
+use Rattle.model.proofs.TestLaws.{tests}
 use Rattle.std.proofs.Common.{sym}
 use Rattle.std.proofs.Common.{◌∙◌}
 use Rattle.control.proofs.pending_move_rule.Goals as goal

@@ -1,11 +1,9 @@
 -- `control::pending_open_rule` meets its contract: the rule isn't asked, is broken or is kept. Assumes nothing.
 use mathlib.Core.Path.{refl, sym}
-use borrow.Author.Rules.{rules}
 use borrow.Author.Tests.{le-ltb, lt-ltb, eq-eqb, ne_eqb}
 use Rattle.model.specs.Control.{pending_open_rule, pending_task_rule}
 use Rattle.model.specs.Store.{view}
 use Rattle.model.specs.Test.{◌and◌}
-use Rattle.model.proofs.TestLaws.{passed, failed}
 use Rattle.model.proofs.RuleLaws.{obey_unasked, obey-kept, obey-broken}
 use Rattle.std.proofs.Common.{◌∙◌}
 use Rattle.control.proofs.pending_open_rule.Goals as goal

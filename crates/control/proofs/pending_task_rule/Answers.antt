@@ -1,5 +1,4 @@
 -- `control::pending_task_rule` meets its contract: its tests are the rule's. Assumes nothing.
-use borrow.Author.Rules.{rules}
 use Rattle.model.specs.Control.{obey, pending_task_rule}
 use Rattle.model.specs.Test.{must, ◌and◌}
 use Rattle.model.proofs.TestLaws.{tests}

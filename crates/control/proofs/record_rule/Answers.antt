@@ -2,11 +2,9 @@
 -- 7's number plus that of the slot's words. Assumes nothing.
 use mathlib.Core.Path.{sym}
 use native.Mathlib.Omega.{arith}
-use borrow.Author.Rules.{rules}
 use borrow.Author.Tests.{le-ltb, lt-ltb}
 use Rattle.model.specs.Control.{record_rule}
 use Rattle.model.specs.Store.{view}
-use Rattle.model.proofs.TestLaws.{passed, failed}
 use Rattle.model.proofs.RuleLaws.{obey_unasked, obey-kept, obey-broken}
 use Rattle.std.proofs.Common.{◌∙◌}
 use Rattle.control.proofs.record_rule.Goals as goal

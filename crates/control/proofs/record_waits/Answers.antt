@@ -1,10 +1,9 @@
 -- `control::record_waits` meets its contract: each test is one that the rule of slot x needs. Assumes nothing.
 use mathlib.Core.Path.{sym}
-use borrow.Author.Rules.{rules}
 use borrow.Author.Tests.{le-leb}
 use Rattle.model.specs.Control.{record_rule, phase_rule, head_rule, tail_rule}
 use Rattle.model.specs.Test.{◌and◌}
-use Rattle.model.proofs.TestLaws.{tests, passed, failed}
+use Rattle.model.proofs.TestLaws.{tests}
 use Rattle.std.proofs.Common.{◌∙◌}
 use Rattle.control.proofs.record_waits.Goals as goal
 

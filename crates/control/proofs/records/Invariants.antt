@@ -1,13 +1,9 @@
 -- `control::records` meets its contract. The loop's invariant: the rules of the slots passed are obeyed. Assumes nothing.
-use Prim.Native.Nat.{◌+◌, ◌-◌, ◌≤◌}
-use mathlib.Core.Path.{◌≡◌, sym, ◌∙◌}
-use native.Mathlib.Omega.{arith}
-use borrow.Author.Rules.{rules}
+use Prim.Native.Nat.{◌-◌, ◌≤◌}
+use mathlib.Core.Path.{◌≡◌}
 use Rattle.model.specs.Control.{obey_all, up_to, record_rule}
-use Rattle.model.specs.Program.{word}
 use Rattle.model.specs.Store.{view}
 use Rattle.model.specs.declared.Checked.{Checked}
-use Rattle.model.proofs.RuleLaws.{none-asked, one_more, stopped}
 use Rattle.control.proofs.records.Given as goal
 
 abbrev pub invariant-loop-slot : goal.invariant-loop-slot

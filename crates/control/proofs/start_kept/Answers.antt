@@ -1,5 +1,4 @@
 -- `control::start_kept` meets its contract: its tests are those of an `or` and an `and`. Assumes nothing.
-use borrow.Author.Rules.{rules}
 use Rattle.model.specs.Control.{start_kept, pending_head_rule}
 use Rattle.model.specs.Test.{◌and◌, ◌or◌}
 use Rattle.model.proofs.TestLaws.{tests}

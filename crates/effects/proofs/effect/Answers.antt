@@ -1,6 +1,5 @@
 -- `effect` meets its contract, arm by arm: what the arm knows of the instruction, and what its calls ensure.
 -- Assumes nothing.
-use Rattle.std.proofs.Common.{rules}
 use Rattle.model.specs.Program.{effect}
 use Rattle.effects.proofs.effect.Goals as goal
 

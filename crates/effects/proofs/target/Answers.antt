@@ -1,5 +1,4 @@
 -- `target` meets its contract, by its two arms. Assumes nothing.
-use Rattle.std.proofs.Common.{rules}
 use Rattle.model.specs.Test.{pick}
 use Rattle.effects.proofs.target.Goals as goal
 

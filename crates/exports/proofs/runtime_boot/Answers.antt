@@ -5,7 +5,6 @@ use mathlib.Core.Path.{refl}
 use Rattle.exports.proofs.OnDevice.{state-read, none_read}
 use Rattle.exports.proofs.Told.{told}
 use Rattle.model.specs.Calls.{Boot}
-use borrow.Author.Rules.{rules}
 use Rattle.exports.proofs.runtime_boot.Goals as goal
 
 pub returns-then-not-is_state : goal.returns-then-not-is_state

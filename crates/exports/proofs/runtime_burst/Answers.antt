@@ -7,13 +7,11 @@ use Rattle.device.proofs.Bursts.{posted_few, posted_ring}
 use Rattle.exports.proofs.OnDevice.{state-read, none_read}
 use Rattle.exports.proofs.Told.{told-posted, told-refused}
 use Rattle.model.proofs.BurstLaws.{carried-length}
-use Rattle.model.proofs.TestLaws.{passed}
 use Rattle.model.specs.Burst.{carried, burst_words}
 use Rattle.model.specs.Device.{set_to_work}
 use Rattle.model.specs.Store.{view}
 use Rattle.model.specs.declared.Handler.{Handler}
 use Rattle.words.specs.Words.{checked_words, with_burst}
-use borrow.Author.Rules.{rules}
 use Rattle.exports.proofs.runtime_burst.Goals as goal
 
 pub returns-then-not-is_state : goal.returns-then-not-is_state

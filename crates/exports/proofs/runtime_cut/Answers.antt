@@ -4,7 +4,6 @@ use mathlib.Core.Path.{ap, ◌∙◌}
 use Rattle.device.specs.Result.{Result}
 use Rattle.model.specs.Device.{cut}
 use Rattle.words.specs.Words.{answer_words, device_words}
-use borrow.Author.Rules.{rules}
 use Rattle.exports.proofs.runtime_cut.Goals as goal
 
 pub returns : goal.returns

@@ -1,7 +1,6 @@
 -- `runtime_format` meets its contract. Assumes nothing.
 use mathlib.Core.Path.{ap, ◌∙◌}
 use Rattle.words.specs.Words.{checked_words}
-use borrow.Author.Rules.{rules}
 use Rattle.exports.proofs.runtime_format.Goals as goal
 
 pub returns : goal.returns

@@ -1,7 +1,6 @@
 -- `runtime_post` meets its contract: the one record of the burst is the event with its data. Assumes nothing.
 use Rattle.model.specs.Burst.{records_at}
 use Rattle.model.specs.Store.{slot}
-use borrow.Author.Rules.{rules}
 use Rattle.exports.proofs.runtime_post.Goals as goal
 
 pub returns : goal.returns

@@ -2,7 +2,6 @@
 use mathlib.Core.Path.{refl, sym, subst, ◌∙◌}
 use Rattle.exports.specs.Exported.{PostsAs}
 use Rattle.words.specs.Words.{checked_words}
-use borrow.Author.Rules.{rules}
 use Rattle.exports.proofs.runtime_raise.Goals as goal
 
 pub returns-in-Refused : goal.returns-in-Refused

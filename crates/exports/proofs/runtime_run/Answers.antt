@@ -4,7 +4,6 @@ use mathlib.Core.Path.{refl, ap, ◌∙◌}
 use Rattle.exports.proofs.OnDevice.{state-read, none_read}
 use Rattle.exports.proofs.Told.{told-run}
 use Rattle.model.specs.Calls.{run}
-use borrow.Author.Rules.{rules}
 use Rattle.exports.proofs.runtime_run.Goals as goal
 
 pub returns-then-not-is_state : goal.returns-then-not-is_state

@@ -8,7 +8,6 @@ use Rattle.model.specs.Calls.{Step}
 use Rattle.model.specs.declared.Totals.{Totals}
 use Rattle.runtime.proofs.Counted.{counted_as_told}
 use Rattle.totals.specs.Counted.{counted_from}
-use borrow.Author.Rules.{rules}
 use Rattle.exports.proofs.runtime_step.Goals as goal
 
 pub returns-then-not-is_state : goal.returns-then-not-is_state

@@ -1,7 +1,6 @@
 -- `totals_of` meets its contract. Assumes nothing.
 use mathlib.Core.Path.{refl}
 use Rattle.exports.specs.Exported.{totals_of}
-use borrow.Author.Rules.{rules}
 use Rattle.exports.proofs.totals_of.Goals as goal
 
 pub returns : goal.returns

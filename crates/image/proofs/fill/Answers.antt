@@ -1,12 +1,11 @@
 -- `fill` meets its contract. The invariant: so many words are filled. The measure is how many are left. Assumes nothing.
-use Prim.Native.Nat.{◌≤◌, ◌-◌, zero-le}
+use Prim.Native.Nat.{zero-le}
 use mathlib.Core.Path.{◌≡◌, refl, ◌∙◌}
 use native.Mathlib.Numerals.{add-one}
 use native.Mathlib.Omega.{arith}
-use lib.ListN.{length, take, length-set}
+use lib.ListN.{length-set}
 use lib.Seq.{take-suc-set}
 use Rattle.image.specs.Image.{low_first, first_words}
-use borrow.Author.Rules.{rules}
 use Rattle.image.proofs.fill.Goals as goal
 
 pub loop-i-init : goal.loop-i-init

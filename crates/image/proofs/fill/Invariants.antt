@@ -1,12 +1,8 @@
 -- `fill` meets its contract. The invariant: so many words are filled. The measure is how many are left. Assumes nothing.
-use Prim.Native.Nat.{◌≤◌, ◌-◌, zero-le}
-use mathlib.Core.Path.{◌≡◌, refl, ◌∙◌}
-use native.Mathlib.Numerals.{add-one}
-use native.Mathlib.Omega.{arith}
-use lib.ListN.{length, take, length-set}
-use lib.Seq.{take-suc-set}
-use Rattle.image.specs.Image.{low_first, first_words}
-use borrow.Author.Rules.{rules}
+use Prim.Native.Nat.{◌≤◌, ◌-◌}
+use mathlib.Core.Path.{◌≡◌}
+use lib.ListN.{length, take}
+use Rattle.image.specs.Image.{first_words}
 use Rattle.image.proofs.fill.Given as goal
 
 abbrev pub invariant-loop-i : goal.invariant-loop-i

@@ -7,7 +7,6 @@ use Rattle.model.proofs.TestLaws.{impossible}
 use Rattle.model.specs.Check.{check}
 use Rattle.image.proofs.ImageLaws.{odd_is_1, few_is_1, unequal_is_1, even_is_checked}
 use Rattle.image.specs.Image.{low_first, first_words, program_of}
-use borrow.Author.Rules.{rules}
 use Rattle.image.proofs.load.Goals as goal
 
 pub returns-then-image-ne0 : goal.returns-then-image-ne0

@@ -1,6 +1,5 @@
 -- `low_first` meets its contract. Assumes nothing.
 use mathlib.Core.Path.{refl}
-use borrow.Author.Rules.{rules}
 use Rattle.image.proofs.low_first.Goals as goal
 
 pub returns : goal.returns

@@ -2,7 +2,6 @@
 use Prim.Native.Nat.{zero-le}
 use native.Mathlib.Omega.{arith}
 use Rattle.model.proofs.ProgramLaws.{check-passed}
-use borrow.Author.Rules.{rules}
 use Rattle.image.proofs.store_words.Goals as goal
 
 pub returns-then-program-lt6 : goal.returns-then-program-lt6

@@ -1,9 +1,8 @@
 -- `check` meets its contract: the first part that refuses is the answer, and rows in order have neither gap nor overlap. Assumes nothing.
 use mathlib.Core.Path.{sym, ◌∙◌}
-use Rattle.model.proofs.TestLaws.{answered, then_stop, then_go, then_passed}
+use Rattle.model.proofs.TestLaws.{then_stop, then_go, then_passed}
 use Rattle.lines.proofs.RowLaws.{check_whole}
 use Rattle.lines.specs.Lines.{check}
-use borrow.Author.Rules.{rules}
 use Rattle.lines.proofs.check.Goals as goal
 
 pub returns-in_default-clause-value : goal.returns-in_default-clause-value

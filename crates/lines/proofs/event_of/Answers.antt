@@ -4,7 +4,6 @@ use native.Mathlib.Omega.{arith}
 use borrow.Author.Tests.{lt-ltb, le-ltb}
 use Rattle.model.proofs.TestLaws.{pick_true, pick-false}
 use Rattle.lines.specs.Lines.{rows, event_of, no_event}
-use borrow.Author.Rules.{rules}
 use Rattle.lines.proofs.event_of.Goals as goal
 
 pub returns-then-row-table : goal.returns-then-row-table

@@ -2,7 +2,6 @@
 use Rattle.model.proofs.TestLaws.{tests}
 use Rattle.model.specs.Test.{pick}
 use Rattle.lines.specs.Lines.{posting, posting_of, no_event}
-use borrow.Author.Rules.{rules}
 use Rattle.lines.proofs.posting_of.Goals as goal
 
 pub event_of-event-requires : goal.event_of-event-requires

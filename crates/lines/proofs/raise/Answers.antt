@@ -3,7 +3,6 @@ use mathlib.Core.Path.{ap}
 use Rattle.device.specs.Result.{Result}
 use Rattle.lines.specs.Lines.{raise_result, raise, raise_of}
 use Rattle.lines.specs.declared.RaiseAnswer.{RaiseAnswer}
-use borrow.Author.Rules.{rules}
 use Rattle.lines.proofs.raise.Goals as goal
 
 pub returns-in-Refused : goal.returns-in-Refused

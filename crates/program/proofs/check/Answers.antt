@@ -1,10 +1,9 @@
 -- `check` meets its contract: the first part that refuses is the answer; an accepted part gives the next what it requires.
 -- Assumes nothing.
 use mathlib.Core.Path.{◌∙◌}
-use borrow.Author.Rules.{rules}
 use Rattle.model.specs.Check.{check}
 use Rattle.model.proofs.ProgramLaws.{check-passed}
-use Rattle.model.proofs.TestLaws.{answered, then_stop, then_go}
+use Rattle.model.proofs.TestLaws.{then_stop, then_go}
 use Rattle.std.proofs.Common.{sym}
 use Rattle.program.proofs.check.Goals as goal
 

@@ -1,12 +1,11 @@
 -- `contents` meets its contract: at each `return` the tests on the way are the definition's, in its order.
 -- Assumes nothing.
 use native.Mathlib.Omega.{arith}
-use borrow.Author.Rules.{rules}
 use Rattle.model.specs.Check.{contents_rule}
 use Rattle.model.specs.Program.{program_mark}
 use Rattle.model.specs.Test.{must, ◌then◌}
 use Rattle.model.proofs.ProgramLaws.{contents-passed}
-use Rattle.model.proofs.TestLaws.{tests, answered}
+use Rattle.model.proofs.TestLaws.{tests}
 use Rattle.std.proofs.Common.{sym}
 use Rattle.std.proofs.Common.{◌∙◌}
 use Rattle.program.proofs.contents.Goals as goal

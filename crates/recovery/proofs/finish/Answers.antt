@@ -1,11 +1,8 @@
 -- `finish` meets its contract. The invariant: the steps that are left, from here, lead where all of them lead. The measure is how many are left. Assumes nothing.
-use Prim.Native.Nat.{suc, ◌+◌, ◌-◌, ◌≤◌, zero-le}
+use Prim.Native.Nat.{suc, ◌+◌, ◌-◌, zero-le}
 use mathlib.Core.Path.{◌≡◌, refl, sym, ◌∙◌}
 use native.Mathlib.Omega.{arith}
-use lib.ListN.{length}
-use Rattle.model.specs.Calls.{finish}
 use Rattle.recovery.proofs.RecoveryLaws.{finish-none, finish_spent, finish-all, finish_stops, finish_goes}
-use borrow.Author.Rules.{rules}
 use Rattle.recovery.proofs.finish.Goals as goal
 
 pub loop-made-init : goal.loop-made-init

@@ -4,7 +4,6 @@ use mathlib.Core.Path.{sym, ap, ◌∙◌}
 use Rattle.model.specs.Calls.{recovery}
 use Rattle.model.specs.Device.{fresh}
 use Rattle.recovery.proofs.RecoveryLaws.{recovery_stops, recovery_goes}
-use borrow.Author.Rules.{rules}
 use Rattle.recovery.proofs.recover.Goals as goal
 
 pub returns-in-Refused : goal.returns-in-Refused

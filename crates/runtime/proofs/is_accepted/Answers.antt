@@ -1,6 +1,5 @@
 -- `is_accepted` meets its contract, by the case. Assumes nothing.
 use Rattle.runtime.specs.RunResult.{is_accepted}
-use borrow.Author.Rules.{rules}
 use Rattle.runtime.proofs.is_accepted.Goals as goal
 
 pub returns-in-Accepted : goal.returns-in-Accepted

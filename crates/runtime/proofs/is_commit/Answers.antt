@@ -1,6 +1,5 @@
 -- `is_commit` meets its contract, by the answer. Assumes nothing.
 use Rattle.model.specs.Calls.{is_commit}
-use borrow.Author.Rules.{rules}
 use Rattle.runtime.proofs.is_commit.Goals as goal
 
 pub returns-in-Done : goal.returns-in-Done

@@ -1,5 +1,4 @@
 -- `packed` meets its contract. Assumes nothing.
-use borrow.Author.Rules.{rules}
 use Rattle.runtime.proofs.packed.Goals as goal
 
 pub returns : goal.returns

@@ -1,6 +1,5 @@
 -- `refusal` meets its contract, by the answer. Assumes nothing.
 use Rattle.model.specs.Calls.{unless_refused}
-use borrow.Author.Rules.{rules}
 use Rattle.runtime.proofs.refusal.Goals as goal
 
 pub returns-in-Done : goal.returns-in-Done

@@ -1,27 +1,19 @@
 -- `run_in` meets its contract. The loop's invariant: what is left of the run, from here, is the run; where the early checks are known
 -- to pass, they do; before the first step, the step from here is the step, and after it, it is made. Assumes nothing.
-use Prim.Native.Nat.{ℕ, suc, ◌+◌, ◌-◌, ◌≤◌}
-use mathlib.Core.Bool.{true}
-use mathlib.Core.List.{List}
+use Prim.Native.Nat.{ℕ, suc, ◌+◌, ◌-◌}
 use mathlib.Core.Path.{◌≡◌, refl, sym, ap, ◌∙◌}
 use native.Mathlib.Omega.{arith}
 use lib.ListN.{length}
-use Rattle.device.specs.Result.{Eight, Result, device_with, of_outcome}
+use Rattle.device.specs.Result.{Result, device_with}
 use Rattle.model.proofs.Words.{settled-length}
 use Rattle.model.specs.Calls.{run, run_from}
 use Rattle.model.specs.Device.{look, step}
-use Rattle.model.specs.declared.Answer.{Answer}
-use Rattle.model.specs.declared.Checked.{Checked}
-use Rattle.model.specs.declared.Device.{Device}
 use Rattle.model.specs.declared.Ended.{Ended}
-use Rattle.model.specs.declared.Stored.{Stored}
 use Rattle.model.specs.declared.Totals.{Totals}
 use Rattle.runtime.proofs.Runs.{unrefused, control-there, refusal_of, ended, run_spent, run_stops, run_goes}
 use Rattle.model.proofs.LookStays.{look_stays}
 use Rattle.model.specs.Claims.{sound_after}
 use Rattle.totals.specs.Counted.{counted_from}
-use borrow.Author.Rules.{rules}
-use Rattle.runtime.proofs.run_in.Invariants.{leaving}
 use Rattle.runtime.proofs.run_in.Goals as goal
 
 pub loop-steps-init : goal.loop-steps-init

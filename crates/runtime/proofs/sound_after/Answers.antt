@@ -3,7 +3,6 @@ use mathlib.Core.Path.{◌∙◌}
 use borrow.Author.Tests.{ne_eqb}
 use Rattle.model.specs.Claims.{sound_after}
 use Rattle.model.specs.Test.{pick}
-use borrow.Author.Rules.{rules}
 use Rattle.runtime.proofs.sound_after.Goals as goal
 
 pub returns-in_default : goal.returns-in_default

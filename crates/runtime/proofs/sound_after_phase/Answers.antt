@@ -2,7 +2,6 @@
 use mathlib.Core.Path.{sym, ◌∙◌}
 use Rattle.model.specs.Claims.{sound_after}
 use Rattle.model.specs.Test.{pick, ◌and◌}
-use borrow.Author.Rules.{rules}
 use Rattle.runtime.proofs.sound_after_phase.Goals as goal
 
 pub returns-then-is_commit : goal.returns-then-is_commit

@@ -1,15 +1,11 @@
 -- `step_known` meets its contract: the early checks, made or known to pass, then the step. Assumes nothing.
-use mathlib.Core.Bool.{Bool, true, false, not}
-use mathlib.Core.Logic.{⊎_elim}
-use mathlib.Core.Path.{◌≡◌, refl, sym, ap, ◌∙◌}
+use mathlib.Core.Path.{◌≡◌, sym, ap, ◌∙◌}
 use Rattle.device.specs.Result.{device_with, of_step, of_outcome}
 use Rattle.device.specs.declared.StepResult.{StepResult}
 use Rattle.model.proofs.DeviceLaws.{step_goes, step-refused}
 use Rattle.model.proofs.Passed.{look-passed}
-use Rattle.model.proofs.TestLaws.{clash}
 use Rattle.model.specs.Device.{Outcome}
 use Rattle.model.specs.Store.{settled, stored_word}
-use borrow.Author.Rules.{rules}
 use Rattle.runtime.proofs.step_known.Goals as goal
 use Rattle.runtime.proofs.step_known.Goals.{then-not-known+in_default, else-not-known}
 use Rattle.model.specs.Device.{look}
@@ -26,7 +22,7 @@ returns-in-Refused c =
 pub next_step-requires : goal.next_step-requires
 next_step-requires c =
     let accepted : look c.args.program.now c.args.store.now (device_with c.args.core c.args.registers.now c.args.handler c.args.burst.now) ≡ Checked.Accepted =
-        elim c.if-not-known.branch [ then-not-known+in_default w ↦ sym w.look-found.ensures.value ∙ w.in_default.is | else-not-known w ↦ c.requires.burst_value w.if-not-known.false ] in
+    elim c.if-not-known.branch [ then-not-known+in_default w ↦ sym w.look-found.ensures.value ∙ w.in_default.is | else-not-known w ↦ c.requires.burst_value w.if-not-known.false ] in
     record { looked = look-passed _ _ _ accepted; eight = c.requires.eight }
 
 pub returns : goal.returns
@@ -35,7 +31,7 @@ returns c =
     let p = c.args.program.now in
     let d = device_with c.args.core c.args.registers.now c.args.handler c.args.burst.now in
     let accepted : look p s d ≡ Checked.Accepted =
-        elim c.if-not-known.branch [ then-not-known+in_default w ↦ sym w.look-found.ensures.value ∙ w.in_default.is | else-not-known w ↦ c.requires.burst_value w.if-not-known.false ] in
+    elim c.if-not-known.branch [ then-not-known+in_default w ↦ sym w.look-found.ensures.value ∙ w.in_default.is | else-not-known w ↦ c.requires.burst_value w.if-not-known.false ] in
     record {
       store_after = c.next_step.ensures.store_after ∙ ap (λ (o : Outcome). of_outcome s o) (sym (step_goes p s d accepted));
       eight_2 = c.next_step.ensures.eight_2;

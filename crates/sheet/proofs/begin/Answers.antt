@@ -6,7 +6,6 @@ use native.Mathlib.Omega.{arith}
 use Rattle.sheet.proofs.SheetLaws.{begins-refused, begins-accepted}
 use Rattle.sheet.specs.Sheet.{header, if_checked}
 use Rattle.sheet.specs.declared.State.{State}
-use borrow.Author.Rules.{rules}
 use Rattle.sheet.proofs.begin.Goals as goal
 
 pub returns-in_default : goal.returns-in_default

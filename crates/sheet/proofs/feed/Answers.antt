@@ -1,11 +1,9 @@
 -- `feed` meets its contract. The invariant: the bytes taken so far printed the text so far. The measure is how many are left. Assumes nothing.
-use Prim.Native.Nat.{◌-◌, ◌≤◌, zero-le}
-use mathlib.Core.Path.{◌≡◌, refl, ◌∙◌}
+use Prim.Native.Nat.{zero-le}
+use mathlib.Core.Path.{refl, ◌∙◌}
 use native.Mathlib.Omega.{arith}
-use lib.ListN.{length, take}
 use Rattle.model.proofs.TestLaws.{same_or}
 use Rattle.sheet.proofs.SheetLaws.{feeds_nothing, feeds_more}
-use Rattle.sheet.specs.Printed.{holding, Ready, Feeds}
 use borrow.Author.Rules.{rules}
 use Rattle.sheet.proofs.feed.Goals as goal
 

@@ -4,7 +4,6 @@ use native.Mathlib.Omega.{arith}
 use lib.ListN.{length}
 use Rattle.text.proofs.TextLaws.{puts_nothing}
 use Rattle.sheet.proofs.SheetLaws.{feeds-ended, feeds_held, feeds-line}
-use borrow.Author.Rules.{rules}
 use Rattle.sheet.proofs.take.Goals as goal
 
 pub returns-then-state : goal.returns-then-state

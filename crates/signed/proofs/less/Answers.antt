@@ -1,7 +1,6 @@
 -- `signed::less` meets its contract: both words are read as two's complement, and the machine compares these numbers.
 -- Assumes nothing.
 use native.Mathlib.Omega.{arith}
-use borrow.Author.Rules.{rules}
 use Rattle.model.specs.Program.{less, signed}
 use Rattle.signed.proofs.TwosComplement.{read_back, mag_signed}
 use Rattle.signed.proofs.less.Goals as goal

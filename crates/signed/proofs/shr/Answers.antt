@@ -3,7 +3,6 @@
 use Prim.Native.Nat.{◌^◌}
 use mathlib.Core.Path.{◌≡◌, ◌∙◌, ap}
 use native.Mathlib.Omega.{arith}
-use borrow.Author.Rules.{rules}
 use lib.Signed.{shr_z}
 use mir.Syntax.{w32}
 use mir.Val.{to_z, of_z}

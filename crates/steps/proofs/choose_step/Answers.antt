@@ -1,11 +1,10 @@
 -- `steps::choose_step` meets its contract: the body that is next, and the record at head. Assumes nothing.
 use mathlib.Core.Path.{sym, ap, ◌∙◌}
-use Rattle.model.proofs.TestLaws.{pick_true, pick-false, passed, failed}
+use Rattle.model.proofs.TestLaws.{pick_true, pick-false}
 use Rattle.model.proofs.DeviceLaws.{judged-refused, judged-accepted}
 use Rattle.model.specs.Device.{Outcome, choose_step, choosing, started, data_for, kind_of, with_place, judged}
 use Rattle.model.specs.Store.{settled, stored_word, index}
 use Rattle.device.specs.Result.{of_outcome}
-use borrow.Author.Rules.{rules}
 use Rattle.steps.proofs.choose_step.Goals as goal
 
 pub returns-then-not-event_next : goal.returns-then-not-event_next

@@ -4,7 +4,6 @@ use Rattle.device.specs.Result.{of_outcome}
 use Rattle.model.proofs.DeviceLaws.{judged-refused, judged-accepted}
 use Rattle.model.specs.Device.{Outcome, drop_step, with_handler}
 use Rattle.model.specs.Store.{settled, stored_word, index}
-use borrow.Author.Rules.{rules}
 use Rattle.steps.proofs.drop_step.Goals as goal
 
 pub returns-in-Refused : goal.returns-in-Refused

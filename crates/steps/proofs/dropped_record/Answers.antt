@@ -1,7 +1,6 @@
 -- `steps::dropped_record` meets its contract: event and data of the slot after tail. Assumes nothing.
 use Rattle.model.proofs.RingLaws.{slot_after_le}
 use Rattle.model.specs.Device.{dropped_record}
-use borrow.Author.Rules.{rules}
 use Rattle.steps.proofs.dropped_record.Goals as goal
 
 pub event-event-requires : goal.event-event-requires

@@ -4,7 +4,6 @@ use mathlib.Core.Path.{ap}
 use borrow.Author.Tests.{eq-eqb, ne_eqb}
 use Rattle.model.specs.Device.{event_next}
 use Rattle.model.specs.Test.{◌and◌}
-use borrow.Author.Rules.{rules}
 use Rattle.steps.proofs.event_next.Goals as goal
 
 pub returns-then-store-ne0 : goal.returns-then-store-ne0

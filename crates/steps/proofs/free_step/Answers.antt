@@ -4,7 +4,6 @@ use Rattle.device.specs.Result.{device, of_outcome}
 use Rattle.model.proofs.DeviceLaws.{free_chooses, free_copies}
 use Rattle.model.specs.Device.{Outcome}
 use Rattle.model.specs.Store.{view}
-use borrow.Author.Rules.{rules}
 use Rattle.steps.proofs.free_step.Goals as goal
 
 pub choose_step-requires : goal.choose_step-requires

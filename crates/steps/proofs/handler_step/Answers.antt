@@ -5,7 +5,6 @@ use Rattle.device.specs.Result.{device_with}
 use Rattle.model.specs.Device.{with_handler}
 use Rattle.model.specs.Store.{view, settled, stored_word, index}
 use Rattle.steps.proofs.Handling.{word-stored, tail-stored}
-use borrow.Author.Rules.{rules}
 use Rattle.steps.proofs.handler_step.Goals as goal
 
 pub returns-then-made-length : goal.returns-then-made-length

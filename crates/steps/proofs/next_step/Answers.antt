@@ -13,7 +13,6 @@ use Rattle.model.specs.Store.{view}
 use Rattle.model.specs.declared.Handler.{Handler}
 use Rattle.model.specs.declared.Handler.TheVariants.{Resting}
 use Rattle.steps.proofs.Handling.{bounds}
-use borrow.Author.Rules.{rules}
 use Rattle.steps.proofs.next_step.Goals as goal
 
 abbrev rested-as : CoreResult → StepResult

@@ -1,12 +1,9 @@
 -- `steps::place_step` meets its contract, by the place. Assumes nothing.
-use mathlib.Core.Logic.{⊎_elim}
 use mathlib.Core.Path.{sym, ap, ◌∙◌}
-use native.Mathlib.Omega.{arith}
 use Rattle.device.specs.Result.{device, of_outcome}
 use Rattle.model.specs.Device.{place_step}
 use Rattle.model.specs.Store.{view}
 use Rattle.model.specs.declared.Place.{Place}
-use borrow.Author.Rules.{rules}
 use Rattle.steps.proofs.place_step.Goals as goal
 
 pub body_step-requires : goal.body_step-requires

@@ -5,7 +5,6 @@ use Rattle.device.specs.Result.{device_with, leaves}
 use Rattle.model.specs.Device.{handler_step}
 use Rattle.model.specs.declared.Dropped.{Dropped}
 use Rattle.model.specs.declared.Handler.TheVariants.{Replacing}
-use borrow.Author.Rules.{rules}
 use Rattle.steps.proofs.replacing_step.Goals as goal
 
 pub returns : goal.returns

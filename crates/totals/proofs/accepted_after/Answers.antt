@@ -3,7 +3,6 @@ use mathlib.Core.Path.{sym}
 use Rattle.model.specs.Calls.{is_accept, accepted_events}
 use Rattle.model.specs.Test.{pick}
 use Rattle.totals.proofs.CountLaws.{more_none}
-use borrow.Author.Rules.{rules}
 use Rattle.totals.proofs.accepted_after.Goals as goal
 
 pub returns-in-Done : goal.returns-in-Done

@@ -1,6 +1,5 @@
 -- `burst_length` meets its contract, by the handler. Assumes nothing.
 use Rattle.model.specs.Device.{burst_length}
-use borrow.Author.Rules.{rules}
 use Rattle.totals.proofs.burst_length.Goals as goal
 
 pub returns-in-Resting : goal.returns-in-Resting

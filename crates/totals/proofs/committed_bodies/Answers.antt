@@ -1,7 +1,6 @@
 -- `committed_bodies` meets its contract, by the answer. Assumes nothing.
 use Rattle.model.specs.Calls.{one_if, is_commit}
 use Rattle.model.specs.Test.{pick}
-use borrow.Author.Rules.{rules}
 use Rattle.totals.proofs.committed_bodies.Goals as goal
 
 pub returns-in-Done : goal.returns-in-Done

@@ -1,6 +1,5 @@
 -- `counted` meets its contract: each total by its number. Assumes nothing.
 use Rattle.totals.specs.Counted.{counted_from}
-use borrow.Author.Rules.{rules}
 use Rattle.totals.proofs.counted.Goals as goal
 
 pub returns : goal.returns

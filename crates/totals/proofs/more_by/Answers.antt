@@ -1,6 +1,5 @@
 -- `more_by` meets its contract: what is more than there is room for stays at the largest value. Assumes nothing.
 use native.Mathlib.Omega.{arith}
-use borrow.Author.Rules.{rules}
 use Rattle.model.specs.Calls.{more_by}
 use Rattle.totals.proofs.more_by.Goals as goal
 

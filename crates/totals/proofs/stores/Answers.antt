@@ -1,6 +1,5 @@
 -- `stores` meets its contract, by what was stored. Assumes nothing.
 use Rattle.totals.specs.Counted.{stores}
-use borrow.Author.Rules.{rules}
 use Rattle.totals.proofs.stores.Goals as goal
 
 pub returns-in-Nothing : goal.returns-in-Nothing

@@ -1,6 +1,5 @@
 -- `words::accepted_words` meets its contract: one line for each case. Assumes nothing.
 use Rattle.words.specs.Words.{accepted_words}
-use borrow.Author.Rules.{rules}
 use Rattle.words.proofs.accepted_words.Goals as goal
 
 pub returns-in-Nothing : goal.returns-in-Nothing

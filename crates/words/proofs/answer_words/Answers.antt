@@ -1,6 +1,5 @@
 -- `words::answer_words` meets its contract: one line for each case. Assumes nothing.
 use Rattle.words.specs.Words.{answer_words}
-use borrow.Author.Rules.{rules}
 use Rattle.words.proofs.answer_words.Goals as goal
 
 pub returns-in-Done : goal.returns-in-Done

@@ -2,10 +2,8 @@
 use Rattle.words.specs.Words.{are_records, is_record}
 use Rattle.model.proofs.TestLaws.{both_zero}
 use Rattle.model.specs.Test.{pick, ◌and◌}
-use borrow.Author.Tests.{not-true, not-false}
 use mathlib.Core.Path.{sym, ◌∙◌}
 use Rattle.words.proofs.Parts.{and_skip}
-use borrow.Author.Rules.{rules}
 use Rattle.words.proofs.are_records.Goals as goal
 
 pub returns-then-length-eq0 : goal.returns-then-length-eq0

@@ -1,6 +1,5 @@
 -- `words::handler_words` meets its contract: one line for each case. Assumes nothing.
 use Rattle.words.specs.Words.{handler_words}
-use borrow.Author.Rules.{rules}
 use Rattle.words.proofs.handler_words.Goals as goal
 
 pub returns-in-Resting : goal.returns-in-Resting

@@ -1,9 +1,8 @@
 -- `words::is_state` meets its contract: the definition's four tests in their order. Assumes nothing.
 use Rattle.words.specs.Words.{is_state}
 use Rattle.model.specs.Test.{◌and◌}
-use borrow.Author.Tests.{lt-leb, le-leb, not-true, not-false}
+use borrow.Author.Tests.{lt-leb, le-leb}
 use mathlib.Core.Path.{sym, ◌∙◌}
-use borrow.Author.Rules.{rules}
 use Rattle.words.proofs.is_state.Goals as goal
 
 pub returns-then-words-gt1 : goal.returns-then-words-gt1

@@ -1,6 +1,5 @@
 -- `words::kind` meets its contract: one line for each case. Assumes nothing.
 use Rattle.words.specs.Words.{kind}
-use borrow.Author.Rules.{rules}
 use Rattle.words.proofs.kind.Goals as goal
 
 pub returns-in-Task : goal.returns-in-Task

@@ -1,6 +1,5 @@
 -- `words::number` meets its contract: one line for each case. Assumes nothing.
 use Rattle.words.specs.Words.{number}
-use borrow.Author.Rules.{rules}
 use Rattle.words.proofs.number.Goals as goal
 
 pub returns-in-Task : goal.returns-in-Task

@@ -2,7 +2,6 @@
 use Rattle.words.specs.Words.{place_of}
 use Rattle.model.specs.Test.{pick}
 use Rattle.words.proofs.Parts.{tests}
-use borrow.Author.Rules.{rules}
 use Rattle.words.proofs.place_of.Goals as goal
 
 pub returns-then-place-eq0 : goal.returns-then-place-eq0

@@ -1,6 +1,5 @@
 -- `words::place_words` meets its contract: one line for each case, with its body by `kind` and `number`. Assumes nothing.
 use Rattle.words.specs.Words.{place_words}
-use borrow.Author.Rules.{rules}
 use Rattle.words.proofs.place_words.Goals as goal
 
 pub returns-in-Free : goal.returns-in-Free

@@ -1,7 +1,6 @@
 -- `words::refused_words` meets its contract: one line for each case of the model's table. Assumes nothing.
 use Rattle.model.specs.Answer.{refusal}
 use Rattle.words.specs.Words.{refused_words}
-use borrow.Author.Rules.{rules}
 use Rattle.words.proofs.refused_words.Goals as goal
 
 pub returns-in-ProgramLength : goal.returns-in-ProgramLength

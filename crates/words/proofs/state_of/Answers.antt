@@ -1,6 +1,5 @@
 -- `words::state_of` meets its contract: field by field. Assumes nothing.
 use Rattle.words.specs.Words.{state_of}
-use borrow.Author.Rules.{rules}
 use Rattle.words.proofs.state_of.Goals as goal
 
 pub returns : goal.returns

@@ -1,6 +1,5 @@
 -- `words::stored_number` meets its contract, by what was stored. Assumes nothing.
 use Rattle.words.specs.Words.{stored_number}
-use borrow.Author.Rules.{rules}
 use Rattle.words.proofs.stored_number.Goals as goal
 
 pub returns-in-Nothing : goal.returns-in-Nothing

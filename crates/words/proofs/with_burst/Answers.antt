@@ -1,7 +1,6 @@
 -- `words::with_burst` meets its contract: word by word. Assumes nothing.
 use Rattle.words.proofs.Parts.{spelt}
 use Rattle.words.proofs.Words.{handled_is}
-use borrow.Author.Rules.{rules}
 use Rattle.words.proofs.with_burst.Goals as goal
 
 pub returns : goal.returns

@@ -1,5 +1,4 @@
 -- `words::write_answer` meets its contract: it stores what `answer_words` promises. Assumes nothing.
-use borrow.Author.Rules.{rules}
 use Rattle.words.proofs.write_answer.Goals as goal
 
 pub returns : goal.returns

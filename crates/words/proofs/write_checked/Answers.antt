@@ -1,6 +1,5 @@
 -- `words::write_checked` meets its contract: one line for each case. Assumes nothing.
 use Rattle.words.specs.Words.{checked_words}
-use borrow.Author.Rules.{rules}
 use Rattle.words.proofs.write_checked.Goals as goal
 
 pub returns-in-Accepted : goal.returns-in-Accepted

@@ -2,7 +2,6 @@
 use mathlib.Core.Path.{sym, ◌∙◌}
 use Rattle.words.proofs.Parts.{spelt}
 use Rattle.words.proofs.Words.{written_with, written_all}
-use borrow.Author.Rules.{rules}
 use Rattle.words.proofs.write_device.Goals as goal
 
 pub returns : goal.returns

@@ -1,6 +1,5 @@
 -- `words::write_ended` meets its contract: one line for each case. Assumes nothing.
 use Rattle.words.specs.Words.{ended_words}
-use borrow.Author.Rules.{rules}
 use Rattle.words.proofs.write_ended.Goals as goal
 
 pub returns-in-Spent : goal.returns-in-Spent

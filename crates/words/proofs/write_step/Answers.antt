@@ -1,7 +1,6 @@
 -- `words::write_step` meets its contract: the array is the definition's list once the words of the answer are spelt out. Assumes nothing.
 use Rattle.words.specs.Words.{step_words}
 use Rattle.words.proofs.Parts.{answer_spelt}
-use borrow.Author.Rules.{rules}
 use Rattle.words.proofs.write_step.Goals as goal
 
 pub returns : goal.returns

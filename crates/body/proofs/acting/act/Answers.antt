@@ -2,7 +2,6 @@
 use native.Mathlib.Omega.{arith}
 use Rattle.model.specs.Device.{act, with_place}
 use Rattle.model.specs.Store.{settled, stored_word}
-use borrow.Author.Rules.{rules}
 use Rattle.body.proofs.acting.act.Goals as goal
 
 pub bounds-registers-register : goal.bounds-registers-register

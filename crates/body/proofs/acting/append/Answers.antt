@@ -3,7 +3,6 @@ use borrow.Author.Tests.{lt-ltb, le-ltb}
 use Rattle.model.specs.Device.{save_step, with_place}
 use Rattle.model.specs.Store.{settled, stored_word}
 use Rattle.model.specs.Test.{pick}
-use borrow.Author.Rules.{rules}
 use Rattle.body.proofs.acting.append.Goals as goal
 
 pub returns-then-log_count-store : goal.returns-then-log_count-store

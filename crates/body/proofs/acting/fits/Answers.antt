@@ -2,7 +2,6 @@
 use borrow.Author.Tests.{eq-eqb, ne_eqb}
 use Rattle.model.specs.Device.{place_fits}
 use Rattle.model.specs.Test.{pick}
-use borrow.Author.Rules.{rules}
 use Rattle.body.proofs.acting.fits.Goals as goal
 
 pub returns-then-made-eq0 : goal.returns-then-made-eq0

@@ -4,7 +4,6 @@ use borrow.Author.Tests.{lt-ltb, le-ltb}
 use Rattle.model.specs.Device.{act, with_place}
 use Rattle.model.specs.Store.{settled, stored_word}
 use Rattle.model.specs.Test.{pick}
-use borrow.Author.Rules.{rules}
 use Rattle.body.proofs.acting.load.Goals as goal
 
 pub returns-then-address-program : goal.returns-then-address-program

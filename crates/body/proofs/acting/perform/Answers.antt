@@ -4,8 +4,6 @@ use Rattle.model.specs.Store.{view, settled, stored_word}
 use Rattle.device.specs.Result.{device}
 use Rattle.body.specs.Running.{body_at, instruction_at}
 use Rattle.body.proofs.Running.{running, stores-left, pair_left, there_unfit, there-acts, there-saves}
-use Rattle.model.proofs.TestLaws.{passed, failed}
-use borrow.Author.Rules.{rules}
 use Rattle.std.proofs.Common.{sym}
 use Rattle.std.proofs.Common.{◌∙◌}
 use Rattle.body.proofs.acting.perform.Goals as goal

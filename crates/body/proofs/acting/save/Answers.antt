@@ -5,7 +5,6 @@ use borrow.Author.Tests.{lt-ltb, le-ltb}
 use Rattle.model.specs.Device.{act, save_step, with_place}
 use Rattle.model.specs.Store.{settled, stored_word}
 use Rattle.model.specs.Test.{pick}
-use borrow.Author.Rules.{rules}
 use Rattle.body.proofs.acting.save.Goals as goal
 
 pub returns-then-program-address : goal.returns-then-program-address

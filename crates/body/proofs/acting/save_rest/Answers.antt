@@ -1,7 +1,6 @@
 -- `acting::save_rest` meets its contract, by what the instruction does. Assumes nothing.
 use Rattle.model.specs.Device.{save_rest, with_place}
 use Rattle.model.specs.Store.{settled, stored_word}
-use borrow.Author.Rules.{rules}
 use Rattle.body.proofs.acting.save_rest.Goals as goal
 
 pub returns-in-Compute : goal.returns-in-Compute

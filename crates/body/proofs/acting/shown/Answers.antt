@@ -1,7 +1,6 @@
 -- `acting::shown` meets its contract, by what the search ends with. Assumes nothing.
 use native.Mathlib.Omega.{arith}
 use Rattle.model.specs.Device.{shown}
-use borrow.Author.Rules.{rules}
 use Rattle.body.proofs.acting.shown.Goals as goal
 
 pub returns-in_default : goal.returns-in_default

@@ -4,7 +4,6 @@ use native.Mathlib.Omega.{arith}
 use Rattle.model.specs.Device.{act, storing, task_stores, with_place, fresh}
 use Rattle.model.specs.Store.{settled, stored_word, index}
 use Rattle.model.specs.Test.{pick}
-use borrow.Author.Rules.{rules}
 use Rattle.body.proofs.ending.end_task.Goals as goal
 
 pub returns-then-made-eq0 : goal.returns-then-made-eq0

@@ -1,6 +1,5 @@
 -- `ending::ends` meets its contract, by what the instruction does. Assumes nothing.
 use Rattle.model.specs.Device.{ends}
-use borrow.Author.Rules.{rules}
 use Rattle.body.proofs.ending.ends.Goals as goal
 
 pub returns-in-Compute : goal.returns-in-Compute

@@ -1,7 +1,6 @@
 -- `fetching::body_number` meets its contract, by the body's kind. Assumes nothing.
 use native.Mathlib.Omega.{arith}
 use Rattle.model.specs.Program.{body_number}
-use borrow.Author.Rules.{rules}
 use Rattle.body.proofs.fetching.body_number.Goals as goal
 
 pub overflow_add-result : goal.overflow_add-result

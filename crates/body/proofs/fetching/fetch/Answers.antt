@@ -5,7 +5,6 @@ use Rattle.model.specs.Program.{body_number}
 use Rattle.model.specs.Store.{view}
 use Rattle.model.specs.Accepted.{LegalEffect}
 use Rattle.body.proofs.Running.{fetched-row, gone_open, gone, fetched-code, fetched-last, does_stop, does_go, does-same, does-refused, does-accepted, never}
-use borrow.Author.Rules.{rules}
 use Rattle.body.proofs.fetching.fetch.Goals as goal
 
 pub returns-in-Refused : goal.returns-in-Refused

@@ -1,6 +1,5 @@
 -- `fetching::head_is` meets its contract, by the body's kind. Assumes nothing.
 use Rattle.model.specs.Device.{head_is}
-use borrow.Author.Rules.{rules}
 use Rattle.body.proofs.fetching.head_is.Goals as goal
 
 pub returns-in-Task : goal.returns-in-Task

@@ -1,6 +1,5 @@
 -- `fetching::head_sound` meets its contract, by the body's kind. Assumes nothing.
 use Rattle.model.specs.Device.{head_sound}
-use borrow.Author.Rules.{rules}
 use Rattle.body.proofs.fetching.head_sound.Goals as goal
 
 pub returns-in-Task : goal.returns-in-Task

@@ -1,6 +1,5 @@
 -- `fetching::instruction_at` meets its contract, by the place. Assumes nothing.
 use Rattle.body.specs.Running.{instruction_at}
-use borrow.Author.Rules.{rules}
 use Rattle.body.proofs.fetching.instruction_at.Goals as goal
 
 pub returns-in-Free : goal.returns-in-Free

@@ -3,7 +3,6 @@ use mathlib.Core.Path.{sym, ◌∙◌, subst}
 use Rattle.model.proofs.TestLaws.{then_stop, then_go}
 use Rattle.model.specs.Accepted.{LegalEffect}
 use Rattle.body.proofs.Running.{does_stop, does_go, does-same, never}
-use borrow.Author.Rules.{rules}
 use Rattle.body.proofs.fetching.instruction_effect.Goals as goal
 
 pub returns-in-Refused : goal.returns-in-Refused

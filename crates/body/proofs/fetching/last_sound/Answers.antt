@@ -1,7 +1,6 @@
 -- `fetching::last_sound` meets its contract: the first refusal counts. Assumes nothing.
 use Rattle.model.specs.Test.{must}
-use Rattle.model.proofs.TestLaws.{then_stop, then_go, passed, failed}
-use borrow.Author.Rules.{rules}
+use Rattle.model.proofs.TestLaws.{then_stop, then_go}
 use Rattle.std.proofs.Common.{sym}
 use Rattle.std.proofs.Common.{◌∙◌}
 use Rattle.body.proofs.fetching.last_sound.Goals as goal

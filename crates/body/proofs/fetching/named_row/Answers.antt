@@ -1,7 +1,6 @@
 -- `fetching::named_row` meets its contract, by what the instruction does. Assumes nothing.
 use native.Mathlib.Omega.{arith}
 use Rattle.model.specs.Device.{named_row}
-use borrow.Author.Rules.{rules}
 use Rattle.body.proofs.fetching.named_row.Goals as goal
 
 pub usable-requires : goal.usable-requires

@@ -1,6 +1,5 @@
 -- `fetching::open_sound` meets its contract, by the body's kind. Assumes nothing.
 use Rattle.model.specs.Device.{open_sound}
-use borrow.Author.Rules.{rules}
 use Rattle.body.proofs.fetching.open_sound.Goals as goal
 
 pub returns-in-Task : goal.returns-in-Task

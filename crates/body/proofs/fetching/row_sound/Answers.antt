@@ -1,8 +1,7 @@
 -- `fetching::row_sound` meets its contract: the first refusal counts. Assumes nothing.
 use mathlib.Core.Path.{◌∙◌}
-use Rattle.model.proofs.TestLaws.{answered, then_stop, then_go}
+use Rattle.model.proofs.TestLaws.{then_stop, then_go}
 use Rattle.body.proofs.Running.{row-given}
-use borrow.Author.Rules.{rules}
 use Rattle.std.proofs.Common.{sym}
 use Rattle.body.proofs.fetching.row_sound.Goals as goal
 

@@ -3,7 +3,6 @@ use mathlib.Core.Path.{sym}
 use borrow.Author.Tests.{lt-ltb, eq-eqb, ne_eqb}
 use Rattle.model.specs.Control.{obey, open_rule, task_rule}
 use Rattle.model.specs.Test.{must, ◌and◌, ◌or◌}
-use borrow.Author.Rules.{rules}
 use Rattle.control.proofs.single.open_number.Goals as goal
 
 pub returns-then-store-eq0 : goal.returns-then-store-eq0

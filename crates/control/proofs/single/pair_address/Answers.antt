@@ -10,7 +10,6 @@ use Rattle.model.specs.Store.{Store, view, address, log_at}
 use Rattle.model.specs.Test.{must}
 use Rattle.model.specs.declared.Checked.{Checked}
 use Rattle.model.specs.declared.Refusal.{Refusal}
-use borrow.Author.Rules.{rules}
 use Rattle.control.proofs.single.pair_address.Goals as goal
 
 module _ (p : List ℕ) (v : Store) (j : ℕ) {a : ℕ} (is : a ≡ address v j) where

@@ -10,7 +10,6 @@ use Rattle.model.specs.Store.{Store, view, event, queue_at}
 use Rattle.model.specs.Test.{must}
 use Rattle.model.specs.declared.Checked.{Checked}
 use Rattle.model.specs.declared.Refusal.{Refusal}
-use borrow.Author.Rules.{rules}
 use Rattle.control.proofs.single.record_at_head.Goals as goal
 
 module _ (p : List ℕ) (v : Store) {e : ℕ} (is : e ≡ event v v.head) where

@@ -1,9 +1,9 @@
 -- `burst::events` meets its contract. The loop's invariant: what 8 says of the records left is what it says of all. Assumes nothing.
-use Prim.Native.Nat.{ℕ, ◌-◌, ◌≤◌}
+use Prim.Native.Nat.{ℕ, ◌-◌}
 use mathlib.Core.Path.{◌≡◌, sym, ap, ◌∙◌}
 use native.Mathlib.Omega.{arith}
 use borrow.Author.Rules.{rules}
-use Rattle.model.specs.Burst.{records_at, carried, events_rule}
+use Rattle.model.specs.Burst.{records_at, events_rule}
 use Rattle.device.proofs.Bursts.{event-refused, event-passed, events-left}
 use Rattle.device.proofs.burst.events.Goals as goal
 

@@ -1,10 +1,7 @@
 -- `burst::events` meets its contract. The loop's invariant: what 8 says of the records left is what it says of all. Assumes nothing.
-use Prim.Native.Nat.{ℕ, ◌-◌, ◌≤◌}
-use mathlib.Core.Path.{◌≡◌, sym, ap, ◌∙◌}
-use native.Mathlib.Omega.{arith}
-use borrow.Author.Rules.{rules}
+use Prim.Native.Nat.{◌-◌, ◌≤◌}
+use mathlib.Core.Path.{◌≡◌}
 use Rattle.model.specs.Burst.{records_at, carried, events_rule}
-use Rattle.device.proofs.Bursts.{event-refused, event-passed, events-left}
 use Rattle.device.proofs.burst.events.Given as goal
 
 abbrev pub invariant-loop-position : goal.invariant-loop-position

@@ -2,7 +2,6 @@
 use mathlib.Core.List.{[], ◌∷◌}
 use mathlib.Core.Path.{◌∙◌}
 use Rattle.device.proofs.Bursts.{kept-words}
-use borrow.Author.Rules.{rules}
 use Rattle.device.proofs.burst.words.Goals as goal
 
 pub returns : goal.returns

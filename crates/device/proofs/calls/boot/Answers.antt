@@ -1,7 +1,6 @@
 -- `calls::boot` meets its contract: it is judged by the defined check, and the device that it leaves is the defined one. Assumes nothing.
 use mathlib.Core.Path.{◌∙◌, sym}
 use Rattle.model.specs.Device.{judged, boot}
-use borrow.Author.Rules.{rules}
 use Rattle.device.proofs.calls.boot.Goals as goal
 
 pub returns-in_default : goal.returns-in_default

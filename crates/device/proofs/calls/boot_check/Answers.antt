@@ -4,8 +4,7 @@ use mathlib.Core.Bool.{not}
 use mathlib.Core.Path.{ap, ◌∙◌}
 use Rattle.model.specs.Device.{boot_check}
 use Rattle.model.proofs.Passed.{boot-passed}
-use Rattle.model.proofs.TestLaws.{answered, then_stop, then_go, must_refuses, must-accepts}
-use borrow.Author.Rules.{rules}
+use Rattle.model.proofs.TestLaws.{then_stop, then_go, must_refuses, must-accepts}
 use Rattle.std.proofs.Common.{sym}
 use Rattle.device.proofs.calls.boot_check.Goals as goal
 

@@ -3,7 +3,6 @@ use mathlib.Core.Path.{sym, ◌∙◌}
 use Rattle.model.specs.Device.{judged, post}
 use Rattle.model.proofs.BurstLaws.{carried-length}
 use Rattle.device.proofs.Bursts.{posted_few, posted_ring}
-use borrow.Author.Rules.{rules}
 use Rattle.device.proofs.calls.burst.Goals as goal
 
 pub returns-in_default : goal.returns-in_default

@@ -1,7 +1,6 @@
 -- `calls::judge` meets its contract. Assumes nothing.
 use Rattle.model.specs.Device.{judged}
 use Rattle.model.specs.Store.{settled, stored_word}
-use borrow.Author.Rules.{rules}
 use Rattle.device.proofs.calls.judge.Goals as goal
 
 pub returns-in-Accepted : goal.returns-in-Accepted

@@ -1,7 +1,6 @@
 -- `calls::post` meets its contract: the one record of the burst is the event with its data. Assumes nothing.
 use Rattle.model.specs.Burst.{records_at}
 use Rattle.model.specs.Store.{slot}
-use borrow.Author.Rules.{rules}
 use Rattle.device.proofs.calls.post.Goals as goal
 
 pub returns : goal.returns

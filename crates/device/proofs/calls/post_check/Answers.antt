@@ -4,7 +4,7 @@ use mathlib.Core.Path.{◌∙◌}
 use borrow.Author.Tests.{lt-leb, le-leb}
 use Rattle.model.specs.Device.{post_check}
 use Rattle.model.specs.Test.{◌and◌}
-use Rattle.model.proofs.TestLaws.{then_stop, then_go, must_refuses, must-accepts, must_stop, must_go, passed, failed}
+use Rattle.model.proofs.TestLaws.{then_stop, then_go, must_refuses, must-accepts, must_stop, must_go}
 use Rattle.device.proofs.Bursts.{burst_by, takes_by}
 use borrow.Author.Rules.{rules}
 use Rattle.std.proofs.Common.{sym}

@@ -1,7 +1,6 @@
 -- `calls::set_to_work` meets its contract: its test is the definition's. Assumes nothing.
 use mathlib.Core.Path.{sym}
 use Rattle.device.proofs.Bursts.{works_storing, works_dropping}
-use borrow.Author.Rules.{rules}
 use Rattle.device.proofs.calls.set_to_work.Goals as goal
 
 pub returns-then-room-length : goal.returns-then-room-length

@@ -2,7 +2,6 @@
 use borrow.Author.Tests.{eq-eqb, ne_eqb}
 use Rattle.model.specs.Device.{begun_of, data_for, started, taken_up}
 use Rattle.model.specs.Test.{pick}
-use borrow.Author.Rules.{rules}
 use Rattle.device.proofs.calls.taken_up.Goals as goal
 
 pub returns-then-store-ne0 : goal.returns-then-store-ne0

@@ -1,7 +1,6 @@
 -- `calls::takes` meets its contract, test by test. Assumes nothing.
 use mathlib.Core.Path.{sym, ◌∙◌}
 use Rattle.device.proofs.Bursts.{takes-fits, takes-many, takes_one}
-use borrow.Author.Rules.{rules}
 use Rattle.device.proofs.calls.takes.Goals as goal
 
 pub returns-then-length-room : goal.returns-then-length-room

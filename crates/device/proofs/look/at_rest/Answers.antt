@@ -1,6 +1,5 @@
 -- `look::at_rest` meets its contract, by the handler. Assumes nothing.
 use Rattle.model.specs.Device.{is_at_rest}
-use borrow.Author.Rules.{rules}
 use Rattle.device.proofs.look.at_rest.Goals as goal
 
 pub returns-in-Resting : goal.returns-in-Resting

@@ -2,8 +2,6 @@
 use borrow.Author.Tests.{le-leb, lt-leb, eq-eqb, ne_eqb}
 use Rattle.model.specs.Device.{device_sound}
 use Rattle.model.specs.Test.{pick, ◌and◌}
-use Rattle.model.proofs.TestLaws.{passed, failed}
-use borrow.Author.Rules.{rules}
 use Rattle.std.proofs.Common.{sym}
 use Rattle.std.proofs.Common.{◌∙◌}
 use Rattle.device.proofs.look.device_sound.Goals as goal

@@ -1,6 +1,5 @@
 -- `look::end_stores` meets its contract. Assumes nothing.
 use Rattle.model.specs.Device.{end_stores}
-use borrow.Author.Rules.{rules}
 use Rattle.device.proofs.look.end_stores.Goals as goal
 
 pub returns-in-Task : goal.returns-in-Task

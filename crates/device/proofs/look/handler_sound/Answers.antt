@@ -4,7 +4,6 @@ use Rattle.model.specs.Burst.{records_at, known_events}
 use Rattle.model.specs.Device.{handler_sound}
 use Rattle.model.specs.Store.{slot}
 use Rattle.model.specs.Test.{◌and◌}
-use borrow.Author.Rules.{rules}
 use Rattle.device.proofs.look.handler_sound.Goals as goal
 
 pub returns-then-burst-program : goal.returns-then-burst-program

@@ -2,7 +2,6 @@
 use borrow.Author.Tests.{eq-eqb, ne_eqb}
 use Rattle.model.specs.Device.{is_fresh}
 use Rattle.model.specs.Test.{◌and◌}
-use borrow.Author.Rules.{rules}
 use Rattle.device.proofs.look.is_fresh.Goals as goal
 
 pub returns-then-made-ne0 : goal.returns-then-made-ne0

@@ -2,7 +2,6 @@
 use borrow.Author.Tests.{eq-eqb, ne_eqb}
 use Rattle.model.specs.Device.{last_stores, task_last_stores, event_last_stores}
 use Rattle.model.specs.Test.{pick}
-use borrow.Author.Rules.{rules}
 use Rattle.device.proofs.look.last_stores.Goals as goal
 
 pub returns-then-store-eq1 : goal.returns-then-store-eq1

@@ -5,9 +5,8 @@ use borrow.Author.Tests.{not-true, not-false}
 use Rattle.model.proofs.Passed.{control-passed, look-passed}
 use Rattle.model.specs.Device.{look}
 use Rattle.model.specs.Store.{view}
-use Rattle.model.proofs.TestLaws.{answered, then_stop, then_go, must_refuses, must-accepts, must_stop, must_go, passed, failed}
+use Rattle.model.proofs.TestLaws.{then_stop, then_go, must_refuses, must-accepts, must_stop, must_go}
 use Rattle.device.specs.Result.{device_with}
-use borrow.Author.Rules.{rules}
 use Rattle.device.proofs.look.look.Goals as goal
 
 pub returns-in_default-clause-value : goal.returns-in_default-clause-value

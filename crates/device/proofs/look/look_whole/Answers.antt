@@ -1,11 +1,9 @@
 -- `look::look_whole` meets its contract. A device is its core with its registers and its burst. Assumes nothing.
 use mathlib.Core.Path.{ap, ◌∙◌}
 use Rattle.model.specs.Device.{look}
-use Rattle.model.proofs.TestLaws.{answered}
 use Rattle.model.proofs.Passed.{look-passed}
 use Rattle.device.specs.Result.{device_with}
 use Rattle.device.specs.declared.Core.{Core}
-use borrow.Author.Rules.{rules}
 use Rattle.std.proofs.Common.{sym}
 use Rattle.device.proofs.look.look_whole.Goals as goal
 

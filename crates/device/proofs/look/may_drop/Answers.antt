@@ -1,7 +1,5 @@
 -- `look::may_drop` meets its contract, test by test. Assumes nothing.
-use Rattle.model.proofs.TestLaws.{passed, failed}
 use Rattle.device.proofs.Bursts.{not_full, event-begun, phase-asked}
-use borrow.Author.Rules.{rules}
 use Rattle.std.proofs.Common.{sym}
 use Rattle.std.proofs.Common.{◌∙◌}
 use Rattle.device.proofs.look.may_drop.Goals as goal

@@ -11,8 +11,7 @@ use Rattle.model.specs.Device.{place_sound}
 use Rattle.model.specs.Store.{Store, view}
 use Rattle.model.specs.declared.Place.{Place}
 use Rattle.model.specs.Test.{pick, ◌and◌}
-use Rattle.model.proofs.TestLaws.{pick_true, passed, failed}
-use borrow.Author.Rules.{rules}
+use Rattle.model.proofs.TestLaws.{pick_true}
 use Rattle.device.proofs.look.place_sound.Goals as goal
 
 free-still : (p : List ℕ) (v : Store) (l n : ℕ) (x : Place) → x ≡ Place.Free n → v.phase ≡ 0 → n ≡ 0 → eqb v.begun 0 ≡ place_sound p v l x

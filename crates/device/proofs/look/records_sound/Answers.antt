@@ -3,7 +3,6 @@ use mathlib.Core.Path.{sym, ◌∙◌}
 use borrow.Author.Tests.{lt-leb, le-leb}
 use Rattle.model.specs.Test.{◌and◌}
 use Rattle.device.proofs.Bursts.{known_so, unknown_so, sound_by}
-use borrow.Author.Rules.{rules}
 use Rattle.device.proofs.look.records_sound.Goals as goal
 
 pub returns-then-length-lt1 : goal.returns-then-length-lt1

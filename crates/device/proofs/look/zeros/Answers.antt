@@ -2,7 +2,6 @@
 use Rattle.model.proofs.TestLaws.{both_zero}
 use Rattle.model.specs.Device.{zeros}
 use Rattle.model.specs.Test.{◌and◌}
-use borrow.Author.Rules.{rules}
 use Rattle.device.proofs.look.zeros.Goals as goal
 
 pub returns : goal.returns

@@ -1,6 +1,5 @@
 -- `results::begin` meets its contract: by what `at_place` ensures. Assumes nothing.
 use mathlib.Core.Path.{refl}
-use borrow.Author.Rules.{rules}
 use Rattle.device.proofs.results.begin.Goals as goal
 
 pub returns : goal.returns

@@ -1,5 +1,4 @@
 -- `results::stored` meets its contract: by what `with_place` ensures. Assumes nothing.
-use borrow.Author.Rules.{rules}
 use Rattle.device.proofs.results.stored.Goals as goal
 
 pub returns : goal.returns

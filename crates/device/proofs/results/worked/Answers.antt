@@ -1,5 +1,4 @@
 -- `results::worked` meets its contract: by what `with_place` ensures. Assumes nothing.
-use borrow.Author.Rules.{rules}
 use Rattle.device.proofs.results.worked.Goals as goal
 
 pub returns : goal.returns

@@ -2,7 +2,6 @@
 use Rattle.model.proofs.TestLaws.{tests}
 use Rattle.model.specs.Test.{◌and◌}
 use Rattle.lines.specs.Lines.{covers}
-use borrow.Author.Rules.{rules}
 use Rattle.lines.proofs.levels.covers.Goals as goal
 
 pub returns-then-table-at : goal.returns-then-table-at

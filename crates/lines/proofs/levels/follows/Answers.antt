@@ -4,7 +4,6 @@ use native.Mathlib.Omega.{arith}
 use Rattle.model.proofs.TestLaws.{tests}
 use Rattle.model.specs.Test.{pick, ◌and◌}
 use Rattle.lines.specs.Inside.{follows}
-use borrow.Author.Rules.{rules}
 use Rattle.lines.proofs.levels.follows.Goals as goal
 
 pub returns-then-line-from : goal.returns-then-line-from

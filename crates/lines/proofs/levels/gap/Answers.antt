@@ -1,9 +1,7 @@
 -- `levels::gap` meets its contract: a line without rows has no gap, and of others the lowest is found. Assumes nothing.
 use mathlib.Core.Path.{sym}
-use Rattle.model.proofs.TestLaws.{passed, failed}
 use Rattle.lines.proofs.LineLaws.{unnamed_accepts, gap_refuses, gap-accepts}
 use Rattle.lines.specs.Lines.{gap_rule, levels}
-use borrow.Author.Rules.{rules}
 use Rattle.std.proofs.Common.{◌∙◌}
 use Rattle.lines.proofs.levels.gap.Goals as goal
 

@@ -1,12 +1,10 @@
 -- `levels::gaps` meets its contract. The invariant: what is left of the lines decides the answer. The measure is how many are left. Assumes
 -- nothing.
-use Prim.Native.Nat.{◌-◌, ◌≤◌, zero-le}
-use mathlib.Core.Path.{◌≡◌, refl, ◌∙◌}
+use Prim.Native.Nat.{zero-le}
+use mathlib.Core.Path.{refl, ◌∙◌}
 use native.Mathlib.Omega.{arith}
 use Rattle.model.proofs.TestLaws.{each_none, each_stop, each_go}
-use Rattle.model.specs.Test.{each}
 use Rattle.lines.specs.Lines.{gap_rule, lines, line_rule, line_rules}
-use borrow.Author.Rules.{rules}
 use Rattle.lines.proofs.levels.gaps.Goals as goal
 
 pub loop-line-init : goal.loop-line-init

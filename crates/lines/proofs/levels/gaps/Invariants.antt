@@ -1,12 +1,9 @@
 -- `levels::gaps` meets its contract. The invariant: what is left of the lines decides the answer. The measure is how many are left. Assumes
 -- nothing.
-use Prim.Native.Nat.{◌-◌, ◌≤◌, zero-le}
-use mathlib.Core.Path.{◌≡◌, refl, ◌∙◌}
-use native.Mathlib.Omega.{arith}
-use Rattle.model.proofs.TestLaws.{each_none, each_stop, each_go}
+use Prim.Native.Nat.{◌-◌, ◌≤◌}
+use mathlib.Core.Path.{◌≡◌}
 use Rattle.model.specs.Test.{each}
-use Rattle.lines.specs.Lines.{gap_rule, lines, line_rule, line_rules}
-use borrow.Author.Rules.{rules}
+use Rattle.lines.specs.Lines.{gap_rule, line_rule, line_rules}
 use Rattle.lines.proofs.levels.gaps.Given as goal
 
 abbrev pub invariant-loop-line : goal.invariant-loop-line

@@ -1,12 +1,11 @@
 -- `levels::in_order` meets its contract. The invariant: the rows so far stand in order. The measure is how many are left. Assumes nothing.
-use Prim.Native.Nat.{ℕ, ◌+◌, ◌*◌, ◌-◌, ◌≤◌, ◌<◌, zero-le}
+use Prim.Native.Nat.{ℕ, ◌+◌, ◌*◌, ◌<◌, zero-le}
 use mathlib.Core.Path.{◌≡◌, refl, subst}
 use borrow.Author.Tests.{eqb-true}
 use native.Mathlib.Omega.{arith}
-use Rattle.model.proofs.TestLaws.{clash, passed}
+use Rattle.model.proofs.TestLaws.{clash}
 use Rattle.lines.proofs.OrderLaws.{Ordered, ordered_none, ordered_next, ordered_all}
 use Rattle.lines.specs.Lines.{rows}
-use borrow.Author.Rules.{rules}
 use Rattle.std.proofs.Common.{sym}
 use Rattle.std.proofs.Common.{◌∙◌}
 use Rattle.lines.proofs.levels.in_order.Goals as goal

@@ -1,12 +1,8 @@
 -- `levels::in_order` meets its contract. The invariant: the rows so far stand in order. The measure is how many are left. Assumes nothing.
-use Prim.Native.Nat.{ℕ, ◌+◌, ◌*◌, ◌-◌, ◌≤◌, ◌<◌, zero-le}
-use mathlib.Core.Path.{◌≡◌, refl, subst}
-use borrow.Author.Tests.{eqb-true}
-use native.Mathlib.Omega.{arith}
-use Rattle.model.proofs.TestLaws.{clash, passed}
-use Rattle.lines.proofs.OrderLaws.{Ordered, ordered_none, ordered_next, ordered_all}
+use Prim.Native.Nat.{◌-◌, ◌≤◌}
+use mathlib.Core.Path.{◌≡◌}
+use Rattle.lines.proofs.OrderLaws.{Ordered}
 use Rattle.lines.specs.Lines.{rows}
-use borrow.Author.Rules.{rules}
 use Rattle.lines.proofs.levels.in_order.Given as goal
 
 abbrev pub invariant-loop-row : goal.invariant-loop-row

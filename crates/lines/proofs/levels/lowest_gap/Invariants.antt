@@ -1,13 +1,9 @@
 -- `levels::lowest_gap` meets its contract. The invariant: every level so far is covered. The measure is how many levels are left; each row gone to
 -- lowers it. Assumes nothing.
-use Prim.Native.Nat.{ℕ, ◌+◌, ◌-◌, ◌*◌, ◌≤◌, ◌<◌, zero-le}
+use Prim.Native.Nat.{ℕ, ◌-◌, ◌≤◌, ◌<◌}
 use mathlib.Core.Path.{◌≡◌}
-use native.Mathlib.Omega.{arith}
-use Rattle.model.proofs.TestLaws.{below_or}
-use Rattle.lines.proofs.LineLaws.{row-found, row_missing, least-gap}
-use Rattle.lines.specs.Claims.{Covers, Covered}
-use Rattle.lines.specs.Lines.{rows, levels}
-use borrow.Author.Rules.{rules}
+use Rattle.lines.specs.Claims.{Covered}
+use Rattle.lines.specs.Lines.{rows}
 use Rattle.lines.proofs.levels.lowest_gap.Given as goal
 
 abbrev pub invariant-loop-level : goal.invariant-loop-level

@@ -1,12 +1,11 @@
 -- `levels::lowest_shared` meets its contract. The invariant: it is the lowest place shared with the rows so far. The measure is how many are left.
 -- Assumes nothing.
-use Prim.Native.Nat.{◌-◌, ◌≤◌, zero-le}
+use Prim.Native.Nat.{zero-le}
 use mathlib.Core.Path.{◌≡◌, subst}
 use Prim.Native.Nat.{ℕ}
 use native.Mathlib.Omega.{arith}
 use Rattle.lines.proofs.LeastLaws.{least_lesser, none_below, shared_below}
 use Rattle.lines.specs.Inside.{Least, SharedAt, SharedBelow}
-use borrow.Author.Rules.{rules}
 use Rattle.lines.proofs.levels.lowest_shared.Goals as goal
 
 pub loop-other-init : goal.loop-other-init

@@ -1,12 +1,7 @@
 -- `levels::lowest_shared` meets its contract. The invariant: it is the lowest place shared with the rows so far. The measure is how many are left.
 -- Assumes nothing.
-use Prim.Native.Nat.{◌-◌, ◌≤◌, zero-le}
-use mathlib.Core.Path.{◌≡◌, subst}
-use Prim.Native.Nat.{ℕ}
-use native.Mathlib.Omega.{arith}
-use Rattle.lines.proofs.LeastLaws.{least_lesser, none_below, shared_below}
-use Rattle.lines.specs.Inside.{Least, SharedAt, SharedBelow}
-use borrow.Author.Rules.{rules}
+use Prim.Native.Nat.{◌-◌, ◌≤◌}
+use Rattle.lines.specs.Inside.{Least, SharedBelow}
 use Rattle.lines.proofs.levels.lowest_shared.Given as goal
 
 abbrev pub invariant-loop-other : goal.invariant-loop-other

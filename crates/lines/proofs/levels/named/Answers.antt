@@ -1,13 +1,12 @@
 -- `levels::named` meets its contract. The invariant: no row so far is of the line. The measure is how many are left. Assumes nothing.
-use Prim.Native.Nat.{ℕ, ◌-◌, ◌≤◌, ◌<◌, zero-le}
+use Prim.Native.Nat.{ℕ, zero-le}
 use mathlib.Core.Bool.{false}
 use mathlib.Core.Path.{◌≡◌, sym, subst}
 use borrow.Author.Tests.{ne_eqb}
 use native.Mathlib.Omega.{arith}
 use Rattle.model.proofs.TestLaws.{same_or}
 use Rattle.lines.proofs.LineLaws.{named-true, unnamed}
-use Rattle.lines.specs.Lines.{rows, is_of}
-use borrow.Author.Rules.{rules}
+use Rattle.lines.specs.Lines.{is_of}
 use Rattle.lines.proofs.levels.named.Goals as goal
 
 pub loop-row-init : goal.loop-row-init

@@ -1,6 +1,6 @@
 -- `levels::overlaps` meets its contract. The invariant: it is the lowest place that two of the rows so far share. The measure is how many are left.
 -- Assumes nothing.
-use Prim.Native.Nat.{ℕ, ◌-◌, ◌/◌, ◌%◌, ◌≤◌, zero-le}
+use Prim.Native.Nat.{ℕ, ◌/◌, ◌%◌, zero-le}
 use mathlib.Core.Path.{◌≡◌, subst}
 use native.Mathlib.Omega.{arith}
 use Rattle.model.specs.declared.Checked.{Checked}
@@ -9,7 +9,6 @@ use Rattle.lines.proofs.LeastLaws.{none-among, shared_among}
 use Rattle.lines.proofs.LineLaws.{overlap_refuses, overlap-accepts}
 use Rattle.lines.specs.Inside.{Least, SharedAmong}
 use Rattle.lines.specs.Lines.{rows, overlap_rule, line_rules}
-use borrow.Author.Rules.{rules}
 use Rattle.lines.proofs.levels.overlaps.Goals as goal
 
 pub loop-row-init : goal.loop-row-init

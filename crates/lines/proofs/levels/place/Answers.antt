@@ -1,6 +1,5 @@
 -- `levels::place` meets its contract. Assumes nothing.
 use mathlib.Core.Path.{refl}
-use borrow.Author.Rules.{rules}
 use Rattle.lines.proofs.levels.place.Goals as goal
 
 pub returns : goal.returns

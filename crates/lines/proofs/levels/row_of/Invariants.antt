@@ -1,13 +1,8 @@
 -- `levels::row_of` meets its contract. The invariant: the search of what is left of the rows ends where the whole search does. The measure is how
 -- many are left. Assumes nothing.
-use Prim.Native.Nat.{◌-◌, ◌/◌, ◌≤◌, zero-le}
-use mathlib.Core.Path.{◌≡◌, sym, ◌∙◌}
-use lib.ListN.{length}
-use native.Mathlib.Nat.{sub-zero}
-use native.Mathlib.Omega.{arith}
-use Rattle.lines.proofs.CountLaws.{first_hit, first_miss, first-none}
+use Prim.Native.Nat.{◌-◌, ◌≤◌}
+use mathlib.Core.Path.{◌≡◌}
 use Rattle.lines.specs.Lines.{rows, covers, first, row_of}
-use borrow.Author.Rules.{rules}
 use Rattle.lines.proofs.levels.row_of.Given as goal
 
 abbrev pub invariant-loop-row : goal.invariant-loop-row

@@ -4,7 +4,6 @@ use Prim.Native.Nat.{◌+◌, ◌*◌}
 use mathlib.Core.Path.{refl, sym, ◌∙◌}
 use native.Mathlib.Omega.{arith}
 use Rattle.lines.proofs.LeastLaws.{shared_none, shared_from}
-use borrow.Author.Rules.{rules}
 use Rattle.lines.proofs.levels.shared.Goals as goal
 
 pub returns-then-table-other_at : goal.returns-then-table-other_at

@@ -2,7 +2,6 @@
 use Rattle.model.proofs.TestLaws.{tests}
 use Rattle.model.specs.Test.{must, ◌then◌}
 use Rattle.lines.specs.Lines.{row_rule}
-use borrow.Author.Rules.{rules}
 use Rattle.lines.proofs.rows.rule.Goals as goal
 
 pub returns-then-row-ge64 : goal.returns-then-row-ge64

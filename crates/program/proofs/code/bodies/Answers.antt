@@ -1,13 +1,10 @@
 -- `code::bodies` meets its contract. The invariant: what is left of the bodies decides the answer. The measure is how many are
 -- left. Assumes nothing.
-use Prim.Native.Nat.{◌-◌, ◌≤◌, zero-le}
-use mathlib.Core.Path.{◌≡◌, refl, ◌∙◌}
+use Prim.Native.Nat.{zero-le}
+use mathlib.Core.Path.{refl, ◌∙◌}
 use native.Mathlib.Nat.{sub-zero}
 use native.Mathlib.Omega.{arith}
-use borrow.Author.Rules.{rules}
 use Rattle.model.specs.Check.{body_rule}
-use Rattle.model.specs.Program.{bodies}
-use Rattle.model.specs.Test.{each}
 use Rattle.model.proofs.TestLaws.{each_none, each_stop, each_go}
 use Rattle.program.proofs.code.bodies.Goals as goal
 

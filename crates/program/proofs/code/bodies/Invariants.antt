@@ -1,14 +1,10 @@
 -- `code::bodies` meets its contract. The invariant: what is left of the bodies decides the answer. The measure is how many are
 -- left. Assumes nothing.
-use Prim.Native.Nat.{◌-◌, ◌≤◌, zero-le}
-use mathlib.Core.Path.{◌≡◌, refl, ◌∙◌}
-use native.Mathlib.Nat.{sub-zero}
-use native.Mathlib.Omega.{arith}
-use borrow.Author.Rules.{rules}
+use Prim.Native.Nat.{◌-◌, ◌≤◌}
+use mathlib.Core.Path.{◌≡◌}
 use Rattle.model.specs.Check.{body_rule}
 use Rattle.model.specs.Program.{bodies}
 use Rattle.model.specs.Test.{each}
-use Rattle.model.proofs.TestLaws.{each_none, each_stop, each_go}
 use Rattle.program.proofs.code.bodies.Given as goal
 
 abbrev pub invariant-loop-body_number : goal.invariant-loop-body_number

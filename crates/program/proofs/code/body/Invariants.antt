@@ -1,14 +1,10 @@
 -- `code::body` meets its contract. The invariant: what is left of the body decides the answer. The measure is how many
 -- instructions are left. Assumes nothing.
-use Prim.Native.Nat.{◌-◌, ◌≤◌, zero-le}
-use mathlib.Core.Path.{◌≡◌, ◌∙◌}
-use native.Mathlib.Nat.{sub-zero}
-use native.Mathlib.Omega.{arith}
-use borrow.Author.Rules.{rules}
+use Prim.Native.Nat.{◌-◌, ◌≤◌}
+use mathlib.Core.Path.{◌≡◌}
 use Rattle.model.specs.Check.{instruction_rule, body_rule}
 use Rattle.model.specs.Program.{instructions}
 use Rattle.model.specs.Test.{each}
-use Rattle.model.proofs.TestLaws.{each_none, each_stop, each_go}
 use Rattle.program.proofs.code.body.Given as goal
 
 abbrev pub invariant-loop-instruction : goal.invariant-loop-instruction

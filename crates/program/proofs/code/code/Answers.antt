@@ -1,5 +1,4 @@
 -- `code::code` meets its contract: the word at the place that the row's start gives. Assumes nothing.
-use borrow.Author.Rules.{rules}
 use Rattle.program.proofs.code.code.Goals as goal
 
 pub returns : goal.returns

@@ -1,5 +1,4 @@
 -- `code::fields_fit` meets its contract: at each `return` the tests on the way are the definition's. Assumes nothing.
-use borrow.Author.Rules.{rules}
 use Rattle.model.specs.Check.{fields_fit}
 use Rattle.model.specs.Test.{◌and◌}
 use Rattle.model.proofs.TestLaws.{tests}

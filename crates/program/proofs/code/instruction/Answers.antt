@@ -1,5 +1,4 @@
 -- `code::instruction` meets its contract: the two words, taken apart and decoded. Assumes nothing.
-use borrow.Author.Rules.{rules}
 use Rattle.program.proofs.code.instruction.Goals as goal
 
 pub returns : goal.returns

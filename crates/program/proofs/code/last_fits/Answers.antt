@@ -1,5 +1,4 @@
 -- `code::last_fits` meets its contract: only the last instruction's opcode is looked at. Assumes nothing.
-use borrow.Author.Rules.{rules}
 use Rattle.model.specs.Check.{last_one_fits}
 use Rattle.model.specs.Test.{pick}
 use Rattle.model.proofs.TestLaws.{tests}

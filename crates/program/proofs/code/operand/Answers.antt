@@ -1,5 +1,4 @@
 -- `code::operand` meets its contract: the word behind the first one. Assumes nothing.
-use borrow.Author.Rules.{rules}
 use Rattle.program.proofs.code.operand.Goals as goal
 
 pub returns : goal.returns

@@ -4,8 +4,6 @@ use Prim.Native.Nat.{ℕ}
 use mathlib.Core.Bool.{Bool}
 use mathlib.Core.List.{List}
 use mathlib.Core.Path.{◌≡◌}
-use borrow.Author.Rules.{rules}
-use borrow.Author.Tests.{not-true, not-false}
 use lib.Dec.{ltb}
 use Rattle.model.specs.Check.{fields_fit, instruction_rule}
 use Rattle.model.specs.Program.{memory_words, tasks, instructions, opcode, code, operand, bounds}
@@ -15,8 +13,6 @@ use Rattle.program.specs.declared.code.Below.{Below}
 use Rattle.model.specs.declared.Checked.{Checked}
 use Rattle.model.proofs.Passed.{rule-passed}
 use Rattle.std.proofs.Common.{sym}
-use Rattle.std.proofs.Common.{◌∙◌}
-
 use Rattle.program.proofs.code.rule.Goals as goal
 
 -- the test of the definition

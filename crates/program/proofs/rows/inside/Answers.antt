@@ -1,9 +1,8 @@
 -- `rows::inside` meets its contract, by its one test. Assumes nothing.
-use borrow.Author.Rules.{rules}
 use Rattle.model.specs.Check.{rows_inside_rule}
 use Rattle.model.specs.Test.{must}
 use Rattle.model.proofs.ProgramLaws.{inside-passed}
-use Rattle.model.proofs.TestLaws.{tests, answered}
+use Rattle.model.proofs.TestLaws.{tests}
 use Rattle.std.proofs.Common.{sym}
 use Rattle.std.proofs.Common.{◌∙◌}
 use Rattle.program.proofs.rows.inside.Goals as goal

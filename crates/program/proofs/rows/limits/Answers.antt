@@ -1,5 +1,4 @@
 -- `rows::limits` meets its contract: at each `return` the tests on the way are the definition's. Assumes nothing.
-use borrow.Author.Rules.{rules}
 use Rattle.model.specs.Check.{limits}
 use Rattle.model.specs.Test.{must, ◌then◌}
 use Rattle.model.proofs.TestLaws.{tests}

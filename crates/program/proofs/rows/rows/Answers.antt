@@ -6,7 +6,7 @@ use borrow.Author.Rules.{rules}
 use Rattle.model.specs.Check.{rows}
 use Rattle.model.specs.Test.{must, ◌then◌}
 use Rattle.model.proofs.ProgramLaws.{rows-passed}
-use Rattle.model.proofs.TestLaws.{tests, answered, then_stop, then_go}
+use Rattle.model.proofs.TestLaws.{tests, then_stop, then_go}
 use Rattle.std.proofs.Common.{sym}
 use Rattle.program.proofs.rows.rows.Goals as goal
 

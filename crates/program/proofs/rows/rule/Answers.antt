@@ -1,5 +1,4 @@
 -- `rows::rule` meets its contract: where the row is due, then its limits. Assumes nothing.
-use borrow.Author.Rules.{rules}
 use Rattle.model.specs.Check.{row_rule}
 use Rattle.model.specs.Test.{must, ◌then◌}
 use Rattle.model.proofs.TestLaws.{tests}

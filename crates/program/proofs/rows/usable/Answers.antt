@@ -1,10 +1,9 @@
 -- `rows::usable` meets its contract: the row's limits, then where its body lies. Assumes nothing.
 use native.Mathlib.Omega.{arith}
-use borrow.Author.Rules.{rules}
 use Rattle.model.specs.Check.{row_usable}
 use Rattle.model.specs.Test.{must, ◌then◌}
 use Rattle.model.proofs.ProgramLaws.{used_passed}
-use Rattle.model.proofs.TestLaws.{tests, answered, then_stop}
+use Rattle.model.proofs.TestLaws.{tests, then_stop}
 use Rattle.std.proofs.Common.{sym}
 use Rattle.std.proofs.Common.{◌∙◌}
 use Rattle.program.proofs.rows.usable.Goals as goal

@@ -1,12 +1,11 @@
 -- `calls::copy_words` meets its contract. The invariant: so many words are copied. The measure is how many are left. Assumes nothing.
-use Prim.Native.Nat.{ℕ, ◌+◌, ◌-◌, ◌≤◌, zero-le}
+use Prim.Native.Nat.{ℕ, zero-le}
 use mathlib.Core.List.{List, [], ◌∷◌, ◌++◌}
-use mathlib.Core.Path.{◌≡◌, refl, sym, ap, ◌∙◌}
+use mathlib.Core.Path.{refl, sym, ap, ◌∙◌}
 use native.Mathlib.Numerals.{add-one}
 use native.Mathlib.Omega.{arith}
-use lib.ListN.{length, get_or, take, length-set}
+use lib.ListN.{get_or, length-set}
 use lib.Seq.{take-suc-set, take-suc, take_all}
-use borrow.Author.Rules.{rules}
 use Rattle.sheet.proofs.calls.copy_words.Goals as goal
 
 pub loop-i-init : goal.loop-i-init

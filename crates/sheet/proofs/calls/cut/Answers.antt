@@ -11,7 +11,6 @@ use Rattle.model.specs.Store.{view}
 use Rattle.sheet.proofs.ReachedLaws.{reached_copy}
 use Rattle.sheet.specs.Inside.{after_call}
 use Rattle.sheet.specs.Sheet.{memory_line}
-use borrow.Author.Rules.{rules}
 use Rattle.sheet.proofs.calls.cut.Goals as goal
 
 pub returns : goal.returns

@@ -7,7 +7,6 @@ use Rattle.sheet.proofs.SheetLaws.{ends_unread, ends-cut, ends_other}
 use Rattle.sheet.specs.Inside.{call_of}
 use Rattle.sheet.specs.Printed.{holding}
 use Rattle.sheet.specs.Sheet.{call_line}
-use borrow.Author.Rules.{rules}
 use Rattle.sheet.proofs.calls.line.Goals as goal
 
 pub returns-in-Boot : goal.returns-in-Boot

@@ -2,7 +2,6 @@
 use Rattle.model.proofs.TestLaws.{tests}
 use Rattle.model.specs.Test.{pick}
 use Rattle.sheet.specs.Inside.{next_number}
-use borrow.Author.Rules.{rules}
 use Rattle.sheet.proofs.calls.next.Goals as goal
 
 pub returns-then-number-eq18446744073709551615 : goal.returns-then-number-eq18446744073709551615

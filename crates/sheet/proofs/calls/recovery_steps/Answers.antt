@@ -4,7 +4,6 @@ use mathlib.Core.Path.{sym, ap, ◌∙◌}
 use borrow.Author.Tests.{eq-eqb, ne_eqb}
 use Rattle.model.proofs.TestLaws.{pick_true, pick-false}
 use Rattle.model.specs.Demand3.{recovery_steps}
-use borrow.Author.Rules.{rules}
 use Rattle.sheet.proofs.calls.recovery_steps.Goals as goal
 
 pub returns-then-phase-eq1 : goal.returns-then-phase-eq1

@@ -7,7 +7,6 @@ use lib.ListN.{take, drop}
 use Rattle.model.specs.Program.{word}
 use Rattle.text.proofs.TextLaws.{puts_nothing}
 use Rattle.sheet.specs.Sheet.{memory_line}
-use borrow.Author.Rules.{rules}
 use Rattle.sheet.proofs.calls.store_line.Goals as goal
 
 pub returns-then-words-gt1024 : goal.returns-then-words-gt1024

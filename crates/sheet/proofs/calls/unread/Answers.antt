@@ -1,6 +1,5 @@
 -- `calls::unread` meets its contract. Assumes nothing.
 use native.Mathlib.Omega.{arith}
-use borrow.Author.Rules.{rules}
 use Rattle.sheet.proofs.calls.unread.Goals as goal
 
 pub returns : goal.returns

@@ -3,7 +3,6 @@ use mathlib.Core.Path.{ap, ◌∙◌}
 use Rattle.sheet.proofs.TextLaws.{check-told}
 use Rattle.text.proofs.TextLaws.{puts_as}
 use Rattle.sheet.specs.Inside.{told_line}
-use borrow.Author.Rules.{rules}
 use Rattle.sheet.proofs.printing.check_line.Goals as goal
 
 pub returns : goal.returns

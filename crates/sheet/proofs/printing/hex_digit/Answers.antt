@@ -2,7 +2,6 @@
 use Rattle.model.proofs.TestLaws.{tests}
 use Rattle.model.specs.Test.{pick}
 use Rattle.sheet.specs.Sheet.{hex_digit}
-use borrow.Author.Rules.{rules}
 use Rattle.sheet.proofs.printing.hex_digit.Goals as goal
 
 pub returns-then-n-lt10 : goal.returns-then-n-lt10

@@ -1,7 +1,6 @@
 -- `printing::hex_word` meets its contract. Assumes nothing.
 use Rattle.text.proofs.TextLaws.{puts_as}
 use Rattle.sheet.specs.Sheet.{hex_word}
-use borrow.Author.Rules.{rules}
 use Rattle.sheet.proofs.printing.hex_word.Goals as goal
 
 pub returns : goal.returns

@@ -2,7 +2,6 @@
 use native.Mathlib.Omega.{arith}
 use Rattle.sheet.proofs.TextLaws.{told-refused, told_other, told_none, told-dropped}
 use Rattle.text.proofs.TextLaws.{puts_nothing, puts_as}
-use borrow.Author.Rules.{rules}
 use Rattle.sheet.proofs.printing.line_of.Goals as goal
 
 pub returns-then-answer-eq6 : goal.returns-then-answer-eq6

@@ -2,7 +2,6 @@
 use native.Mathlib.Omega.{arith}
 use Rattle.text.proofs.TextLaws.{puts_then}
 use Rattle.sheet.specs.Sheet.{memory_line}
-use borrow.Author.Rules.{rules}
 use Rattle.sheet.proofs.printing.memory_line.Goals as goal
 
 pub returns : goal.returns

@@ -2,7 +2,6 @@
 use native.Mathlib.Omega.{arith}
 use Rattle.text.proofs.TextLaws.{puts_then}
 use Rattle.sheet.specs.Sheet.{refused_line}
-use borrow.Author.Rules.{rules}
 use Rattle.sheet.proofs.printing.refused_line.Goals as goal
 
 pub returns : goal.returns

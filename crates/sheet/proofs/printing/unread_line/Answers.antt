@@ -2,7 +2,6 @@
 use native.Mathlib.Omega.{arith}
 use Rattle.text.proofs.TextLaws.{puts_then}
 use Rattle.sheet.specs.Sheet.{unread_line}
-use borrow.Author.Rules.{rules}
 use Rattle.sheet.proofs.printing.unread_line.Goals as goal
 
 pub returns : goal.returns

@@ -4,7 +4,6 @@ use native.Mathlib.Omega.{arith}
 use Rattle.model.proofs.TestLaws.{tests}
 use Rattle.model.specs.Test.{pick, ◌and◌}
 use Rattle.sheet.specs.Sheet.{digit}
-use borrow.Author.Rules.{rules}
 use Rattle.sheet.proofs.schedule.digit.Goals as goal
 
 pub returns-then-byte-lt48 : goal.returns-then-byte-lt48

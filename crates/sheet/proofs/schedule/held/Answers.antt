@@ -3,7 +3,6 @@ use mathlib.Core.Path.{sym, ap, ◌∙◌}
 use native.Mathlib.Omega.{arith}
 use lib.Seq.{length-take-le, take_all}
 use Rattle.sheet.specs.Sheet.{scheduled}
-use borrow.Author.Rules.{rules}
 use Rattle.sheet.proofs.schedule.held.Goals as goal
 
 pub slice_bounds-read-end : goal.slice_bounds-read-end

@@ -2,8 +2,7 @@
 use mathlib.Core.Path.{sym, ◌∙◌}
 use borrow.Author.Tests.{eq-eqb, ne_eqb}
 use Rattle.model.proofs.TestLaws.{pick_true, pick-false}
-use Rattle.sheet.specs.Sheet.{posting, post_of}
-use borrow.Author.Rules.{rules}
+use Rattle.sheet.specs.Sheet.{post_of}
 use Rattle.sheet.proofs.schedule.post_of.Goals as goal
 
 pub returns-then-line-ne112 : goal.returns-then-line-ne112

@@ -2,7 +2,6 @@
 use Rattle.model.proofs.TestLaws.{tests}
 use Rattle.model.specs.Test.{pick, ◌and◌}
 use Rattle.sheet.specs.Sheet.{posting}
-use borrow.Author.Rules.{rules}
 use Rattle.sheet.proofs.schedule.posting.Goals as goal
 
 pub returns-then-event-gt15 : goal.returns-then-event-gt15

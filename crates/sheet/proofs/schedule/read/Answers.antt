@@ -3,7 +3,6 @@ use mathlib.Core.Path.{sym, ◌∙◌}
 use borrow.Author.Tests.{eq-eqb, ne_eqb}
 use Rattle.model.proofs.TestLaws.{pick_true, pick-false}
 use Rattle.sheet.specs.Sheet.{scheduled}
-use borrow.Author.Rules.{rules}
 use Rattle.sheet.proofs.schedule.read.Goals as goal
 
 pub returns-then-line-eq1 : goal.returns-then-line-eq1

@@ -9,7 +9,6 @@ use Rattle.model.specs.Device.{pair_sound, copy_step, judged, with_place}
 use Rattle.model.specs.Program.{memory_words}
 use Rattle.model.specs.Store.{settled, stored_word, view, address}
 use Rattle.model.specs.Test.{pick}
-use borrow.Author.Rules.{rules}
 use Rattle.steps.proofs.copying.copy.Goals as goal
 
 pub returns-in-Refused : goal.returns-in-Refused

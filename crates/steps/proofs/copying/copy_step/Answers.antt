@@ -6,7 +6,6 @@ use Rattle.model.proofs.DeviceLaws.{task-last, event-last}
 use Rattle.model.specs.Device.{Outcome}
 use Rattle.model.specs.Store.{view}
 use Rattle.steps.proofs.Cases.{copies_fit, task-left, event-left}
-use borrow.Author.Rules.{rules}
 use Rattle.steps.proofs.copying.copy_step.Goals as goal
 
 pub copy-requires : goal.copy-requires

@@ -4,7 +4,6 @@ use native.Mathlib.Omega.{arith}
 use Rattle.model.specs.Device.{fresh, storing, event_last_stores, with_place}
 use Rattle.model.specs.Store.{settled, stored_word, index}
 use Rattle.model.specs.Test.{pick}
-use borrow.Author.Rules.{rules}
 use Rattle.steps.proofs.copying.event_last.Goals as goal
 
 pub returns-then-last-eq0 : goal.returns-then-last-eq0

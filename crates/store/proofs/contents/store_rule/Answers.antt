@@ -2,11 +2,10 @@
 -- `ShapedFor`. Assumes nothing.
 use mathlib.Core.Path.{sym, ◌∙◌}
 use native.Mathlib.Omega.{arith}
-use borrow.Author.Rules.{rules}
 use borrow.Author.Tests.{le-leb, eq-eqb, ne_eqb}
 use Rattle.model.specs.Store.{store_rule, store_mark}
 use Rattle.model.specs.Test.{must, ◌then◌}
-use Rattle.model.proofs.TestLaws.{tests, answered, passed, failed}
+use Rattle.model.proofs.TestLaws.{tests}
 use Rattle.model.proofs.Passed.{sizes-passed, store-passed}
 use Rattle.store.proofs.contents.store_rule.Goals as goal
 

@@ -1,13 +1,9 @@
 -- `store::format::clear` meets its contract: the loop's invariant: the words passed are 0, and the others are
 -- as they were. The measure is what is left of the length. Assumes nothing.
 use Prim.Native.Nat.{◌-◌, ◌≤◌}
-use mathlib.Core.List.{◌++◌, append-nil}
-use mathlib.Core.Path.{◌≡◌, refl, ◌∙◌}
-use native.Mathlib.Omega.{arith}
-use borrow.Author.Fill.{fill_more}
-use borrow.Author.Rules.{rules}
-use lib.ListN.{length, drop, replicate, length-set}
-use lib.Seq.{drop-length}
+use mathlib.Core.List.{◌++◌}
+use mathlib.Core.Path.{◌≡◌}
+use lib.ListN.{length, drop, replicate}
 use Rattle.store.proofs.format.clear.Given as goal
 
 abbrev pub invariant-loop-index : goal.invariant-loop-index

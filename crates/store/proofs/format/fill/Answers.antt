@@ -3,7 +3,6 @@ use Prim.Native.Nat.{ℕ, ◌+◌, ◌-◌}
 use mathlib.Core.List.{List}
 use mathlib.Core.Path.{◌≡◌, sym, ◌∙◌, ap}
 use native.Mathlib.Omega.{arith}
-use borrow.Author.Rules.{rules}
 use lib.ListN.{set, replicate, length-set, replicate-append-replicate}
 use Rattle.model.specs.Program.{memory_words, entry}
 use Rattle.model.specs.Store.{store_mark, control_at, memory_at, log_at, queue_at, store_length, store_contents, formatted}

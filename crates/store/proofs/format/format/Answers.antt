@@ -3,13 +3,12 @@ use Prim.Native.Nat.{ℕ}
 use mathlib.Core.List.{List}
 use mathlib.Core.Path.{◌≡◌, refl, sym, ◌∙◌}
 use native.Mathlib.Omega.{arith}
-use borrow.Author.Rules.{rules}
 use borrow.Author.Tests.{eq-eqb, ne_eqb}
 use Rattle.model.specs.Store.{formatted, format_check, format_store, format}
 use Rattle.model.specs.Test.{must, ◌then◌}
 use Rattle.model.specs.declared.Checked.{Checked}
 use Rattle.model.specs.declared.Refusal.{Refusal}
-use Rattle.model.proofs.TestLaws.{then_stop, passed, failed}
+use Rattle.model.proofs.TestLaws.{then_stop}
 use Rattle.model.proofs.Passed.{sizes-passed}
 use Rattle.store.proofs.format.format.Goals as goal
 

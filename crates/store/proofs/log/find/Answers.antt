@@ -1,5 +1,4 @@
 -- `store::log::find` meets its contract: the part that is lent is the log. Assumes nothing.
-use borrow.Author.Rules.{rules}
 use Rattle.store.proofs.Parts.{log_part}
 use Rattle.store.proofs.log.find.Goals as goal
 

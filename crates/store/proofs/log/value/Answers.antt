@@ -1,7 +1,6 @@
 -- `store::log::value` meets its contract: the word lies in the log part. Assumes nothing.
 use Prim.Native.Nat.{◌*◌, ◌+◌}
 use native.Mathlib.Omega.{arith}
-use borrow.Author.Rules.{rules}
 use Rattle.store.proofs.Parts.{log-word}
 use Rattle.store.proofs.log.value.Goals as goal
 

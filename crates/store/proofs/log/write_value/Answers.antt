@@ -4,7 +4,6 @@ use Prim.Native.Nat.{◌*◌, ◌+◌}
 use native.Mathlib.Omega.{arith}
 use Rattle.model.specs.Store.{settled, stored_word, index}
 use Rattle.store.proofs.Parts.{log_written}
-use borrow.Author.Rules.{rules}
 use Rattle.store.proofs.log.write_value.Goals as goal
 
 pub returns : goal.returns

@@ -1,5 +1,4 @@
 -- `store::memory::read` meets its contract: the word lies in the memory part. Assumes nothing.
-use borrow.Author.Rules.{rules}
 use Rattle.model.specs.Store.{memory_at}
 use Rattle.store.proofs.Parts.{word_part}
 use Rattle.store.proofs.memory.read.Goals as goal

@@ -1,7 +1,6 @@
 -- `store::queue::datum` meets its contract: the word lies in the queue part. Assumes nothing.
 use Prim.Native.Nat.{◌*◌, ◌+◌}
 use native.Mathlib.Omega.{arith}
-use borrow.Author.Rules.{rules}
 use Rattle.store.proofs.Parts.{queue-word}
 use Rattle.store.proofs.queue.datum.Goals as goal
 

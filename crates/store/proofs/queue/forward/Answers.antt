@@ -1,5 +1,4 @@
 -- `store::queue::forward` meets its contract: at most once past the ring's end. Assumes nothing.
-use borrow.Author.Rules.{rules}
 use Rattle.store.proofs.Ring.{slot_ahead}
 use Rattle.store.proofs.queue.forward.Goals as goal
 

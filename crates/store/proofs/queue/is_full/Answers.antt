@@ -1,5 +1,4 @@
 -- `store::queue::is_full` meets its contract: its test is the definition's. Assumes nothing.
-use borrow.Author.Rules.{rules}
 use Rattle.store.proofs.queue.is_full.Goals as goal
 
 pub returns : goal.returns

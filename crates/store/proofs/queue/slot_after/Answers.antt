@@ -1,5 +1,4 @@
 -- `store::queue::slot_after` meets its contract: its test is the definition's. Assumes nothing.
-use borrow.Author.Rules.{rules}
 use Rattle.model.specs.Store.{slot_after}
 use Rattle.model.specs.Test.{pick}
 use Rattle.model.proofs.TestLaws.{tests}
