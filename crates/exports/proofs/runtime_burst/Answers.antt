@@ -1,4 +1,5 @@
 -- `runtime_burst` meets its contract, by whether the device words are those of a device state, and by what the post's check finds. Assumes nothing.
+use mathlib.Core.Bool.{not}
 use Prim.Native.Nat.{ℕ}
 use mathlib.Core.List.{List}
 use mathlib.Core.Path.{refl, sym, ap, ◌∙◌}
@@ -16,7 +17,7 @@ use borrow.Author.Rules.{rules}
 use Rattle.exports.proofs.runtime_burst.Goals as goal
 
 pub returns-then-not-is_state : goal.returns-then-not-is_state
-returns-then-not-is_state c = none_read c.args.device.now _ _ c.is_state.ensures c.if-not-is_state.true (c.write_unknown.ensures, refl)
+returns-then-not-is_state c = none_read c.args.device.now _ _ c.is_state.ensures (ap not c.if-not-is_state.true) (c.write_unknown.ensures, refl)
 
 pub words-kept-requires : goal.words-kept-requires
 words-kept-requires c = posted_few c.args.program.now c.args.store.now _ c.args.burst.now c.args.count (sym c.post_check-found.ensures ∙ c.in-Accepted.is)
@@ -29,7 +30,7 @@ returns-in-Accepted c =
     let w = c.args.device.now in
     let s = c.args.store.now in
     let rs = carried c.args.burst.now c.args.count in
-    state-read w _ _ c.is_state.ensures c.if-not-is_state.false c.state_of-state.ensures
+    state-read w _ _ c.is_state.ensures (ap not c.if-not-is_state.false) c.state_of-state.ensures
     (told-posted c.args.program.now s w rs c.state_of-state.ensures (sym c.is_state.ensures ∙ c.if-not-is_state.false) (sym c.post_check-found.ensures ∙ c.in-Accepted.is)
     (c.write_checked.ensures ∙ ap checked_words c.in-Accepted.is)
     (c.with_burst.ensures
@@ -40,7 +41,7 @@ returns-in-Accepted c =
 pub returns-in-Refused : goal.returns-in-Refused
 returns-in-Refused c =
     let w = c.args.device.now in
-    state-read w _ _ c.is_state.ensures c.if-not-is_state.false c.state_of-state.ensures
+    state-read w _ _ c.is_state.ensures (ap not c.if-not-is_state.false) c.state_of-state.ensures
     (told-refused c.args.program.now c.args.store.now w (carried c.args.burst.now c.args.count) c.state_of-state.ensures
     (sym c.post_check-found.ensures ∙ c.in-Refused.is)
     (c.write_checked.ensures ∙ ap checked_words c.in-Refused.is)
