@@ -21,14 +21,12 @@ fn high(word: u16) -> u8 {
 
 // The words, low byte first.
 fn to_bytes(words: &[u16], bytes: &mut [u8; 131070]) {
-    let mut i = 0;
-    while i < words.len() {
+    for i in 0..words.len() {
         if i >= 65535 {
             return;
         }
         bytes[2 * i] = low(words[i]);
         bytes[2 * i + 1] = high(words[i]);
-        i += 1;
     }
 }
 
