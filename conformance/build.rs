@@ -1,11 +1,11 @@
-//! With the feature `library`: link the static library that `rt staticlib exports` writes, or the archive that RUNTIME_ARCHIVE names.
+//! With the feature `library`: link the static library that `tools/library.sh` writes, or the archive that RUNTIME_ARCHIVE names.
 
 use std::path::{Path, PathBuf};
 
 fn link(archive: &Path) {
     println!("cargo::rerun-if-changed={}", archive.display());
     let Ok(archive) = archive.canonicalize() else {
-        println!("cargo::error={} isn't there. `rt staticlib exports`, in the repository, writes it.", archive.display());
+        println!("cargo::error={} isn't there. `tools/library.sh`, in the repository, writes it.", archive.display());
         return;
     };
     let folder = archive.parent().expect("a file stands in a folder").display().to_string();

@@ -1,4 +1,4 @@
-/* The functions of the library target/staticlib/libexports.a, which `rt staticlib exports` writes, and names for the
+/* The functions of the library target/staticlib/libexports.a, which `tools/library.sh` writes, and names for the
  * numbers that go in and out. What each call takes, answers and refuses: docs/USING.md.
  *
  * For C from C89 on and C++ from C++98 on. Every name is a macro with a plain number, for #if, switch and array

@@ -2,7 +2,7 @@
 # The header: clean in every standard of C from C89 and of C++ from C++98, as the example in C is in both; the same names and numbers in Rust;
 # each number as the library has it (constants.c), and each of them such that another number there would fail.
 #
-#     conformance/header/check.sh [FOLDER]     after `rt staticlib exports`; what it builds goes to FOLDER (target/header)
+#     conformance/header/check.sh [FOLDER]     after `tools/library.sh`; what it builds goes to FOLDER (target/header)
 set -euo pipefail
 cd "$(dirname "$0")/../.."
 out=${1:-target/header}

@@ -1,4 +1,4 @@
-/* The counting program of document 01 on the library, from C. In the repository's root, after `rt staticlib exports`:
+/* The counting program of document 01 on the library, from C. In the repository's root, after `tools/library.sh`:
  *
  *     cc -O2 -I include examples/c/main.c target/staticlib/libexports.a -o target/counting-c && target/counting-c
  */

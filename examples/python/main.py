@@ -1,4 +1,4 @@
-"""The counting program of document 01 on the library, from Python. In the repository's root, after `rt staticlib exports`:
+"""The counting program of document 01 on the library, from Python. In the repository's root, after `tools/library.sh`:
 
     cc -shared -Wl,--whole-archive target/staticlib/libexports.a -Wl,--no-whole-archive -o target/libruntime.so
     python3 examples/python/main.py target/libruntime.so

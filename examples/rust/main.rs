@@ -1,4 +1,4 @@
-//! The counting program of document 01 on the library, from Rust. In the repository's root, after `rt staticlib exports`:
+//! The counting program of document 01 on the library, from Rust. In the repository's root, after `tools/library.sh`:
 //!
 //!     rustc -O examples/rust/main.rs -L target/staticlib -l static=exports -o target/counting-rust && target/counting-rust
 //!

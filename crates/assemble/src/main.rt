@@ -4,11 +4,11 @@
 
 use assembly::Assembled;
 use command::{Command, Got};
-use libc::{STDERR_FILENO, STDOUT_FILENO};
+use std::io;
 
-fn usage(file: i32) {
-    io::write_all(file, b"assemble [--verbose] [TEXT [IMAGE]]\n");
-    io::write_all(file, b"disassemble [--verbose] [IMAGE [TEXT]]\n");
+fn usage(to: &impl Print) -> io::Result<()> {
+    to.println("assemble [--verbose] [TEXT [IMAGE]]")?;
+    to.println("disassemble [--verbose] [IMAGE [TEXT]]")
 }
 
 fn low(word: u16) -> u8 {
@@ -21,110 +21,124 @@ fn high(word: u16) -> u8 {
 
 // The words, low byte first.
 fn to_bytes(words: &[u16], bytes: &mut [u8; 131070]) {
-    let mut i = 0;
-    while i < words.len() {
+    for i in 0..words.len() {
         if i >= 65535 {
             return;
         }
         bytes[2 * i] = low(words[i]);
         bytes[2 * i + 1] = high(words[i]);
-        i += 1;
     }
 }
 
 // The first bytes, so many.
-fn write_first(output: usize, bytes: &[u8], size: usize) -> bool {
+fn write_first(rt: &HostRuntime, output: usize, bytes: &[u8], size: usize) -> bool {
     if size > bytes.len() {
         return false;
     }
-    command::write_output(output, &bytes[..size])
+    command::write_output(rt, output, &bytes[..size])
 }
 
-fn write_bytes(output: usize, bytes: &[u8; 131070], size: usize) -> bool {
-    write_first(output, bytes, size)
+fn write_bytes(rt: &HostRuntime, output: usize, bytes: &[u8; 131070], size: usize) -> bool {
+    write_first(rt, output, bytes, size)
 }
 
-fn write_words(command: Command, words: &[u16]) {
+fn write_words(rt: &HostRuntime, command: Command, words: &[u16]) {
     let mut bytes = [0u8; 131070];
     to_bytes(words, &mut bytes);
     if words.len() > 65535 {
         return;
     }
-    if !write_bytes(command.output, &bytes, 2 * words.len()) {
+    if !write_bytes(rt, command.output, &bytes, 2 * words.len()) {
         return;
     }
     if command.verbose {
-        command::say(words.len(), b"written");
+        command::say(rt, words.len(), b"written");
     }
 }
 
-fn tell_first(text: &[u8], end: usize) {
+fn tell_first(rt: &HostRuntime, text: &[u8], end: usize) -> io::Result<()> {
     if end <= text.len() {
-        io::write_all(STDERR_FILENO, &text[..end]);
+        return rt.stderr().write_all(&text[..end]);
     }
+    Ok(())
 }
 
-fn tell_all(text: &[u8; 128], end: usize) {
-    tell_first(text, end);
+fn tell_all(rt: &HostRuntime, text: &[u8; 128], end: usize) -> io::Result<()> {
+    tell_first(rt, text, end)
 }
 
-fn tell(assembled: Assembled) {
+fn tell(rt: &HostRuntime, assembled: Assembled) -> io::Result<()> {
     let mut text = [0u8; 128];
     let mistake = assembled.mistake;
     let end = mistakes::put_mistake(&mut text, mistake);
-    tell_all(&text, end);
+    tell_all(rt, &text, end)
 }
 
-fn finish_first(command: Command, assembled: Assembled, words: &[u16]) {
+fn finish_first(
+    rt: &HostRuntime,
+    command: Command,
+    assembled: Assembled,
+    words: &[u16],
+) -> io::Result<()> {
     let mistake = assembled.mistake;
     if mistake.number != 0 {
-        tell(assembled);
-        return;
+        return tell(rt, assembled);
     }
     if assembled.count <= words.len() {
-        write_words(command, &words[..assembled.count]);
+        write_words(rt, command, &words[..assembled.count]);
     }
+    Ok(())
 }
 
-fn finish(command: Command, assembled: Assembled, words: &[u16; 65535]) {
-    finish_first(command, assembled, words);
+fn finish(
+    rt: &HostRuntime,
+    command: Command,
+    assembled: Assembled,
+    words: &[u16; 65535],
+) -> io::Result<()> {
+    finish_first(rt, command, assembled, words)
 }
 
 // The first bytes, as many as were read.
-fn assemble_first(command: Command, text: &[u8], count: usize) {
+fn assemble_first(rt: &HostRuntime, command: Command, text: &[u8], count: usize) -> io::Result<()> {
     let mut room = [0u64; 393216];
     let mut words = [0u16; 65535];
     if count <= text.len() {
         let assembled = assembly::assemble(&text[..count], &mut room, &mut words);
-        finish(command, assembled, &words);
+        return finish(rt, command, assembled, &words);
     }
+    Ok(())
 }
 
-fn assemble(command: Command, text: &[u8; 1048577], count: usize) {
-    assemble_first(command, text, count);
+fn assemble(
+    rt: &HostRuntime,
+    command: Command,
+    text: &[u8; 1048577],
+    count: usize,
+) -> io::Result<()> {
+    assemble_first(rt, command, text, count)
 }
 
-fn read_text(input: usize, text: &mut [u8; 1048577]) -> Got {
-    command::read_input(input, text)
+fn read_text(rt: &HostRuntime, input: usize, text: &mut [u8; 1048577]) -> Got {
+    command::read_input(rt, input, text)
 }
 
-fn run(command: Command) {
+fn run(rt: &HostRuntime, command: Command) -> io::Result<()> {
     let mut text = [0u8; 1048577];
-    let got = read_text(command.input, &mut text);
+    let got = read_text(rt, command.input, &mut text);
     if got.ok {
-        assemble(command, &text, got.count);
+        return assemble(rt, command, &text, got.count);
     }
+    Ok(())
 }
 
-fn main() {
-    let command = command::read_command();
+fn main(rt: HostRuntime) -> io::Result<()> {
+    let command = command::read_command(&rt);
     if command.help {
-        usage(STDOUT_FILENO);
-        return;
+        return usage(&rt);
     }
     if command.wrong {
-        usage(STDERR_FILENO);
-        return;
+        return usage(&rt.stderr());
     }
-    run(command);
+    run(&rt, command)
 }

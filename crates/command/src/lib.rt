@@ -2,7 +2,14 @@
 
 #![tactic(auto)]
 
-use libc::{STDERR_FILENO, STDIN_FILENO, STDOUT_FILENO};
+ghost use Rattle.std.specs.Prelude.{◌≤◌, length};
+ghost use Rattle.std.specs.Io.{ReadsAtMost};
+
+use std::env::FillError;
+use std::fs::File;
+use std::io::{Error, ErrorKind, Print, Read, Write};
+use std::rt::Env;
+use std::{fs, io, str};
 
 // What was asked for. A name is an argument's number, and 0 where it is standard input or output.
 #[derive(Clone, Copy)]
@@ -30,12 +37,10 @@ fn is_word(text: &[u8], word: &[u8]) -> bool {
     if text.len() != word.len() {
         return false;
     }
-    let mut i = 0;
-    while i < word.len() {
+    for i in 0..word.len() {
         if !same_from(text, word, i) {
             return false;
         }
-        i += 1;
     }
     true
 }
@@ -102,14 +107,33 @@ fn take(command: Command, number: usize, text: &[u8]) -> Command {
     with_name(command, number)
 }
 
-fn take_argument(command: Command, number: usize) -> Command {
+// An argument's bytes, at the start of `text`, and how many they are: none of one that is longer than there is room for.
+fn argument(rt: &HostRuntime, number: usize, text: &mut [u8]) -> usize
+    ensures { result ≤ length text.new }
+{
+    match rt.arg(number, text) {
+        Ok(count) => count,
+        Err(_) => 0,
+    }
+}
+
+fn is_argument(rt: &HostRuntime, number: usize) -> bool {
     let mut text = [0u8; 4096];
-    let count = os::arg(number, &mut text);
+    match rt.arg(number, &mut text) {
+        Ok(_) => true,
+        Err(FillError::TooLong) => true,
+        Err(FillError::NotPresent) => false,
+    }
+}
+
+fn take_argument(rt: &HostRuntime, command: Command, number: usize) -> Command {
+    let mut text = [0u8; 4096];
+    let count = argument(rt, number, &mut text);
     take(command, number, &text[..count])
 }
 
 // The command line.
-pub fn read_command() -> Command {
+pub fn read_command(rt: &HostRuntime) -> Command {
     let mut command = Command {
         help: false,
         wrong: false,
@@ -118,28 +142,40 @@ pub fn read_command() -> Command {
         input: 0,
         output: 0,
     };
-    let count = os::arg_count();
-    let mut i = 1;
-    while i < count {
-        command = take_argument(command, i);
-        i += 1;
+    for number in 1..usize::MAX {
+        if !is_argument(rt, number) {
+            break;
+        }
+        command = take_argument(rt, command, number);
     }
     command
 }
 
-fn failed(number: usize) {
-    let mut name = [0u8; 4096];
-    let count = os::arg(number, &mut name);
-    os::fail(&name[..count]);
+// What the system says of an error, without its number.
+fn message(text: &str) -> &str {
+    match text.split_once(" (os error ") {
+        Some((message, _)) => message,
+        None => text,
+    }
 }
 
-fn open_input(number: usize) -> i32 {
-    if number == 0 {
-        return STDIN_FILENO;
+fn write_failure(rt: &HostRuntime, what: &[u8], error: &Error) -> io::Result<()> {
+    let text = format!(in rt.alloc(); "{error}")?;
+    Print::write_all(&rt.stderr(), what)?;
+    eprintln!(rt; ": {}", message(text.as_str()))
+}
+
+// What failed, and why, to standard error. Where that can't be written, there is nowhere left to say so.
+pub fn fail(rt: &HostRuntime, what: &[u8], error: &Error) {
+    let _ = write_failure(rt, what, error);
+}
+
+// A file's name is text.
+fn text_of(name: &[u8]) -> io::Result<&str> {
+    match str::from_utf8(name) {
+        Ok(text) => Ok(text),
+        Err(_) => Err(Error::from(ErrorKind::InvalidFilename)),
     }
-    let mut name = [0u8; 4096];
-    let count = os::arg(number, &mut name);
-    os::open_read(&name[..count])
 }
 
 // What was read, so many bytes, and whether it could be.
@@ -149,53 +185,96 @@ pub struct Got {
     pub ok: bool,
 }
 
-// The input's bytes, as many as there is room for.
-pub fn read_input(number: usize, bytes: &mut [u8]) -> Got {
-    let file = open_input(number);
-    if file < 0 {
-        failed(number);
-        return Got {
-            count: 0,
-            ok: false,
-        };
+// What a reader gives, up to its end or as many bytes as there is room for.
+pub fn read_full<R: Read>(from: &mut R, bytes: &mut [u8]) -> io::Result<usize>
+    ensures { ReadsAtMost result bytes.new }
+{
+    let mut done = 0;
+    while done < bytes.len() {
+        let count = from.read(&mut bytes[done..])?;
+        if count == 0 {
+            break;
+        }
+        done += count;
     }
-    let count = io::read_full(file, bytes);
-    if number != 0 {
-        libc::close(file);
-    }
-    Got { count, ok: true }
+    Ok(done)
 }
 
-fn open_output(number: usize) -> i32 {
+fn open_input(rt: &HostRuntime, number: usize) -> io::Result<File> {
+    let mut name = [0u8; 4096];
+    let count = argument(rt, number, &mut name);
+    fs::open(rt, text_of(&name[..count])?)
+}
+
+fn read(rt: &HostRuntime, number: usize, bytes: &mut [u8]) -> io::Result<usize> {
     if number == 0 {
-        return STDOUT_FILENO;
+        return read_full(&mut rt.stdin(), bytes);
+    }
+    let mut file = open_input(rt, number)?;
+    read_full(&mut file, bytes)
+}
+
+fn failed(rt: &HostRuntime, number: usize, error: &Error) {
+    if number == 0 {
+        return fail(rt, b"input", error);
     }
     let mut name = [0u8; 4096];
-    let count = os::arg(number, &mut name);
-    os::open_overwrite(&name[..count])
+    let count = argument(rt, number, &mut name);
+    fail(rt, &name[..count], error);
+}
+
+// The input's bytes, as many as there is room for.
+pub fn read_input(rt: &HostRuntime, number: usize, bytes: &mut [u8]) -> Got {
+    match read(rt, number, bytes) {
+        Ok(count) => Got { count, ok: true },
+        Err(error) => {
+            failed(rt, number, &error);
+            Got {
+                count: 0,
+                ok: false,
+            }
+        }
+    }
+}
+
+fn open_output(rt: &HostRuntime, number: usize) -> io::Result<File> {
+    let mut name = [0u8; 4096];
+    let count = argument(rt, number, &mut name);
+    fs::create(rt, text_of(&name[..count])?)
+}
+
+// Whether it was written; if not, why is told.
+fn is_written(rt: &HostRuntime, outcome: io::Result<()>) -> bool {
+    match outcome {
+        Ok(()) => true,
+        Err(error) => {
+            fail(rt, b"output", &error);
+            false
+        }
+    }
 }
 
 // Bytes to the output; whether they were written.
-pub fn write_output(number: usize, bytes: &[u8]) -> bool {
-    let file = open_output(number);
-    if file < 0 {
-        failed(number);
-        return false;
+pub fn write_output(rt: &HostRuntime, number: usize, bytes: &[u8]) -> bool {
+    if number == 0 {
+        return is_written(rt, Write::write_all(&mut rt.stdout(), bytes));
     }
-    let written = io::write_all(file, bytes);
-    if number != 0 {
-        libc::close(file);
+    match open_output(rt, number) {
+        Ok(mut file) => is_written(rt, file.write_all(bytes)),
+        Err(error) => {
+            failed(rt, number, &error);
+            false
+        }
     }
-    if !written {
-        os::fail(b"output");
-    }
-    written
+}
+
+fn write_count(rt: &HostRuntime, count: usize, done: &[u8]) -> io::Result<()> {
+    eprint!(rt; "{count} words ")?;
+    Print::write_all(&rt.stderr(), done)?;
+    eprintln!(rt; "")
 }
 
 // A count of words and what was done with them, to standard error.
-pub fn say(count: usize, done: &[u8]) {
-    io::print_decimal(STDERR_FILENO, count as u64);
-    io::write_all(STDERR_FILENO, b" words ");
-    io::write_all(STDERR_FILENO, done);
-    io::write_all(STDERR_FILENO, b"\n");
+pub fn say(rt: &HostRuntime, count: usize, done: &[u8]) {
+    let _ = write_count(rt, count, done);
 }

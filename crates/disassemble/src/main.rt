@@ -4,68 +4,80 @@
 
 use command::{Command, Got};
 use image::Loaded;
-use libc::{STDERR_FILENO, STDOUT_FILENO};
 use listing::Listed;
 use model::Checked;
+use std::io;
 
-fn usage(file: i32) {
-    io::write_all(file, b"assemble [--verbose] [TEXT [IMAGE]]\n");
-    io::write_all(file, b"disassemble [--verbose] [IMAGE [TEXT]]\n");
+fn usage(to: &impl Print) -> io::Result<()> {
+    to.println("assemble [--verbose] [TEXT [IMAGE]]")?;
+    to.println("disassemble [--verbose] [IMAGE [TEXT]]")
 }
 
-fn print_number(number: u16) {
-    io::write_all(STDERR_FILENO, b" ");
-    io::print_decimal(STDERR_FILENO, number as u64);
+fn print_number(rt: &HostRuntime, number: u16) -> io::Result<()> {
+    eprint!(rt; " {number}")
 }
 
 // A refusal with its number and place.
-fn tell(checked: Checked) {
+fn tell(rt: &HostRuntime, checked: Checked) -> io::Result<()> {
     let mut told = [0u16; 5];
     words::write_checked(&mut told, checked);
-    io::write_all(STDERR_FILENO, b"refused");
-    print_number(told[2]);
-    print_number(told[3]);
-    print_number(told[4]);
-    io::write_all(STDERR_FILENO, b"\n");
+    eprint!(rt; "refused")?;
+    print_number(rt, told[2])?;
+    print_number(rt, told[3])?;
+    print_number(rt, told[4])?;
+    eprintln!(rt; "")
 }
 
-fn write_text(command: Command, text: &[u8], end: usize, count: usize) {
+fn write_text(rt: &HostRuntime, command: Command, text: &[u8], end: usize, count: usize) {
     if end > text.len() {
         return;
     }
-    if !command::write_output(command.output, &text[..end]) {
+    if !command::write_output(rt, command.output, &text[..end]) {
         return;
     }
     if command.verbose {
-        command::say(count, b"read");
+        command::say(rt, count, b"read");
     }
 }
 
-fn write_listed(command: Command, text: &[u8; 524288], end: usize, count: usize) {
-    write_text(command, text, end, count);
+fn write_listed(
+    rt: &HostRuntime,
+    command: Command,
+    text: &[u8; 524288],
+    end: usize,
+    count: usize,
+) -> io::Result<()> {
+    write_text(rt, command, text, end, count);
+    Ok(())
 }
 
-fn list(command: Command, program: &[u16]) {
+fn list(rt: &HostRuntime, command: Command, program: &[u16]) -> io::Result<()> {
     let mut text = [0u8; 524288];
     let listed = listing::disassemble(program, &mut text);
     let checked = listed.checked;
     match checked {
-        Checked::Accepted => write_listed(command, &text, listed.end, program.len()),
-        Checked::Refused(why) => tell(Checked::Refused(why)),
+        Checked::Accepted => write_listed(rt, command, &text, listed.end, program.len()),
+        Checked::Refused(why) => tell(rt, Checked::Refused(why)),
     }
 }
 
-fn list_words(command: Command, words: &[u16], count: usize) {
+fn list_words(rt: &HostRuntime, command: Command, words: &[u16], count: usize) -> io::Result<()> {
     if count <= words.len() {
-        list(command, &words[..count]);
+        return list(rt, command, &words[..count]);
     }
+    Ok(())
 }
 
-fn list_loaded(command: Command, loaded: Loaded, words: &[u16; 65535]) {
+fn list_loaded(
+    rt: &HostRuntime,
+    command: Command,
+    loaded: Loaded,
+    words: &[u16; 65535],
+) -> io::Result<()> {
     let checked = loaded.checked;
     match checked {
-        Checked::Accepted => list_words(command, words, loaded.length),
-        Checked::Refused(why) => tell(Checked::Refused(why)),
+        Checked::Accepted => list_words(rt, command, words, loaded.length),
+        Checked::Refused(why) => tell(rt, Checked::Refused(why)),
     }
 }
 
@@ -81,30 +93,28 @@ fn load(bytes: &[u8; 131072], count: usize, words: &mut [u16; 65535]) -> Loaded 
     load_first(bytes, count, words)
 }
 
-fn read_image(input: usize, bytes: &mut [u8; 131072]) -> Got {
-    command::read_input(input, bytes)
+fn read_image(rt: &HostRuntime, input: usize, bytes: &mut [u8; 131072]) -> Got {
+    command::read_input(rt, input, bytes)
 }
 
-fn run(command: Command) {
+fn run(rt: &HostRuntime, command: Command) -> io::Result<()> {
     let mut bytes = [0u8; 131072];
-    let got = read_image(command.input, &mut bytes);
+    let got = read_image(rt, command.input, &mut bytes);
     if !got.ok {
-        return;
+        return Ok(());
     }
     let mut words = [0u16; 65535];
     let loaded = load(&bytes, got.count, &mut words);
-    list_loaded(command, loaded, &words);
+    list_loaded(rt, command, loaded, &words)
 }
 
-fn main() {
-    let command = command::read_command();
+fn main(rt: HostRuntime) -> io::Result<()> {
+    let command = command::read_command(&rt);
     if command.help {
-        usage(STDOUT_FILENO);
-        return;
+        return usage(&rt);
     }
     if command.wrong {
-        usage(STDERR_FILENO);
-        return;
+        return usage(&rt.stderr());
     }
-    run(command);
+    run(&rt, command)
 }

@@ -4,37 +4,44 @@
 #![tactic(auto)]
 
 use image::Loaded;
-use libc::{STDIN_FILENO, STDOUT_FILENO};
 use model::Checked;
 use sheet::State;
+use std::io::Read;
+use std::{fs, io};
 
 // "a missing file is empty", and so is one that can't be read. What lies past the bytes that are read decides nothing
 // (`LongIsRefused`, crates/image).
-fn read_image(image: &mut [u8; 131072]) -> usize {
-    let file = os::open_read(b"program.img");
-    if file < 0 {
-        os::fail(b"program.img");
-        return 0;
+fn read_image(rt: &HostRuntime, image: &mut [u8; 131072]) -> usize {
+    match read_program(rt, image) {
+        Ok(count) => count,
+        Err(error) => {
+            command::fail(rt, b"program.img", &error);
+            0
+        }
     }
-    let count = io::read_full(file, image);
-    libc::close(file);
-    count
+}
+
+fn read_program(rt: &HostRuntime, image: &mut [u8]) -> io::Result<usize> {
+    let mut file = fs::open(rt, "program.img")?;
+    command::read_full(&mut file, image)
 }
 
 // The first bytes of the text, as many as the library says; whether they were written.
-fn write_first(text: &[u8], end: usize) -> bool {
+fn write_first(rt: &HostRuntime, text: &[u8], end: usize) -> bool {
     if end > text.len() {
         return false;
     }
-    if !io::write_all(STDOUT_FILENO, &text[..end]) {
-        os::fail(b"standard output");
-        return false;
+    match rt.write_all(&text[..end]) {
+        Ok(()) => true,
+        Err(error) => {
+            command::fail(rt, b"standard output", &error);
+            false
+        }
     }
-    true
 }
 
-fn write(text: &[u8; 65536], end: usize) -> bool {
-    write_first(text, end)
+fn write(rt: &HostRuntime, text: &[u8; 65536], end: usize) -> bool {
+    write_first(rt, text, end)
 }
 
 // A sheet that can't be written out any more.
@@ -52,6 +59,7 @@ fn stopped(state: State) -> State {
 
 // Bytes of the schedule, and their text, as often as the text is full.
 fn feed(
+    rt: &HostRuntime,
     program: &[u16],
     store: &mut [u16],
     copy: &mut [u16],
@@ -64,7 +72,7 @@ fn feed(
     while from < bytes.len() {
         let fed = sheet::feed(program, store, copy, text, &bytes[from..], now);
         now = fed.state;
-        if !write(text, fed.written) {
+        if !write(rt, text, fed.written) {
             return stopped(now);
         }
         from += fed.taken;
@@ -80,73 +88,80 @@ struct Turn {
 }
 
 fn feed_some(
+    rt: &HostRuntime,
     program: &[u16],
     store: &mut [u16],
     copy: &mut [u16],
     text: &mut [u8; 65536],
     state: State,
-) -> Turn {
+) -> io::Result<Turn> {
     let mut bytes = [0u8; 65536];
-    let got = libc::read(STDIN_FILENO, &mut bytes);
-    let count = io::count(got, &bytes);
+    let count = rt.stdin().read(&mut bytes)?;
     if count == 0 {
-        return Turn { state, more: false };
+        return Ok(Turn { state, more: false });
     }
-    let now = feed(program, store, copy, text, &bytes[..count], state);
-    Turn {
+    let now = feed(rt, program, store, copy, text, &bytes[..count], state);
+    Ok(Turn {
         state: now,
         more: !now.ended,
-    }
+    })
 }
 
 // The schedule, up to its end or that of the sheet. A proved loop has to end, and nothing says that a schedule does: so it counts its turns
 // down, from a number that no schedule uses up.
 fn feed_all(
+    rt: &HostRuntime,
     program: &[u16],
     store: &mut [u16],
     copy: &mut [u16],
     text: &mut [u8; 65536],
     state: State,
-) -> State {
+) -> io::Result<State> {
     let mut now = state;
-    let mut turns = u64::MAX;
-    while turns > 0 {
-        let turn = feed_some(program, store, copy, text, now);
+    for _ in 0..u64::MAX {
+        let turn = feed_some(rt, program, store, copy, text, now)?;
         now = turn.state;
         if !turn.more {
             break;
         }
-        turns -= 1;
     }
-    now
+    Ok(now)
 }
 
-fn print(checked: Checked, program: &[u16], store: &mut [u16], copy: &mut [u16]) {
+fn print(
+    rt: &HostRuntime,
+    checked: Checked,
+    program: &[u16],
+    store: &mut [u16],
+    copy: &mut [u16],
+) -> io::Result<()> {
     let mut text = [0u8; 65536];
     let begun = sheet::begin(checked, program, store, &mut text);
-    if !write(&text, begun.end) {
-        return;
+    if !write(rt, &text, begun.end) {
+        return Ok(());
     }
     let state = begun.state;
-    let last = feed_all(program, store, copy, &mut text, state);
+    let last = feed_all(rt, program, store, copy, &mut text, state)?;
     let end = sheet::finish(program, store, copy, &mut text, last);
-    write(&text, end);
+    write(rt, &text, end);
+    Ok(())
 }
 
 // The sheet of the first words, as many as the library says.
-fn print_first(checked: Checked, words: &[u16], length: usize) {
+fn print_first(rt: &HostRuntime, checked: Checked, words: &[u16], length: usize) -> io::Result<()> {
     if length <= words.len() {
         let program = &words[..length];
         let size = image::store_words(program);
         let mut store = [0u16; 1047];
         let mut copy = [0u16; 1047];
-        print(checked, program, &mut store[..size], &mut copy[..size]);
+        return print(rt, checked, program, &mut store[..size], &mut copy[..size]);
     }
+    Ok(())
 }
 
-fn print_loaded(loaded: Loaded, words: &[u16; 65535]) {
+fn print_loaded(rt: &HostRuntime, loaded: Loaded, words: &[u16; 65535]) -> io::Result<()> {
     let checked = loaded.checked;
-    print_first(checked, words, loaded.length);
+    print_first(rt, checked, words, loaded.length)
 }
 
 // The image's first bytes, as many as were read.
@@ -161,10 +176,10 @@ fn load(image: &[u8; 131072], count: usize, words: &mut [u16; 65535]) -> Loaded 
     load_first(image, count, words)
 }
 
-fn main() {
+fn main(rt: HostRuntime) -> io::Result<()> {
     let mut image = [0u8; 131072];
-    let count = read_image(&mut image);
+    let count = read_image(&rt, &mut image);
     let mut words = [0u16; 65535];
     let loaded = load(&image, count, &mut words);
-    print_loaded(loaded, &words);
+    print_loaded(&rt, loaded, &words)
 }

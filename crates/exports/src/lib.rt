@@ -16,16 +16,14 @@ use runtime;
 use store::format;
 
 // check: 1 to 5.
-#[unsafe(no_mangle)]
-pub extern "C" fn runtime_check(program: &[u16], answer: &mut [u16; 5])
+pub fn runtime_check(program: &[u16], answer: &mut [u16; 5])
     ensures { Checks program.now answer.new }
 {
     words::write_checked(answer, program::check(program));
 }
 
 // format: 1 to 5, 9, 6 (only the length).
-#[unsafe(no_mangle)]
-pub extern "C" fn runtime_format(
+pub fn runtime_format(
     program: &[u16],
     log_pairs: u16,
     queue_records: u16,
@@ -52,13 +50,7 @@ fn tell(res: CallResult, device: &mut [u16; 26], answer: &mut [u16; 5])
 }
 
 // boot: 1 to 7, 26.
-#[unsafe(no_mangle)]
-pub extern "C" fn runtime_boot(
-    program: &[u16],
-    store: &[u16],
-    device: &mut [u16; 26],
-    answer: &mut [u16; 5],
-)
+pub fn runtime_boot(program: &[u16], store: &[u16], device: &mut [u16; 26], answer: &mut [u16; 5])
     ensures { Boots program.now store.now device.old
         answer.new device.new }
 {
@@ -71,8 +63,7 @@ pub extern "C" fn runtime_boot(
 }
 
 // post: 1, 2, 3, 6, 7, 25, 22, then 8, 20, 21. It is a burst of one.
-#[unsafe(no_mangle)]
-pub extern "C" fn runtime_post(
+pub fn runtime_post(
     program: &[u16],
     store: &[u16],
     device: &mut [u16; 26],
@@ -88,8 +79,7 @@ pub extern "C" fn runtime_post(
 }
 
 // A post of so many events with their data, in turn: as post, with 33 just before 8. Of the device words only those of the handler change.
-#[unsafe(no_mangle)]
-pub extern "C" fn runtime_burst(
+pub fn runtime_burst(
     program: &[u16],
     store: &[u16],
     device: &mut [u16; 26],
@@ -118,8 +108,7 @@ pub extern "C" fn runtime_burst(
 }
 
 // cut: whatever the device words were, they become those of the off value. "A cut refuses nothing."
-#[unsafe(no_mangle)]
-pub extern "C" fn runtime_cut(device: &mut [u16; 26], answer: &mut [u16; 5])
+pub fn runtime_cut(device: &mut [u16; 26], answer: &mut [u16; 5])
     ensures { Cuts answer.new device.new }
 {
     tell(calls::cut(), device, answer);
@@ -142,8 +131,7 @@ fn write_totals(words: &mut [u32; 3], totals: Totals)
 }
 
 // step: 1, 2, 3, 6, 7, 25, 22, then what it uses; with the totals. The answer's sixth word is the index of the word stored, or 65535.
-#[unsafe(no_mangle)]
-pub extern "C" fn runtime_step(
+pub fn runtime_step(
     program: &[u16],
     store: &mut [u16],
     device: &mut [u16; 26],
@@ -170,8 +158,7 @@ pub extern "C" fn runtime_step(
 }
 
 // run: steps up to the budget; returns the count of steps made.
-#[unsafe(no_mangle)]
-pub extern "C" fn runtime_run(
+pub fn runtime_run(
     program: &[u16],
     store: &mut [u16],
     device: &mut [u16; 26],
@@ -198,16 +185,14 @@ pub extern "C" fn runtime_run(
 }
 
 // The check of a line table: 30, 31, 32.
-#[unsafe(no_mangle)]
-pub extern "C" fn runtime_lines_check(table: &[u16], answer: &mut [u16; 5])
+pub fn runtime_lines_check(table: &[u16], answer: &mut [u16; 5])
     ensures { LinesChecks table.now answer.new }
 {
     words::write_checked(answer, lines::check(table));
 }
 
 // Raising a line: 30, 31, 32; then nothing is posted, or the row's event is, with the level as data.
-#[unsafe(no_mangle)]
-pub extern "C" fn runtime_raise(
+pub fn runtime_raise(
     program: &[u16],
     store: &[u16],
     device: &mut [u16; 26],

@@ -3,6 +3,7 @@ use super::mistakes::Mistake;
 use super::node::Node;
 use super::{cells, listed, node, text, words};
 use model::{Answer, Body, Dropped, Stored};
+use std::io;
 
 #[derive(Clone, Copy)]
 pub struct Runs {
@@ -66,11 +67,11 @@ fn stored_number(store: &[u16], stored: Stored) -> u32 {
     }
 }
 
-fn bar(differ: bool) {
+fn bar(out: &impl Print, differ: bool) -> io::Result<()> {
     if differ {
-        text::put(b" | ");
+        text::put(out, b" | ")
     } else {
-        text::put(b"   ");
+        text::put(out, b"   ")
     }
 }
 
@@ -93,78 +94,91 @@ fn differ(right_store: &[u16], mistaken_store: &[u16], right: Node, mistaken: No
 }
 
 // What a call answered and stored, in both runs.
-fn performed(right_store: &[u16], mistaken_store: &[u16], right: Node, mistaken: Node) {
-    cells::performed(right_store, right, 20);
-    bar(differ(right_store, mistaken_store, right, mistaken));
-    cells::performed(mistaken_store, mistaken, 1);
-    text::put(b"\n");
+fn performed(
+    out: &impl Print,
+    right_store: &[u16],
+    mistaken_store: &[u16],
+    right: Node,
+    mistaken: Node,
+) -> io::Result<()> {
+    cells::performed(out, right_store, right, 20)?;
+    bar(out, differ(right_store, mistaken_store, right, mistaken))?;
+    cells::performed(out, mistaken_store, mistaken, 1)?;
+    text::put(out, b"\n")
 }
 
 // One row.
 fn row(
+    out: &impl Print,
     program: &[u16],
     right_store: &mut [u16],
     mistaken_store: &mut [u16],
     runs: Runs,
     call: u8,
     mistake: Mistake,
-) -> Runs {
+) -> io::Result<Runs> {
     let right_before = runs.right;
     let mistaken_before = runs.mistaken;
     let right = node::call(program, right_store, right_before, call, Mistake::Nothing);
     let mistaken = node::call(program, mistaken_store, mistaken_before, call, mistake);
-    cells::number(right_before.steps, call);
-    cells::call(call, 7);
-    performed(right_store, mistaken_store, right, mistaken);
-    Runs { right, mistaken }
+    cells::number(out, right_before.steps, call)?;
+    cells::call(out, call, 7)?;
+    performed(out, right_store, mistaken_store, right, mistaken)?;
+    Ok(Runs { right, mistaken })
 }
 
 fn rows(
+    out: &impl Print,
     program: &[u16],
     right_store: &mut [u16],
     mistaken_store: &mut [u16],
     first: Runs,
     calls: &[u8],
     mistake: Mistake,
-) -> Runs {
+) -> io::Result<Runs> {
     let mut runs = first;
-    let mut i: usize = 0;
-    while i < calls.len() {
-        let call = calls[i];
-        i += 1;
-        runs = row(program, right_store, mistaken_store, runs, call, mistake);
+    for call in calls {
+        runs = row(
+            out,
+            program,
+            right_store,
+            mistaken_store,
+            runs,
+            *call,
+            mistake,
+        )?;
     }
-    runs
+    Ok(runs)
 }
 
-fn memory(right: &[u16], mistaken: &[u16]) {
-    text::put(b"memory    ");
-    cells::memory(right);
-    text::spaces(24);
+fn memory(out: &impl Print, right: &[u16], mistaken: &[u16]) -> io::Result<()> {
+    text::put(out, b"memory    ")?;
+    cells::memory(out, right)?;
+    text::spaces(out, 24)?;
     let mut differ = words::memory(right, 0) != words::memory(mistaken, 0);
     if words::memory(right, 1) != words::memory(mistaken, 1) {
         differ = true;
     }
-    bar(differ);
-    cells::memory(mistaken);
-    text::put(b"\n");
+    bar(out, differ)?;
+    cells::memory(out, mistaken)?;
+    text::put(out, b"\n")
 }
 
-fn head(right: &[u16], mistaken: &[u16]) {
-    text::put(b"head      ");
-    text::decimal(words::head(right) as u32);
-    text::spaces(32);
-    bar(words::head(right) != words::head(mistaken));
-    text::decimal(words::head(mistaken) as u32);
-    text::put(b"\n");
+fn head(out: &impl Print, right: &[u16], mistaken: &[u16]) -> io::Result<()> {
+    text::put(out, b"head      ")?;
+    text::decimal(out, words::head(right) as u32)?;
+    text::spaces(out, 32)?;
+    bar(out, words::head(right) != words::head(mistaken))?;
+    text::decimal(out, words::head(mistaken) as u32)?;
+    text::put(out, b"\n")
 }
 
-fn waiting(right: &[u16], mistaken: &[u16]) {
-    text::put(b"waiting   ");
-    cells::waiting(right, 33);
-    bar(words::waiting(right) != words::waiting(mistaken));
-    cells::waiting(mistaken, 0);
-    text::put(b"\n");
+fn waiting(out: &impl Print, right: &[u16], mistaken: &[u16]) -> io::Result<()> {
+    text::put(out, b"waiting   ")?;
+    cells::waiting(out, right, 33)?;
+    bar(out, words::waiting(right) != words::waiting(mistaken))?;
+    cells::waiting(out, mistaken, 0)?;
+    text::put(out, b"\n")
 }
 
 // Calls that aren't shown, in both runs.
@@ -185,14 +199,15 @@ fn calls(
 }
 
 // What the calls leave.
-fn left(right: &[u16], mistaken: &[u16]) {
-    memory(right, mistaken);
-    head(right, mistaken);
-    waiting(right, mistaken);
+fn left(out: &impl Print, right: &[u16], mistaken: &[u16]) -> io::Result<()> {
+    memory(out, right, mistaken)?;
+    head(out, right, mistaken)?;
+    waiting(out, right, mistaken)
 }
 
 // The calls in rows, and those behind the last.
 fn table(
+    out: &impl Print,
     program: &[u16],
     right: &mut [u16],
     mistaken: &mut [u16],
@@ -200,17 +215,24 @@ fn table(
     mistake: Mistake,
     shown: &[u8],
     behind: &[u8],
-) {
-    text::line(b"          right                               mistaken");
-    text::line(b" # call   answers      stores                 answers      stores");
-    let last = rows(program, right, mistaken, first, shown, mistake);
+) -> io::Result<()> {
+    text::line(
+        out,
+        b"          right                               mistaken",
+    )?;
+    text::line(
+        out,
+        b" # call   answers      stores                 answers      stores",
+    )?;
+    let last = rows(out, program, right, mistaken, first, shown, mistake)?;
     let _ = calls(program, right, mistaken, last, behind, mistake);
-    listed::behind(behind);
-    left(right, mistaken);
+    listed::behind(out, behind)?;
+    left(out, right, mistaken)
 }
 
 // Calls before the first row, in rows, and behind the last, on two stores.
 pub fn beside(
+    out: &impl Print,
     program: &[u16],
     right: &mut [u16],
     mistaken: &mut [u16],
@@ -218,12 +240,12 @@ pub fn beside(
     before: &[u8],
     shown: &[u8],
     behind: &[u8],
-) {
+) -> io::Result<()> {
     let off = Runs {
         right: node::off(),
         mistaken: node::off(),
     };
     let first = calls(program, right, mistaken, off, before, mistake);
-    listed::before(before);
-    table(program, right, mistaken, first, mistake, shown, behind);
+    listed::before(out, before)?;
+    table(out, program, right, mistaken, first, mistake, shown, behind)
 }

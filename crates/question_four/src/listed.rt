@@ -1,5 +1,6 @@
 // A list of calls in words: steps are counted, the other calls stand singly.
 use super::{cells, node, text};
+use std::io;
 
 fn is_step(calls: &[u8], at: usize) -> bool {
     if at < calls.len() {
@@ -9,54 +10,53 @@ fn is_step(calls: &[u8], at: usize) -> bool {
 }
 
 // The call at a place, which so many steps precede; they are told with the last one. How many are still to be told.
-fn item(calls: &[u8], at: usize, before: u32) -> u32 {
+fn item(out: &impl Print, calls: &[u8], at: usize, before: u32) -> io::Result<u32> {
     if at >= calls.len() {
-        return 0;
+        return Ok(0);
     }
     if at > 0 {
         if before == 0 {
-            text::put(b", ");
+            text::put(out, b", ")?;
         }
     }
     if !is_step(calls, at) {
-        cells::call(calls[at], 0);
-        return 0;
+        cells::call(out, calls[at], 0)?;
+        return Ok(0);
     }
     let steps = node::one_more(before);
     if is_step(calls, at + 1) {
-        return steps;
+        return Ok(steps);
     }
-    text::decimal(steps);
-    text::put(b" steps");
-    0
+    text::decimal(out, steps)?;
+    text::put(out, b" steps")?;
+    Ok(0)
 }
 
-pub fn listed(calls: &[u8]) {
+pub fn listed(out: &impl Print, calls: &[u8]) -> io::Result<()> {
     let mut steps: u32 = 0;
-    let mut i: usize = 0;
-    while i < calls.len() {
-        steps = item(calls, i, steps);
-        i += 1;
+    for i in 0..calls.len() {
+        steps = item(out, calls, i, steps)?;
     }
+    Ok(())
 }
 
 // The calls that precede a table's first row.
-pub fn before(calls: &[u8]) {
+pub fn before(out: &impl Print, calls: &[u8]) -> io::Result<()> {
     if calls.len() == 0 {
-        return;
+        return Ok(());
     }
-    text::put(b"Before the first row: ");
-    listed(calls);
-    text::line(b".");
+    text::put(out, b"Before the first row: ")?;
+    listed(out, calls)?;
+    text::line(out, b".")
 }
 
 // The calls that follow its last row.
-pub fn behind(calls: &[u8]) {
-    text::put(b"Afterwards");
+pub fn behind(out: &impl Print, calls: &[u8]) -> io::Result<()> {
+    text::put(out, b"Afterwards")?;
     if calls.len() > 0 {
-        text::put(b", ");
-        listed(calls);
-        text::put(b" on");
+        text::put(out, b", ")?;
+        listed(out, calls)?;
+        text::put(out, b" on")?;
     }
-    text::line(b":");
+    text::line(out, b":")
 }

@@ -5,6 +5,7 @@
 #![tactic(auto)]
 
 use mistakes::Mistake;
+use std::io;
 use store::format;
 
 mod beside;
@@ -17,72 +18,123 @@ mod text;
 mod transaction;
 mod words;
 
-fn legend() {
-    text::line(b"Question four: power is cut after any call. What is left?");
-    text::line(b"");
-    text::line(b"A row is a call. #: the steps so far. runs: an instruction, or choose, commit,");
-    text::line(b"handler. stores: the word's index, name and new value. ph, op: phase and open");
-    text::line(b"number after the call. If power is cut then, uncut recovery takes so many steps");
-    text::line(b"and leaves this memory and this record waiting; next is the body that runs");
-    text::line(b"then. T0 is task 0, E0 event 0; post 7 posts event 0 with data 7. Words are in");
-    text::line(b"hex, other numbers in decimal. L is 1; Q is 1, in screen 8 it is 2.");
+fn legend(out: &impl Print) -> io::Result<()> {
+    text::line(
+        out,
+        b"Question four: power is cut after any call. What is left?",
+    )?;
+    text::line(out, b"")?;
+    text::line(
+        out,
+        b"A row is a call. #: the steps so far. runs: an instruction, or choose, commit,",
+    )?;
+    text::line(
+        out,
+        b"handler. stores: the word's index, name and new value. ph, op: phase and open",
+    )?;
+    text::line(
+        out,
+        b"number after the call. If power is cut then, uncut recovery takes so many steps",
+    )?;
+    text::line(
+        out,
+        b"and leaves this memory and this record waiting; next is the body that runs",
+    )?;
+    text::line(
+        out,
+        b"then. T0 is task 0, E0 event 0; post 7 posts event 0 with data 7. Words are in",
+    )?;
+    text::line(
+        out,
+        b"hex, other numbers in decimal. L is 1; Q is 1, in screen 8 it is 2.",
+    )
 }
 
-fn task() {
-    text::line(b"\n1. A task of the counting program");
+fn task(out: &impl Print) -> io::Result<()> {
+    text::line(out, b"\n1. A task of the counting program")?;
     let program = cases::counting();
-    table::table(&program, b"", b"bsssssssssssssss");
+    table::table(out, &program, b"", b"bsssssssssssssss")
 }
 
-fn event() {
-    text::line(b"\n2. An event of the counting program");
+fn event(out: &impl Print) -> io::Result<()> {
+    text::line(out, b"\n2. An event of the counting program")?;
     let program = cases::counting();
-    table::table(&program, b"", b"b7sssssssssssss");
+    table::table(out, &program, b"", b"b7sssssssssssss")
 }
 
-fn event_in_transaction() {
-    text::line(b"\n3. An event posted inside a transaction runs after it, cut or no cut");
-    text::line(b"T0 adds 1 to word 0 and T1 copies word 0 to word 1, both in transaction 1; T2");
-    text::line(b"goes on to itself. The event saves its data in word 0.");
+fn event_in_transaction(out: &impl Print) -> io::Result<()> {
+    text::line(
+        out,
+        b"\n3. An event posted inside a transaction runs after it, cut or no cut",
+    )?;
+    text::line(
+        out,
+        b"T0 adds 1 to word 0 and T1 copies word 0 to word 1, both in transaction 1; T2",
+    )?;
+    text::line(
+        out,
+        b"goes on to itself. The event saves its data in word 0.",
+    )?;
     let program = transaction::PROGRAM;
     table::table(
+        out,
         &program,
         b"bsssssssss",
         b"ssssss7ssssssssssssssssssssssssss",
-    );
+    )
 }
 
-fn event_while_begun() {
-    text::line(b"\n4. An event accepted while a task is begun runs after it, cut or no cut");
+fn event_while_begun(out: &impl Print) -> io::Result<()> {
+    text::line(
+        out,
+        b"\n4. An event accepted while a task is begun runs after it, cut or no cut",
+    )?;
     let program = cases::counting();
-    table::table(&program, b"", b"bs7ssscbsssssssssssssss");
+    table::table(out, &program, b"", b"bs7ssscbsssssssssssssss")
 }
 
-fn cut_in_recovery() {
-    text::line(b"\n5. A cut in the recovery from a cut: copying starts again at the first pair");
+fn cut_in_recovery(out: &impl Print) -> io::Result<()> {
+    text::line(
+        out,
+        b"\n5. A cut in the recovery from a cut: copying starts again at the first pair",
+    )?;
     let program = cases::counting();
-    table::table(&program, b"bsssssssss", b"scbsscbsssss");
+    table::table(out, &program, b"bsssssssss", b"scbsscbsssss")
 }
 
-fn cuts_in_post() {
-    text::line(b"\n6. Cuts among a post's three stores: after one, after two, after all");
+fn cuts_in_post(out: &impl Print) -> io::Result<()> {
+    text::line(
+        out,
+        b"\n6. Cuts among a post's three stores: after one, after two, after all",
+    )?;
     let program = cases::counting();
-    table::table(&program, b"", b"b7scb8sscb9ssscbs");
+    table::table(out, &program, b"", b"b7scb8sscb9ssscbs")
 }
 
-fn cuts_in_drop() {
-    text::line(b"\n7. A post to a full queue drops the oldest record: cuts among its four stores");
+fn cuts_in_drop(out: &impl Print) -> io::Result<()> {
+    text::line(
+        out,
+        b"\n7. A post to a full queue drops the oldest record: cuts among its four stores",
+    )?;
     let program = cases::counting();
-    table::table(&program, b"b7sss", b"8scb7sss8ssscb7sss8ssss");
+    table::table(out, &program, b"b7sss", b"8scb7sss8ssscb7sss8ssss")
 }
 
 // On stores with L and Q 1.
-fn beside_one(program: &[u16], mistake: Mistake, before: &[u8], shown: &[u8], behind: &[u8]) {
+fn beside_one(
+    out: &impl Print,
+    program: &[u16],
+    mistake: Mistake,
+    before: &[u8],
+    shown: &[u8],
+    behind: &[u8],
+) -> io::Result<()> {
     let mut right = [0; 25];
     let mut mistaken = [0; 25];
     let _ = format::format(program, 1, 1, &mut right);
     let _ = format::format(program, 1, 1, &mut mistaken);
     beside::beside(
+        out,
         program,
         &mut right,
         &mut mistaken,
@@ -90,16 +142,24 @@ fn beside_one(program: &[u16], mistake: Mistake, before: &[u8], shown: &[u8], be
         before,
         shown,
         behind,
-    );
+    )
 }
 
 // On stores with Q 2.
-fn beside_two(program: &[u16], mistake: Mistake, before: &[u8], shown: &[u8], behind: &[u8]) {
+fn beside_two(
+    out: &impl Print,
+    program: &[u16],
+    mistake: Mistake,
+    before: &[u8],
+    shown: &[u8],
+    behind: &[u8],
+) -> io::Result<()> {
     let mut right = [0; 27];
     let mut mistaken = [0; 27];
     let _ = format::format(program, 1, 2, &mut right);
     let _ = format::format(program, 1, 2, &mut mistaken);
     beside::beside(
+        out,
         program,
         &mut right,
         &mut mistaken,
@@ -107,82 +167,106 @@ fn beside_two(program: &[u16], mistake: Mistake, before: &[u8], shown: &[u8], be
         before,
         shown,
         behind,
-    );
+    )
 }
 
-fn head_plus_one() {
-    text::line(b"\n8. Redoing an event's commit by adding one to head: two records go");
+fn head_plus_one(out: &impl Print) -> io::Result<()> {
+    text::line(
+        out,
+        b"\n8. Redoing an event's commit by adding one to head: two records go",
+    )?;
     let program = cases::counting();
     beside_two(
+        out,
         &program,
         Mistake::HeadPlusOneOnRedo,
         b"b7sss8ssssssss",
         b"ssscbsssss",
         b"",
-    );
+    )
 }
 
-fn tail_before_data() {
-    text::line(b"\n9. Storing tail before data: a cut accepts a stale record");
+fn tail_before_data(out: &impl Print) -> io::Result<()> {
+    text::line(
+        out,
+        b"\n9. Storing tail before data: a cut accepts a stale record",
+    )?;
     let program = cases::counting();
     beside_one(
+        out,
         &program,
         Mistake::TailBeforeData,
         b"b7sssssssssssss8sssssssssssss",
         b"9sscbs",
         b"sssssssss",
-    );
+    )
 }
 
-fn phase_before_task() {
-    text::line(b"\n10. Clearing the phase before word 9: the task runs again (screen 3's program)");
+fn phase_before_task(out: &impl Print) -> io::Result<()> {
+    text::line(
+        out,
+        b"\n10. Clearing the phase before word 9: the task runs again (screen 3's program)",
+    )?;
     let program = transaction::PROGRAM;
     beside_one(
+        out,
         &program,
         Mistake::PhaseBeforeTask,
         b"bsssssssss",
         b"ssscbsss",
         b"ssssssssssssssssssssssss",
-    );
+    )
 }
 
-fn lost_count() {
-    text::line(b"\n11. Taking the log count at recovery from lost state, not word 11");
+fn lost_count(out: &impl Print) -> io::Result<()> {
+    text::line(
+        out,
+        b"\n11. Taking the log count at recovery from lost state, not word 11",
+    )?;
     let program = cases::counting();
     beside_one(
+        out,
         &program,
         Mistake::CountFromLostState,
         b"bsssssssss",
         b"scbsssss",
         b"",
-    );
+    )
 }
 
-fn lost_open() {
-    text::line(b"\n12. Serving an event after a cut in an open transaction (screen 3's program)");
+fn lost_open(out: &impl Print) -> io::Result<()> {
+    text::line(
+        out,
+        b"\n12. Serving an event after a cut in an open transaction (screen 3's program)",
+    )?;
     let program = transaction::PROGRAM;
     beside_one(
+        out,
         &program,
         Mistake::EventInOpenTransaction,
         b"bsssssssssssssss",
         b"7ssscbs",
         b"ssssssssssssssssssssss",
-    );
+    )
 }
 
-fn main() {
-    legend();
-    task();
-    event();
-    event_in_transaction();
-    event_while_begun();
-    cut_in_recovery();
-    cuts_in_post();
-    cuts_in_drop();
-    text::line(b"\nFive mistakes, each beside the right run. A bar stands where they differ.");
-    head_plus_one();
-    tail_before_data();
-    phase_before_task();
-    lost_count();
-    lost_open();
+fn main(rt: HostRuntime) -> io::Result<()> {
+    let out = &rt;
+    legend(out)?;
+    task(out)?;
+    event(out)?;
+    event_in_transaction(out)?;
+    event_while_begun(out)?;
+    cut_in_recovery(out)?;
+    cuts_in_post(out)?;
+    cuts_in_drop(out)?;
+    text::line(
+        out,
+        b"\nFive mistakes, each beside the right run. A bar stands where they differ.",
+    )?;
+    head_plus_one(out)?;
+    tail_before_data(out)?;
+    phase_before_task(out)?;
+    lost_count(out)?;
+    lost_open(out)
 }

@@ -101,10 +101,8 @@ pub fn all_calls(
     mistake: Mistake,
 ) -> Node {
     let mut node = first;
-    let mut i: usize = 0;
-    while i < calls.len() {
-        node = call(program, store, node, calls[i], mistake);
-        i += 1;
+    for name in calls {
+        node = call(program, store, node, *name, mistake);
     }
     node
 }

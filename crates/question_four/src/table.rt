@@ -3,96 +3,117 @@ use super::mistakes::Mistake;
 use super::node::Node;
 use super::{cells, listed, node, text, words};
 use model::{Answer, Place};
+use std::io;
 use store::format;
 
 // The body that runs after recovery: the one that the boot took up, or else the one that the next step chooses.
-fn next_body(program: &[u16], store: [u16; 25], recovered: Node) {
+fn next_body(
+    out: &impl Print,
+    program: &[u16],
+    store: [u16; 25],
+    recovered: Node,
+) -> io::Result<()> {
     let device = recovered.device;
     let place = device.place;
     if let Place::Run(body, _, _) = place {
-        cells::body(body);
-        return;
+        return cells::body(out, body);
     }
     let mut copy = store;
     let next = node::step(program, &mut copy, recovered);
     let answer = next.answer;
     if let Answer::Chosen(body) = answer {
-        cells::body(body);
+        cells::body(out, body)?;
     }
+    Ok(())
 }
 
 // What is left of recovery's store: the memory, the waiting record, and the body that runs next.
-fn left(program: &[u16], store: [u16; 25], recovered: Node) {
-    text::two(recovered.steps);
-    text::put(b" ");
-    cells::memory(&store);
-    text::put(b" ");
-    cells::waiting(&store, 7);
-    text::put(b" ");
-    next_body(program, store, recovered);
-    text::put(b"\n");
+fn left(out: &impl Print, program: &[u16], store: [u16; 25], recovered: Node) -> io::Result<()> {
+    text::two(out, recovered.steps)?;
+    text::put(out, b" ")?;
+    cells::memory(out, &store)?;
+    text::put(out, b" ")?;
+    cells::waiting(out, &store, 7)?;
+    text::put(out, b" ")?;
+    next_body(out, program, store, recovered)?;
+    text::put(out, b"\n")
 }
 
 // Uncut recovery of a copy of the store: a cut, a boot, then steps while the phase isn't 0.
-fn recovered(program: &[u16], store: [u16; 25]) {
+fn recovered(out: &impl Print, program: &[u16], store: [u16; 25]) -> io::Result<()> {
     let mut copy = store;
     let mut node = node::call(program, &mut copy, node::off(), b'b', Mistake::Nothing);
-    let mut i: u16 = 0;
-    while i < 99 {
+    for _ in 0..99u16 {
         if words::phase(&copy) == 0 {
             break;
         }
         node = node::call(program, &mut copy, node, b's', Mistake::Nothing);
-        i += 1;
     }
-    left(program, copy, node);
+    left(out, program, copy, node)
 }
 
 // Phase and open number.
-fn control(store: &[u16]) {
-    text::put(b" ");
-    text::two(words::phase(store) as u32);
-    text::put(b" ");
-    text::two(words::word(store, 10) as u32);
-    text::spaces(5);
+fn control(out: &impl Print, store: &[u16]) -> io::Result<()> {
+    text::put(out, b" ")?;
+    text::two(out, words::phase(store) as u32)?;
+    text::put(out, b" ")?;
+    text::two(out, words::word(store, 10) as u32)?;
+    text::spaces(out, 5)
 }
 
 // What a call answers and stores, phase and open number after it, and what recovery would leave.
-fn done(program: &[u16], store: &[u16; 25], node: Node) {
-    cells::performed(store, node, 20);
-    control(store);
-    recovered(program, *store);
+fn done(out: &impl Print, program: &[u16], store: &[u16; 25], node: Node) -> io::Result<()> {
+    cells::performed(out, store, node, 20)?;
+    control(out, store)?;
+    recovered(out, program, *store)
 }
 
-fn row(program: &[u16], store: &mut [u16; 25], before: Node, call: u8) -> Node {
-    cells::number(before.steps, call);
+fn row(
+    out: &impl Print,
+    program: &[u16],
+    store: &mut [u16; 25],
+    before: Node,
+    call: u8,
+) -> io::Result<Node> {
+    cells::number(out, before.steps, call)?;
     let device = before.device;
-    cells::runs(program, store, device, call);
+    cells::runs(out, program, store, device, call)?;
     let node = node::call(program, store, before, call, Mistake::Nothing);
-    done(program, store, node);
-    node
+    done(out, program, store, node)?;
+    Ok(node)
 }
 
-fn rows(program: &[u16], store: &mut [u16; 25], first: Node, calls: &[u8]) {
+fn rows(
+    out: &impl Print,
+    program: &[u16],
+    store: &mut [u16; 25],
+    first: Node,
+    calls: &[u8],
+) -> io::Result<()> {
     let mut node = first;
-    let mut i: usize = 0;
-    while i < calls.len() {
-        node = row(program, store, node, calls[i]);
-        i += 1;
+    for call in calls {
+        node = row(out, program, store, node, *call)?;
     }
+    Ok(())
 }
 
 // A store with L and Q 1, and a device that is off: calls that aren't shown, and calls with a row each.
-pub fn table(program: &[u16], before: &[u8], calls: &[u8]) {
-    heading(before);
+pub fn table(out: &impl Print, program: &[u16], before: &[u8], calls: &[u8]) -> io::Result<()> {
+    heading(out, before)?;
     let mut store = [0; 25];
     let _ = format::format(program, 1, 1, &mut store);
     let first = node::all_calls(program, &mut store, node::off(), before, Mistake::Nothing);
-    rows(program, &mut store, first, calls);
+    rows(out, program, &mut store, first, calls)
 }
 
-fn heading(before: &[u8]) {
-    listed::before(before);
-    text::line(b"                                                    uncut recovery would leave");
-    text::line(b" # runs    answers      stores               ph op  steps memory    waiting next");
+fn heading(out: &impl Print, before: &[u8]) -> io::Result<()> {
+    listed::before(out, before)?;
+    text::line(
+        out,
+        b"                                                    uncut recovery would leave",
+    )?;
+    text::line(
+        out,
+        b" # runs    answers      stores               ph op  steps memory    waiting next",
+    )
 }

@@ -1,44 +1,48 @@
 // Text on standard output: numbers in columns, words in hex.
 
-pub fn put(text: &[u8]) {
-    let _ = io::write_all(1, text);
+use std::io;
+
+pub fn put(out: &impl Print, text: &[u8]) -> io::Result<()> {
+    out.write_all(text)
 }
 
-pub fn line(text: &[u8]) {
-    put(text);
-    put(b"\n");
+pub fn line(out: &impl Print, text: &[u8]) -> io::Result<()> {
+    put(out, text)?;
+    put(out, b"\n")
 }
 
 // The last n bytes.
-fn last(text: &[u8], n: usize) {
+fn last(out: &impl Print, text: &[u8], n: usize) -> io::Result<()> {
     if n <= text.len() {
         let from = text.len() - n;
-        put(&text[from..]);
+        return put(out, &text[from..]);
     }
+    Ok(())
 }
 
 // Up to 40 of them.
-pub fn spaces(n: u16) {
-    last(b"                                        ", n as usize);
+pub fn spaces(out: &impl Print, n: u16) -> io::Result<()> {
+    last(out, b"                                        ", n as usize)
 }
 
 // What is left of a column, of which so much is used.
-pub fn rest(used: u16, width: u16) {
+pub fn rest(out: &impl Print, used: u16, width: u16) -> io::Result<()> {
     if used < width {
-        spaces(width - used);
+        return spaces(out, width - used);
     }
+    Ok(())
 }
 
-pub fn decimal(n: u32) {
-    let _ = io::print_decimal(1, n as u64);
+pub fn decimal(out: &impl Print, n: u32) -> io::Result<()> {
+    out.print(n)
 }
 
 // n, right in a column of two.
-pub fn two(n: u32) {
+pub fn two(out: &impl Print, n: u32) -> io::Result<()> {
     if n < 10 {
-        put(b" ");
+        put(out, b" ")?;
     }
-    decimal(n);
+    decimal(out, n)
 }
 
 fn glyph(digit: u16) -> u8 {
@@ -47,12 +51,12 @@ fn glyph(digit: u16) -> u8 {
 }
 
 // A word, as four hex digits.
-pub fn hex(word: u16) {
+pub fn hex(out: &impl Print, word: u16) -> io::Result<()> {
     let text = [
         glyph(word / 4096),
         glyph(word / 256),
         glyph(word / 16),
         glyph(word),
     ];
-    put(&text);
+    put(out, &text)
 }
