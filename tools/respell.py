@@ -101,14 +101,16 @@ def table():
     for name in sorted(every, key=lambda n: ("-" in n, n)):
         if name[0].isupper() and "-" not in name:
             continue
-        to = CHOSEN.get(name) or respelt(name, set() if name in fields else words)
+        to = CHOSEN.get(name) or respelt(name, words)
         if to == name:
             continue
         if name in CHOSEN:
             new[name] = to
             continue
         if to in taken and "-" in name:
-            to = "-".join(snake(p) for p in name.split("-")) if name in fields else to + "_lem"
+            to += "_lem"
+        if name in fields and "-" in to and to.replace("-", "_") not in taken:
+            to = to.replace("-", "_")
         if to == name:
             continue
         if to in taken:

@@ -3,6 +3,8 @@
 
 #![tactic(auto)]
 
+ghost use Rattle.std.specs.Prelude.{◌≤◌, length};
+
 use image::Loaded;
 use model::Checked;
 use sheet::State;
@@ -87,6 +89,16 @@ struct Turn {
     more: bool,
 }
 
+// The next bytes of the schedule, and how many they are: none at its end, and none where it can't be read.
+fn read_some(rt: &HostRuntime, bytes: &mut [u8]) -> usize
+    ensures { result ≤ length bytes.new }
+{
+    match rt.stdin().read(bytes) {
+        Ok(count) => count,
+        Err(_) => 0,
+    }
+}
+
 fn feed_some(
     rt: &HostRuntime,
     program: &[u16],
@@ -94,17 +106,17 @@ fn feed_some(
     copy: &mut [u16],
     text: &mut [u8; 65536],
     state: State,
-) -> io::Result<Turn> {
+) -> Turn {
     let mut bytes = [0u8; 65536];
-    let count = rt.stdin().read(&mut bytes)?;
+    let count = read_some(rt, &mut bytes);
     if count == 0 {
-        return Ok(Turn { state, more: false });
+        return Turn { state, more: false };
     }
     let now = feed(rt, program, store, copy, text, &bytes[..count], state);
-    Ok(Turn {
+    Turn {
         state: now,
         more: !now.ended,
-    })
+    }
 }
 
 // The schedule, up to its end or that of the sheet. A proved loop has to end, and nothing says that a schedule does: so it counts its turns
@@ -116,52 +128,44 @@ fn feed_all(
     copy: &mut [u16],
     text: &mut [u8; 65536],
     state: State,
-) -> io::Result<State> {
+) -> State {
     let mut now = state;
     for _ in 0..u64::MAX {
-        let turn = feed_some(rt, program, store, copy, text, now)?;
+        let turn = feed_some(rt, program, store, copy, text, now);
         now = turn.state;
         if !turn.more {
             break;
         }
     }
-    Ok(now)
+    now
 }
 
-fn print(
-    rt: &HostRuntime,
-    checked: Checked,
-    program: &[u16],
-    store: &mut [u16],
-    copy: &mut [u16],
-) -> io::Result<()> {
+fn print(rt: &HostRuntime, checked: Checked, program: &[u16], store: &mut [u16], copy: &mut [u16]) {
     let mut text = [0u8; 65536];
     let begun = sheet::begin(checked, program, store, &mut text);
     if !write(rt, &text, begun.end) {
-        return Ok(());
+        return;
     }
     let state = begun.state;
-    let last = feed_all(rt, program, store, copy, &mut text, state)?;
+    let last = feed_all(rt, program, store, copy, &mut text, state);
     let end = sheet::finish(program, store, copy, &mut text, last);
     write(rt, &text, end);
-    Ok(())
 }
 
 // The sheet of the first words, as many as the library says.
-fn print_first(rt: &HostRuntime, checked: Checked, words: &[u16], length: usize) -> io::Result<()> {
+fn print_first(rt: &HostRuntime, checked: Checked, words: &[u16], length: usize) {
     if length <= words.len() {
         let program = &words[..length];
         let size = image::store_words(program);
         let mut store = [0u16; 1047];
         let mut copy = [0u16; 1047];
-        return print(rt, checked, program, &mut store[..size], &mut copy[..size]);
+        print(rt, checked, program, &mut store[..size], &mut copy[..size]);
     }
-    Ok(())
 }
 
-fn print_loaded(rt: &HostRuntime, loaded: Loaded, words: &[u16; 65535]) -> io::Result<()> {
+fn print_loaded(rt: &HostRuntime, loaded: Loaded, words: &[u16; 65535]) {
     let checked = loaded.checked;
-    print_first(rt, checked, words, loaded.length)
+    print_first(rt, checked, words, loaded.length);
 }
 
 // The image's first bytes, as many as were read.
@@ -176,10 +180,10 @@ fn load(image: &[u8; 131072], count: usize, words: &mut [u16; 65535]) -> Loaded 
     load_first(image, count, words)
 }
 
-fn main(rt: HostRuntime) -> io::Result<()> {
+fn main(rt: HostRuntime) {
     let mut image = [0u8; 131072];
     let count = read_image(&rt, &mut image);
     let mut words = [0u16; 65535];
     let loaded = load(&image, count, &mut words);
-    print_loaded(&rt, loaded, &words)
+    print_loaded(&rt, loaded, &words);
 }
