@@ -3,7 +3,6 @@
 #![tactic(auto)]
 
 ghost use Rattle.std.specs.Prelude.{◌≤◌, length};
-ghost use Rattle.std.specs.Io.{ReadsAtMost};
 
 use std::env::FillError;
 use std::fs::File;
@@ -185,19 +184,25 @@ pub struct Got {
     pub ok: bool,
 }
 
-// What a reader gives, up to its end or as many bytes as there is room for.
-pub fn read_full<R: Read>(from: &mut R, bytes: &mut [u8]) -> io::Result<usize>
-    ensures { ReadsAtMost result bytes.new }
+// What a reader gives, up to its end or as many bytes as there is room for; and whether a read failed behind these.
+pub fn read_full<R: Read>(from: &mut R, bytes: &mut [u8]) -> (usize, io::Result<()>)
+    ensures { result.0 ≤ length bytes.new }
 {
     let mut done = 0;
     while done < bytes.len() {
-        let count = from.read(&mut bytes[done..])?;
-        if count == 0 {
-            break;
+        match from.read(&mut bytes[done..]) {
+            Ok(0) => break,
+            Ok(count) => done += count,
+            Err(error) => return (done, Err(error)),
         }
-        done += count;
     }
-    Ok(done)
+    (done, Ok(()))
+}
+
+fn read_whole<R: Read>(from: &mut R, bytes: &mut [u8]) -> io::Result<usize> {
+    let (count, outcome) = read_full(from, bytes);
+    outcome?;
+    Ok(count)
 }
 
 fn open_input(rt: &HostRuntime, number: usize) -> io::Result<File> {
@@ -208,10 +213,10 @@ fn open_input(rt: &HostRuntime, number: usize) -> io::Result<File> {
 
 fn read(rt: &HostRuntime, number: usize, bytes: &mut [u8]) -> io::Result<usize> {
     if number == 0 {
-        return read_full(&mut rt.stdin(), bytes);
+        return read_whole(&mut rt.stdin(), bytes);
     }
     let mut file = open_input(rt, number)?;
-    read_full(&mut file, bytes)
+    read_whole(&mut file, bytes)
 }
 
 fn failed(rt: &HostRuntime, number: usize, error: &Error) {

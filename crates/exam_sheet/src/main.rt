@@ -14,18 +14,19 @@ use std::{fs, io};
 // "a missing file is empty", and so is one that can't be read. What lies past the bytes that are read decides nothing
 // (`LongIsRefused`, crates/image).
 fn read_image(rt: &HostRuntime, image: &mut [u8; 131072]) -> usize {
-    match read_program(rt, image) {
-        Ok(count) => count,
-        Err(error) => {
-            command::fail(rt, b"program.img", &error);
-            0
-        }
+    let (count, outcome) = read_program(rt, image);
+    if let Err(error) = outcome {
+        command::fail(rt, b"program.img", &error);
     }
+    count
 }
 
-fn read_program(rt: &HostRuntime, image: &mut [u8]) -> io::Result<usize> {
-    let mut file = fs::open(rt, "program.img")?;
-    command::read_full(&mut file, image)
+// Where reading fails in the middle, what was read counts.
+fn read_program(rt: &HostRuntime, image: &mut [u8]) -> (usize, io::Result<()>) {
+    match fs::open(rt, "program.img") {
+        Ok(mut file) => command::read_full(&mut file, image),
+        Err(error) => (0, Err(error)),
+    }
 }
 
 // The first bytes of the text, as many as the library says; whether they were written.
