@@ -1,4 +1,5 @@
-// The functions that a bench links, from C or Rust: include/runtime.h declares them and docs/USING.md explains them.
+// The functions of the library over words and numbers alone. A bench links them, from C or Rust, as exports_c exports them: include/runtime.h
+// declares them and docs/USING.md explains them.
 // No enum crosses: a device state is 26 words, an answer 5, a step's answer 6, the totals are 3 numbers (crates/words, specs/Exported.antt).
 
 #![tactic(auto)]
