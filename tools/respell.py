@@ -101,13 +101,11 @@ def table():
     for name in sorted(every, key=lambda n: ("-" in n, n)):
         if name[0].isupper() and "-" not in name:
             continue
-        to = CHOSEN.get(name) or respelt(name, words)
-        if to == name:
-            continue
         if name in CHOSEN:
-            new[name] = to
+            new[name] = CHOSEN[name]
             continue
-        if to in taken and "-" in name:
+        to = respelt(name, words)
+        if to != name and to in taken and "-" in name:
             to += "_lem"
         if name in fields and "-" in to and to.replace("-", "_") not in taken:
             to = to.replace("-", "_")
