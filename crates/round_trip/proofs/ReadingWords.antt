@@ -18,7 +18,7 @@ use Rattle.model.specs.Test.{pick, ◌and◌, ◌or◌}
 use Rattle.text.proofs.TextLaws.{decimal-length}
 use Rattle.text.specs.Ascii.{ascii}
 use Rattle.text.specs.Text.{decimal_of, decimal}
-use Rattle.tokens.specs.Tokens.{character, is_space, line_feed, number, name, named, spelled, with_word, sized, digit, begun, longer, goes_on, added, ended_by, if_right, read_byte, next, statement, statement_names, all_named, number_of}
+use Rattle.tokens.specs.Tokens.{character, is_space, line_feed, number, named, spelled, with_word, sized, digit, begun, longer, goes_on, added, ended_by, if_right, read_byte, next, statement, statement_names, all_named, number_of}
 use Rattle.tokens.specs.declared.Kind.{Kind}
 use Rattle.tokens.specs.declared.Reading.{Reading}
 

@@ -18,9 +18,9 @@ use Rattle.assembly.specs.Mistakes.{program_length, transaction_word}
 use Rattle.assembly.specs.Words.{as_word, task_of, label_of, transaction_of, second_word, instruction_words, body_words, start_of, row_words, rows, contents, words}
 use Rattle.listing.specs.Listing.{task_name, label_name, transaction_name, is_target}
 use Rattle.model.proofs.TestLaws.{pick_case, pick_true, pick-false, below_or}
-use Rattle.model.specs.Program.{word, tasks, events, memory_words, entry, total, bodies, start, instructions, transaction, bodies_start, row_at, code, operand}
+use Rattle.model.specs.Program.{word, tasks, events, memory_words, entry, total, bodies, start, instructions, transaction, bodies_start, row_at, operand}
 use Rattle.model.specs.Test.{pick, ◌and◌}
-use Rattle.tokens.specs.Tokens.{number, named}
+use Rattle.tokens.specs.Tokens.{named}
 use Rattle.round_trip.specs.Expected.{memory_of, entry_of, heading_of, instruction_of}
 use Rattle.round_trip.proofs.AcceptedLaws.{Whole, before_few}
 use Rattle.round_trip.proofs.CountLaws.{above, heading_case, heading-body, tasks_above, events_above, bodies_above, instructions_above, above_heading, above_instruction, above_end}
