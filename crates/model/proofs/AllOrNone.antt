@@ -1,5 +1,6 @@
 -- Several events or none, for any list of calls on a fresh store. It cites: Fresh (the start), Demand3 (what came in, of a list), Observed
 -- (recovery). Assumes nothing.
+use Rattle.model.specs.Types.{Record}
 use Prim.Native.Nat.{ℕ, ◌+◌}
 use mathlib.Core.Path.{◌≡◌, sym, ap, ◌∙◌}
 use mathlib.Core.List.{List, ◌++◌}
@@ -19,7 +20,7 @@ use Rattle.model.specs.Demand3.{reached, Observed}
 use Rattle.model.specs.Device.{fresh, off, burst_length}
 use Rattle.model.specs.Program.{memory_words}
 use Rattle.model.specs.Serial.{Serial, given, serial, serial_start}
-use Rattle.model.specs.Store.{Record, view, waiting, formatted}
+use Rattle.model.specs.Store.{view, waiting, formatted}
 
 module _ (p : List ℕ) (l q : ℕ) (s : List ℕ) (f : Formatted p l q s) (cs : List Call) where
   abbrev fresh-store : List ℕ

@@ -12,9 +12,9 @@ use Rattle.model.specs.Accepted.{Known, MayDrop}
 use Rattle.model.specs.Burst.{is_burst, records_at, carried, record_words, no_burst, burst_words, known_events, events_rule}
 use Rattle.model.specs.Device.{zeros, may_drop, takes, set_to_work, burst_length}
 use Rattle.model.specs.Program.{word, events}
-use Rattle.model.specs.Store.{Record, slot, Store}
+use Rattle.model.specs.Store.{slot, Store}
 use Rattle.model.specs.Test.{must, ◌then◌}
-use Rattle.model.specs.Types.{Checked, Refusal, Handler}
+use Rattle.model.specs.Types.{Err, Handler, Ok, Record, Refusal}
 
 -- ---- one to four
 
@@ -39,8 +39,8 @@ known-passed p [] e = tt
 known-passed p (r ∷ rs) e = (ltb-true _ _ (and_left _ _ e), known-passed p rs (and_right _ _ e))
 
 pub data EventsFound (p : List ℕ) (i : ℕ) (rs : List Record) : Type 0 where
-  all_known : Known p rs → events_rule p i rs ≡ Checked.Accepted → EventsFound p i rs
-  bad_event : (j : ℕ) → events_rule p i rs ≡ Checked.Refused (Refusal.NoEvent j) → EventsFound p i rs
+  all_known : Known p rs → events_rule p i rs ≡ Ok tt → EventsFound p i rs
+  bad_event : (j : ℕ) → events_rule p i rs ≡ Err (Refusal.NoEvent j) → EventsFound p i rs
 
 pub events-found : (p : List ℕ) (i : ℕ) (rs : List Record) → EventsFound p i rs
 unfolding events_rule must ◌then◌

@@ -12,9 +12,9 @@ use Rattle.model.proofs.TestLaws.{pick_case, pick-false, impossible}
 use Rattle.model.specs.Calls.{Call, Boot, Now, call, history, after_calls, steps, count_by, unless_refused, is_refusal, more_by, one_if, is_commit, is_accept, accepted_events, is_store, no_totals, counted, totals_after, events_accepted, stores_made, RunOutcome, run_from, run, recovered, refused, unfinished, finish, recovery}
 use Rattle.model.specs.Claims.{EndedSo, RunIsSteps, TotalsAreCounts, ByCalls, RecoveryByCalls}
 use Rattle.model.specs.Device.{Outcome, out, judged, off, begun_of, taken_up, boot_check, boot, cut, post_check, post, step}
-use Rattle.model.specs.Store.{Record, view, none, settled}
+use Rattle.model.specs.Store.{view, none, settled}
 use Rattle.model.specs.Test.{pick}
-use Rattle.model.specs.Types.{Answer, Checked, Device, Ended, Handler, Refusal, Totals}
+use Rattle.model.specs.Types.{Answer, Checked, Device, Err, Handler, Ok, Record, Refusal, Totals}
 
 -- ---- unless_refused: one law for every proof about an answer
 
@@ -57,8 +57,8 @@ adds_nothing t h o c a w = simp (c, a, w, none_more)
 -- boot, cut and post
 counts_nothing : (t : Totals) (h : Handler) (d e : Device) (x : Checked) → counted t h (judged x d (out none e Answer.Done)) ≡ t
 unfolding judged is_commit is_accept is_store
-counts_nothing t h d e Checked.Accepted = adds_nothing t h _ refl refl refl
-counts_nothing t h d e (Checked.Refused r) = adds_nothing t h _ refl refl refl
+counts_nothing t h d e (Ok tt) = adds_nothing t h _ refl refl refl
+counts_nothing t h d e (Err r) = adds_nothing t h _ refl refl refl
 
 pub boot_counts_nothing : (p s : List ℕ) (d : Device) (t : Totals) → counted t d.handler (boot p s d) ≡ t
 unfolding boot
@@ -98,7 +98,7 @@ run-made p zero n s d t =
     }
 run-made p (suc k) n s d t =
     let o = step p s d in
-    answer_case (Made p (suc k) n s d t) o.answer (λ f. record { steps = n; ended = Ended.Refused f; store = s; device = d; totals = t })
+    answer_case (Made p (suc k) n s d t) o.answer (λ f. record { steps = n; ended = Err f; store = s; device = d; totals = t })
     (run_from p k (n + 1) (settled s o.write) o.device (counted t d.handler o))
     (λ f e.
     record {
@@ -263,8 +263,8 @@ unfolding boot judged
 boot_stores_nothing p s d = go (boot_check p s d)
   where
     go : (x : Checked) → (judged x d (out none (taken_up (view s) (begun_of (view s))) Answer.Done)).write ≡ none
-    go Checked.Accepted = refl
-    go (Checked.Refused r) = refl
+    go (Ok tt) = refl
+    go (Err r) = refl
 
 -- after a boot, whatever it answers
 pub booted : (p s : List ℕ) (d : Device) (cs : List Call) → after_calls p s d (Boot ∷ cs) ≡ after_calls p s (boot p s d).device cs

@@ -13,9 +13,8 @@ use Rattle.model.specs.AllOrNone.{way_after, came_from, joined, AllBursts, commi
 use Rattle.model.specs.Burst.{is_burst}
 use Rattle.model.specs.Calls.{Call, Boot, Step, Cut, Post, Line, count_by, unless_refused, is_accept}
 use Rattle.model.specs.Demand3.{is_completion}
-use Rattle.model.specs.Store.{Record}
 use Rattle.model.specs.Test.{pick}
-use Rattle.model.specs.Types.{Answer, Body}
+use Rattle.model.specs.Types.{Answer, Body, Record}
 
 -- ---- lengths and events
 

@@ -22,9 +22,9 @@ use Rattle.model.specs.Control.{obey, obey_all, up_to, phase_rule, task_rule, op
 use Rattle.model.specs.Device.{task_stores, event_stores, eligible, may_run, end_stores, place_sound, records_sound, zeros, handler_sound, device_sound, record_sound, head_sound, named_row, open_sound, head_is, ends, saves, place_fits, body_sound, fits}
 use Rattle.model.specs.Program.{tasks, events, memory_words, instructions, transaction, body_number, effect_at}
 use Rattle.model.specs.Serial.{Serial}
-use Rattle.model.specs.Store.{Store, event, slot_after, first_waiting, distance, room, Write, Record}
+use Rattle.model.specs.Store.{Store, event, slot_after, first_waiting, distance, room, Write}
 use Rattle.model.specs.Test.{◌and◌, ◌or◌}
-use Rattle.model.specs.Types.{Body, Checked, Device, Effect, Free, Half, Handler, Place, Resting, Run, Storing, Dropped, Replacing, Dropping}
+use Rattle.model.specs.Types.{Body, Device, Dropping, Effect, Free, Half, Handler, Ok, Option, Place, Record, Replacing, Resting, Run, Storing}
 
 -- ---- what the invariant says of the control words
 
@@ -67,61 +67,61 @@ module _ (p : List ℕ) (v : Store) where
   in_phase_lem : (n m : ℕ) → v.phase ≡ n → eqb n m ≡ false → eqb v.phase m ≡ false
   in_phase_lem n m e f = ap (λ (x : ℕ). eqb x m) e ∙ f
 
-  phase_obeyed : Phases p v → obey (phase_rule v) ≡ Checked.Accepted
+  phase_obeyed : Phases p v → obey (phase_rule v) ≡ Ok tt
   unfolding phase_rule
   phase_obeyed (runs e o g) = obey-kept (phase_rule v) (ap (λ (x : ℕ). leb x 2) e)
   phase_obeyed (ends-task e c t o) = obey-kept (phase_rule v) (ap (λ (x : ℕ). leb x 2) e)
   phase_obeyed (ends-event e c o l h) = obey-kept (phase_rule v) (ap (λ (x : ℕ). leb x 2) e)
 
-  task_obeyed : v.task < tasks p → obey (task_rule p v) ≡ Checked.Accepted
+  task_obeyed : v.task < tasks p → obey (task_rule p v) ≡ Ok tt
   unfolding task_rule
   task_obeyed l = obey-kept (task_rule p v) (lt-ltb _ _ l)
 
-  pub open_obeyed : Phases p v → obey (open_rule p v) ≡ Checked.Accepted
+  pub open_obeyed : Phases p v → obey (open_rule p v) ≡ Ok tt
   unfolding open_rule ◌and◌
   open_obeyed (runs e o g) = obey-kept (open_rule p v) (open_test p v.open_number v.task o)
   open_obeyed (ends-task e c t o) = obey_unasked (open_rule p v) (rw (in_phase_lem 1 0 e refl))
   open_obeyed (ends-event e c o l h) = obey_unasked (open_rule p v) (rw (in_phase_lem 2 0 e refl))
 
-  serving_obeyed : Phases p v → obey (open_serving v) ≡ Checked.Accepted
+  serving_obeyed : Phases p v → obey (open_serving v) ≡ Ok tt
   unfolding open_serving
   serving_obeyed (runs e o g) = obey_unasked (open_serving v) (in_phase_lem 0 2 e refl)
   serving_obeyed (ends-task e c t o) = obey_unasked (open_serving v) (in_phase_lem 1 2 e refl)
   serving_obeyed (ends-event e c o l h) = obey-kept (open_serving v) (eq-eqb _ _ o)
 
-  count_obeyed : Phases p v → obey (count_rule v) ≡ Checked.Accepted
+  count_obeyed : Phases p v → obey (count_rule v) ≡ Ok tt
   unfolding count_rule ◌or◌
   count_obeyed (runs e o g) = obey_unasked (count_rule v) (rw (in_phase_lem 0 1 e refl, in_phase_lem 0 2 e refl))
   count_obeyed (ends-task e c t o) = obey-kept (count_rule v) (le-leb _ _ c.count_in)
   count_obeyed (ends-event e c o l h) = obey-kept (count_rule v) (le-leb _ _ c.count_in)
 
-  pending_obeyed : Phases p v → obey (pending_task_rule p v) ≡ Checked.Accepted
+  pending_obeyed : Phases p v → obey (pending_task_rule p v) ≡ Ok tt
   unfolding pending_task_rule
   pending_obeyed (runs e o g) = obey_unasked (pending_task_rule p v) (in_phase_lem 0 1 e refl)
   pending_obeyed (ends-task e c t o) = obey-kept (pending_task_rule p v) (lt-ltb _ _ t)
   pending_obeyed (ends-event e c o l h) = obey_unasked (pending_task_rule p v) (in_phase_lem 2 1 e refl)
 
-  pending_open_obeyed : Phases p v → obey (pending_open_rule p v) ≡ Checked.Accepted
+  pending_open_obeyed : Phases p v → obey (pending_open_rule p v) ≡ Ok tt
   unfolding pending_open_rule ◌and◌
   pending_open_obeyed (runs e o g) = obey_unasked (pending_open_rule p v) (rw (in_phase_lem 0 1 e refl))
   pending_open_obeyed (ends-task e c t o) = obey-kept (pending_open_rule p v) (open_test p v.pending_open v.pending o)
   pending_open_obeyed (ends-event e c o l h) = obey_unasked (pending_open_rule p v) (rw (in_phase_lem 2 1 e refl))
 
-  head_obeyed : v.head ≤ v.queue_records → obey (head_rule v) ≡ Checked.Accepted
+  head_obeyed : v.head ≤ v.queue_records → obey (head_rule v) ≡ Ok tt
   unfolding head_rule
   head_obeyed l = obey-kept (head_rule v) (le-leb _ _ l)
 
-  tail_obeyed : v.tail ≤ v.queue_records → obey (tail_rule v) ≡ Checked.Accepted
+  tail_obeyed : v.tail ≤ v.queue_records → obey (tail_rule v) ≡ Ok tt
   unfolding tail_rule
   tail_obeyed l = obey-kept (tail_rule v) (le-leb _ _ l)
 
-  pending_head_obeyed : Phases p v → obey (pending_head_rule v) ≡ Checked.Accepted
+  pending_head_obeyed : Phases p v → obey (pending_head_rule v) ≡ Ok tt
   unfolding pending_head_rule ◌and◌
   pending_head_obeyed (runs e o g) = obey_unasked (pending_head_rule v) (rw (in_phase_lem 0 2 e refl))
   pending_head_obeyed (ends-task e c t o) = obey_unasked (pending_head_rule v) (rw (in_phase_lem 1 2 e refl))
   pending_head_obeyed (ends-event e c o l h) = obey-kept (pending_head_rule v) (le-leb _ _ l)
 
-  pending_move_obeyed : Phases p v → obey (pending_move_rule v) ≡ Checked.Accepted
+  pending_move_obeyed : Phases p v → obey (pending_move_rule v) ≡ Ok tt
   unfolding pending_move_rule ◌and◌
   pending_move_obeyed (runs e o g) = obey_unasked (pending_move_rule v) (rw (in_phase_lem 0 2 e refl))
   pending_move_obeyed (ends-task e c t o) = obey_unasked (pending_move_rule v) (rw (in_phase_lem 1 2 e refl))
@@ -129,11 +129,11 @@ module _ (p : List ℕ) (v : Store) where
   pending_move_obeyed (ends-event e c o l (inr (h, ne))) =
       obey-kept (pending_move_rule v) (or_true_right _ _ (and_true (eq-eqb _ _ h) (not_false (ne_eqb _ _ ne))))
 
-  begun_obeyed : v.begun ≤ 2 → obey (begun_rule v) ≡ Checked.Accepted
+  begun_obeyed : v.begun ≤ 2 → obey (begun_rule v) ≡ Ok tt
   unfolding begun_rule
   begun_obeyed l = obey-kept (begun_rule v) (le-leb _ _ l)
 
-  begun_event_obeyed : Phases p v → obey (begun_event_rule v) ≡ Checked.Accepted
+  begun_event_obeyed : Phases p v → obey (begun_event_rule v) ≡ Ok tt
   unfolding begun_event_rule ◌and◌
   begun_event_obeyed (runs e o (inl g)) = obey-kept (begun_event_rule v) (or_true_left _ _ (ap (λ (n : ℕ). not (eqb n 2)) g))
   begun_event_obeyed (runs e o (inr (inl g))) = obey-kept (begun_event_rule v) (or_true_left _ _ (ap (λ (n : ℕ). not (eqb n 2)) g))
@@ -142,24 +142,24 @@ module _ (p : List ℕ) (v : Store) where
   begun_event_obeyed (ends-task e c t o) = obey_unasked (begun_event_rule v) (rw (in_phase_lem 1 0 e refl))
   begun_event_obeyed (ends-event e c o l h) = obey_unasked (begun_event_rule v) (rw (in_phase_lem 2 0 e refl))
 
-  address_in : Copies p v → (j : ℕ) → obey (address_rule p v j) ≡ Checked.Accepted
+  address_in : Copies p v → (j : ℕ) → obey (address_rule p v j) ≡ Ok tt
   unfolding address_rule
   address_in c j =
       below_or j v.count (λ l. obey-kept (address_rule p v j) (lt-ltb _ _ (c.addresses j l)))
       (λ l. obey_unasked (address_rule p v j) (and_false _ _ (and_false _ _ (le-ltb _ _ l))))
 
-  address_obeyed : Phases p v → (j : ℕ) → obey (address_rule p v j) ≡ Checked.Accepted
+  address_obeyed : Phases p v → (j : ℕ) → obey (address_rule p v j) ≡ Ok tt
   unfolding address_rule ◌and◌ ◌or◌
   address_obeyed (runs e o g) j = obey_unasked (address_rule p v j) (rw (in_phase_lem 0 1 e refl, in_phase_lem 0 2 e refl))
   address_obeyed (ends-task e c t o) j = address_in c j
   address_obeyed (ends-event e c o l h) j = address_in c j
 
   record_obeyed : ((x : ℕ) → x ≤ v.queue_records → Between (first_waiting v) v.tail x → event v x < events p)
-      → (x : ℕ) → x ≤ v.queue_records → obey (record_rule p v x) ≡ Checked.Accepted
+      → (x : ℕ) → x ≤ v.queue_records → obey (record_rule p v x) ≡ Ok tt
   unfolding record_rule
   record_obeyed known x l = go (between (first_waiting v) v.tail x) refl
     where
-      go : (b : Bool) → between (first_waiting v) v.tail x ≡ b → obey (record_rule p v x) ≡ Checked.Accepted
+      go : (b : Bool) → between (first_waiting v) v.tail x ≡ b → obey (record_rule p v x) ≡ Ok tt
       go true e = obey-kept (record_rule p v x) (lt-ltb _ _ (known x l (between_is _ _ _ e)))
       go false e = obey_unasked (record_rule p v x) (and_false _ _ (and_false _ _ (and_false _ _ (and_false _ _ e))))
 
@@ -168,10 +168,10 @@ module _ (p : List ℕ) (v : Store) (z : Serial) (held : HeldAt p v z) (resumes 
   ph : Phases p v
   ph = phases p v z held resumes
 
-  task_ok : obey (task_rule p v) ≡ Checked.Accepted
+  task_ok : obey (task_rule p v) ≡ Ok tt
   task_ok = task_obeyed p v (task-below p v z held resumes)
 
-  control_obeyed : obey_all (control_rules p v) ≡ Checked.Accepted
+  control_obeyed : obey_all (control_rules p v) ≡ Ok tt
   unfolding control_rules obey_all
   control_obeyed =
       then_passed (phase_obeyed p v ph)
@@ -187,7 +187,7 @@ module _ (p : List ℕ) (v : Store) (z : Serial) (held : HeldAt p v z) (resumes 
       (then_passed (tail_obeyed p v held.waits.tail_in)
       (then_passed (begun_obeyed p v held.begun_in) (then_passed (begun_event_obeyed p v ph) refl))))))))))))
 
-  pub rules_obeyed : obey_all (rules p v) ≡ Checked.Accepted
+  pub rules_obeyed : obey_all (rules p v) ≡ Ok tt
   unfolding rules
   rules_obeyed =
       obey-append (control_rules p v ++ up_to (address_rule p v) v.log_pairs) (up_to (record_rule p v) (v.queue_records + 1))
@@ -195,7 +195,7 @@ module _ (p : List ℕ) (v : Store) (z : Serial) (held : HeldAt p v z) (resumes 
       (obey-up_to (address_rule p v) v.log_pairs (λ j l. address_obeyed p v ph j)))
       (obey-up_to (record_rule p v) (v.queue_records + 1) (λ x l. record_obeyed p v (known-waiting held.waits) x (omega arith)))
 
-  pub early_obeyed : obey_all (early_rules p v) ≡ Checked.Accepted
+  pub early_obeyed : obey_all (early_rules p v) ≡ Ok tt
   unfolding early_rules
   early_obeyed = obey-early (rules p v) rules_obeyed
 
@@ -267,7 +267,7 @@ module _ (p : List ℕ) (v : Store) (d : Device) (z : Serial) (k : ℕ) (i : On 
       and_true (eq-eqb _ _ s.phase_is)
       (and_true (may_run_lem b x m r.body_in) (lt-ltb _ _ (half_in d.count (effect_at p (body_number p b) j d.registers) e)))
 
-  records-sound : (c : ℕ) (rs : List Record) (dropped : Dropped)
+  records-sound : (c : ℕ) (rs : List Record) (dropped : Option Record)
       → AtWork p v.queue v.queue_records v.head v.tail z.posting c rs dropped → records_sound p v c rs ≡ true
   unfolding records_sound fits room
   records-sound c rs dropped a =
@@ -289,7 +289,7 @@ module _ (p : List ℕ) (v : Store) (d : Device) (z : Serial) (k : ℕ) (i : On 
 
   -- ---- what a step checks of a body
 
-  head-sound : (b : Body) (x : ℕ) → StillAt v z → ChosenAt v x b → head_sound p v b ≡ Checked.Accepted
+  head-sound : (b : Body) (x : ℕ) → StillAt v z → ChosenAt v x b → head_sound p v b ≡ Ok tt
   unfolding head_sound record_sound
   head-sound (Body.Task t) x s m = refl
   head-sound (Body.Event e) x s m =
@@ -297,17 +297,17 @@ module _ (p : List ℕ) (v : Store) (d : Device) (z : Serial) (k : ℕ) (i : On 
       (lt-ltb _ _
       (known-waiting i.held.waits v.head i.held.head_in (rw (first_head v 0 s.phase_is refl) (between_first v.head v.tail m.0.1.0))))
 
-  open_sound_lem : (b : Body) → StillAt v z → Begins v → open_sound p v b ≡ Checked.Accepted
+  open_number_sound : (b : Body) → StillAt v z → Begins v → open_sound p v b ≡ Ok tt
   unfolding open_sound
-  open_sound_lem (Body.Task t) s g = open_obeyed p v (phases p v z i.held (inl (s, g)))
-  open_sound_lem (Body.Event e) s g = refl
+  open_number_sound (Body.Task t) s g = open_obeyed p v (phases p v z i.held (inl (s, g)))
+  open_number_sound (Body.Event e) s g = refl
 
-  head_is_lem : (b : Body) (x : ℕ) → ChosenAt v x b → head_is v b ≡ true
+  head_record_is : (b : Body) (x : ℕ) → ChosenAt v x b → head_is v b ≡ true
   unfolding head_is
-  head_is_lem (Body.Task t) x m = refl
-  head_is_lem (Body.Event e) x m = eq-eqb _ _ m.0.1.1.0
+  head_record_is (Body.Task t) x m = refl
+  head_record_is (Body.Event e) x m = eq-eqb _ _ m.0.1.1.0
 
-  named-row : Sound p → (n j : ℕ) (f : Effect) → LegalEffect p n j f → named_row p f ≡ Checked.Accepted
+  named-row : Sound p → (n j : ℕ) (f : Effect) → LegalEffect p n j f → named_row p f ≡ Ok tt
   unfolding named_row
   named-row sound n j (Effect.Compute a x) l = refl
   named-row sound n j (Effect.Jump a) l = refl
@@ -318,7 +318,7 @@ module _ (p : List ℕ) (v : Store) (d : Device) (z : Serial) (k : ℕ) (i : On 
   named-row sound n j Effect.Unknown l = refl
 
   pub body-sound : Sound p → (y : Place) (b : Body) (j : ℕ) → BodyAt p v d z k b j → place_fits y (effect_at p (body_number p b) j d.registers) ≡ true
-      → body_sound p v y b j (effect_at p (body_number p b) j d.registers) ≡ Checked.Accepted
+      → body_sound p v y b j (effect_at p (body_number p b) j d.registers) ≡ Ok tt
   unfolding body_sound
   body-sound sound y b j (s, (x, m, r)) fits =
       let n = body_number p b in
@@ -330,7 +330,7 @@ module _ (p : List ℕ) (v : Store) (d : Device) (z : Serial) (k : ℕ) (i : On 
       (pick_true _ _ there
       ∙ then_passed (sound.rule n j r.body_in r.place_in)
       (named-row sound n j _ (sound.legal n j d.registers r.body_in r.place_in)))
-      (then_passed (open_sound_lem b s (chosen-begins v b x m)) (must-true _ (and_true there (and_true (head_is_lem b x m) fits)))))))
+      (then_passed (open_number_sound b s (chosen-begins v b x m)) (must-true _ (and_true there (and_true (head_record_is b x m) fits)))))))
 
   pub run_fits : (b : Body) (j c : ℕ) (f : Effect) → EndingAt p v d b c f → place_fits (Run b j c) f ≡ true
   unfolding place_fits ends

@@ -5,7 +5,6 @@ use mathlib.Core.Path.{◌≡◌, refl, sym, ap, subst, ◌∙◌}
 use mathlib.Core.Logic.{inl, inr}
 use mathlib.Core.Bool.{Bool, true, false}
 use mathlib.Core.List.{List, [], ◌∷◌, ◌++◌, append_assoc, append-nil}
-use mathlib.Core.Option.{Option, some}
 use native.Mathlib.Nat.{add-zero}
 use native.Mathlib.Omega.{arith}
 use lib.ListN.{length, length-append}
@@ -28,14 +27,14 @@ use Rattle.model.specs.Demand3.{AsSerialRun, Demand3}
 use Rattle.model.specs.Device.{Outcome, fresh, off, burst_length, handled}
 use Rattle.model.specs.Program.{memory_words}
 use Rattle.model.specs.Serial.{Serial, given, tell, and_then, serial_from, serial, serial_start, run_body}
-use Rattle.model.specs.Store.{Store, Record, waiting, settled, formatted}
+use Rattle.model.specs.Store.{Store, waiting, settled, formatted}
 use Rattle.model.specs.Test.{pick}
-use Rattle.model.specs.Types.{Answer, Device, Dropped, Handler}
+use Rattle.model.specs.Types.{Answer, Device, Handler, Option, Record, Some}
 
 -- after a list of calls that begins with the invariant, and k calls before it
 pub record CallsKept (p : List ℕ) (l q : ℕ) (s : List ℕ) (d : Device) (z : Serial) (k : ℕ) (cs : List Call) : Type 0 where
   pub state : Serial
-  pub ran : (fuel : ℕ) → k + length cs ≤ fuel → serial_from fuel (given p l q) z (history p s d cs) ≡ some state
+  pub ran : (fuel : ℕ) → k + length cs ≤ fuel → serial_from fuel (given p l q) z (history p s d cs) ≡ Some state
   pub inv : InvWords p l q (after_calls p s d cs).store (after_calls p s d cs).device state (k + length cs)
   -- the bursts that came in, from the one on its way on
   pub bursts : AllBursts (came_from (handled d) (history p s d cs))
@@ -59,7 +58,7 @@ adds_way p v d z k c o (inl off') way =
 adds_way p v d z k c o (inr i) way =
     (λ e. let (h, q, w, on) = way.at_work e in (work h q w).0, by_test (is_accept o.answer) refl)
   where
-    by_records : (n made : ℕ) (dropped : Dropped) → burst_length d.handler ≡ n
+    by_records : (n made : ℕ) (dropped : Option Record) → burst_length d.handler ≡ n
         → AtWork p v.queue v.queue_records v.head v.tail z.posting made (carried d.burst n) dropped
         → (is_burst (handled d) ≡ true) × (z.posting.posted ≡ handled d)
     by_records n made dropped e a =
@@ -119,7 +118,7 @@ calls-kept p sound l q (c ∷ cs) s d z k i =
           ∙ append_assoc z.posting.dropped one.lost rest.lost;
     }
 
-tells_dropped : (z : Serial) (x : Dropped) → TellsDropped z (Answer.Accepted x) → x ≡ z.posting.dropped_for
+tells_dropped : (z : Serial) (x : Option Record) → TellsDropped z (Answer.Accepted x) → x ≡ z.posting.dropped_for
 tells_dropped z x t = t
 
 from_formatted : (p : List ℕ) → Sound p → (l q : ℕ) (cs : List Call) → InvWords p l q (formatted p l q) off (serial_start (given p l q)) 0 → AsSerialRun p l q (formatted p l q) cs
@@ -146,7 +145,7 @@ from_formatted p sound l q cs i =
       refusals = λ c. (next c).expected;
       bodies =
           λ b e.
-          let t : run_body (suc n) p a.state b ≡ some (next Step).serial = rw e at ((next Step).tells (suc n) (omega arith)) in
+          let t : run_body (suc n) p a.state b ≡ Some (next Step).serial = rw e at ((next Step).tells (suc n) (omega arith)) in
           runs-body (suc n) p a.state (next Step).serial b t;
     }
 

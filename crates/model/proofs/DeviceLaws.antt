@@ -20,54 +20,54 @@ use Rattle.model.specs.Burst.{carried}
 use Rattle.model.specs.Calls.{unless_refused, is_refusal}
 use Rattle.model.specs.Device.{Outcome, out, refuse, judged, turned_on, with_place, with_handler, resting, storing, record_stores, task_stores, event_stores, task_last_stores, event_last_stores, last_stores, current_task, oldest_event, end_stores, look, boot_check, boot, post_check, post, handler_step, pair_sound, copy_step, record_sound, event_next, choosing, choose_step, saves, place_fits, body_sound, shown, save_step, act, save_rest, place_step, next_step, step, drop_step, dropped_record}
 use Rattle.model.specs.Program.{events, memory_words, transaction, body_number, effect_at, new_open}
-use Rattle.model.specs.Store.{Store, view, address, value, event, empty, Record, slot_after, forward, find, log_at, queue_at, Phase, Task, Open, Count, Pending, PendingOpen, Head, Tail, Begun, Memory, Address, Value, Write, none, to}
+use Rattle.model.specs.Store.{Store, view, address, value, event, empty, slot_after, forward, find, log_at, queue_at, Phase, Task, Open, Count, Pending, PendingOpen, Head, Tail, Begun, Memory, Address, Value, Write, none, to}
 use Rattle.model.specs.Test.{pick, ◌and◌, must}
-use Rattle.model.specs.Types.{Answer, Body, Checked, Device, Effect, Found, Free, Half, Handler, Place, Refusal, Resting, Run, Storing, Dropping, Dropped, Replacing}
+use Rattle.model.specs.Types.{Answer, Body, Checked, Device, Dropping, Effect, Err, Free, Half, Handler, None, Ok, Option, Place, Record, Refusal, Replacing, Resting, Run, Some, Storing}
 
 -- ---- checks before an outcome
 
-pub judged_case : (P : Outcome → Type 0) (x : Checked) {d : Device} {o : Outcome} → ((r : Refusal) → x ≡ Checked.Refused r → P (refuse d r))
-    → (x ≡ Checked.Accepted → P o) → P (judged x d o)
+pub judged_case : (P : Outcome → Type 0) (x : Checked) {d : Device} {o : Outcome} → ((r : Refusal) → x ≡ Err r → P (refuse d r))
+    → (x ≡ Ok tt → P o) → P (judged x d o)
 unfolding judged
-judged_case P Checked.Accepted f g = g refl
-judged_case P (Checked.Refused r) f g = f r refl
+judged_case P (Ok tt) f g = g refl
+judged_case P (Err r) f g = f r refl
 
-pub judged-refused : {x : Checked} (d : Device) (o : Outcome) {r : Refusal} → x ≡ Checked.Refused r → judged x d o ≡ refuse d r
+pub judged-refused : {x : Checked} (d : Device) (o : Outcome) {r : Refusal} → x ≡ Err r → judged x d o ≡ refuse d r
 unfolding judged
 judged-refused d o e = rw e
 
-pub judged-accepted : {x : Checked} (d : Device) (o : Outcome) → x ≡ Checked.Accepted → judged x d o ≡ o
+pub judged-accepted : {x : Checked} (d : Device) (o : Outcome) → x ≡ Ok tt → judged x d o ≡ o
 unfolding judged
 judged-accepted d o e = rw e
 
-judged_done : (x : Checked) (d e : Device) (r : Refusal) → (judged x d (out none e Answer.Done)).answer ≡ Answer.Refused r → x ≡ Checked.Refused r
+judged_done : (x : Checked) (d e : Device) (r : Refusal) → (judged x d (out none e Answer.Done)).answer ≡ Answer.Refused r → x ≡ Err r
 unfolding judged
-judged_done Checked.Accepted d e r q = cc
-judged_done (Checked.Refused f) d e r q = cc
+judged_done (Ok tt) d e r q = cc
+judged_done (Err f) d e r q = cc
 
 -- why boot and post are refused
-pub boot_why : (p s : List ℕ) (d : Device) (r : Refusal) → (boot p s d).answer ≡ Answer.Refused r → boot_check p s d ≡ Checked.Refused r
+pub boot_why : (p s : List ℕ) (d : Device) (r : Refusal) → (boot p s d).answer ≡ Answer.Refused r → boot_check p s d ≡ Err r
 unfolding boot
 boot_why p s d r = judged_done _ _ _ r
 
-pub post_why : (p s : List ℕ) (d : Device) (rs : List Record) (r : Refusal) → (post p s d rs).answer ≡ Answer.Refused r → post_check p s d rs ≡ Checked.Refused r
+pub post_why : (p s : List ℕ) (d : Device) (rs : List Record) (r : Refusal) → (post p s d rs).answer ≡ Answer.Refused r → post_check p s d rs ≡ Err r
 unfolding post
 post_why p s d rs r = judged_done _ _ _ r
 
 -- ---- a step, after the early checks
 
 module _ (p s : List ℕ) (d : Device) where
-  pub step-refused : {r : Refusal} → look p s d ≡ Checked.Refused r → step p s d ≡ refuse d r
+  pub step-refused : {r : Refusal} → look p s d ≡ Err r → step p s d ≡ refuse d r
   unfolding step
   step-refused = judged-refused d _
 
-  pub step_goes : look p s d ≡ Checked.Accepted → step p s d ≡ next_step p (view s) d d.handler
+  pub step_goes : look p s d ≡ Ok tt → step p s d ≡ next_step p (view s) d d.handler
   unfolding step
   step_goes = judged-accepted d _
 
   -- with the handler at rest, at an instruction whose checks pass
-  pub step-acts : look p s d ≡ Checked.Accepted → d.handler ≡ Resting → (b : Body) (j c : ℕ) (f : Effect) → d.place ≡ Run b j c
-      → effect_at p (body_number p b) j d.registers ≡ f → body_sound p (view s) (Run b j c) b j f ≡ Checked.Accepted → step p s d ≡ act p (view s) d b j c f
+  pub step-acts : look p s d ≡ Ok tt → d.handler ≡ Resting → (b : Body) (j c : ℕ) (f : Effect) → d.place ≡ Run b j c
+      → effect_at p (body_number p b) j d.registers ≡ f → body_sound p (view s) (Run b j c) b j f ≡ Ok tt → step p s d ≡ act p (view s) d b j c f
   unfolding next_step place_step
   step-acts e rests b j c f q does sound =
       step_goes e ∙ ap (next_step p (view s) d) rests ∙ ap (place_step p (view s) d) q ∙ rw does (judged-accepted d _ sound)
@@ -165,7 +165,7 @@ module _ (p : List ℕ) (v : Store) (d : Device) (b : Body) (j c : ℕ) where
   unfolding act
   save_refused x y l = pick-false _ _ (le-ltb x (memory_words p) l)
 
-  pub save_full : (x y : ℕ) → x < memory_words p → find v.log d.count x ≡ Found.Nothing → v.log_pairs ≤ d.count
+  pub save_full : (x y : ℕ) → x < memory_words p → find v.log d.count x ≡ None → v.log_pairs ≤ d.count
       → act p v d b j c (Effect.Save x y) ≡ refuse d Refusal.LogFull
   unfolding act save_step
   save_full x y l e k = pick_true _ _ (lt-ltb x (memory_words p) l) ∙ ap (save_step v d b j x y) e ∙ pick-false _ _ (le-ltb d.count v.log_pairs k)
@@ -192,7 +192,7 @@ pub record Acts (p : List ℕ) (v : Store) (d : Device) (x : Place) (b : Body) (
   pub place : d.place ≡ x
   pub stands : Stands p v d.count x
   pub does : effect_at p (body_number p b) j d.registers ≡ f
-  pub sound : body_sound p v x b j f ≡ Checked.Accepted
+  pub sound : body_sound p v x b j f ≡ Ok tt
   pub legal : LegalEffect p (body_number p b) j f
 
 -- at an instruction, c stores of the body's end made
@@ -200,21 +200,21 @@ abbrev pub RunsAt : List ℕ → Store → Device → Body → ℕ → ℕ → E
 RunsAt p v d b j c f = Acts p v d (Run b j c) b j f
 
 -- a handler that stores n records, c of whose stores are made: what it is after a store that isn't its last, and what was dropped for them
-pub data Works (v : Store) : Handler → ℕ → ℕ → Handler → Dropped → Type 0 where
-  works_storing : {n c : ℕ} → Works v (Storing n c) n c (Storing n (c + 1)) Dropped.Nothing
+pub data Works (v : Store) : Handler → ℕ → ℕ → Handler → Option Record → Type 0 where
+  works_storing : {n c : ℕ} → Works v (Storing n c) n c (Storing n (c + 1)) None
   works_replacing : {c : ℕ} → Works v (Replacing c) 1 c (Replacing (c + 1)) (dropped_record v)
 
 abbrev pub AttendsAt : List ℕ → Store → Device → ℕ → ℕ → Type 0
 AttendsAt p v d n c = AttendsTo p v.queue_records v.head v.tail c (carried d.burst n)
 
 -- what it does: a store for one of its records, or the tail store
-pub data HandlerMade (p : List ℕ) (v : Store) (d : Device) (n c : ℕ) (later : Handler) (dropped : Dropped) : Outcome → Type 0 where
+pub data HandlerMade (p : List ℕ) (v : Store) (d : Device) (n c : ℕ) (later : Handler) (dropped : Option Record) : Outcome → Type 0 where
   record_made : {w : Write} → AttendsAt p v d n (c + 1) → RecordStore v.queue_records v.tail (carried d.burst n) w
       → HandlerMade p v d n c later dropped (out w (with_handler d later d.burst) Answer.Stored)
   tail_made : AttendsAt p v d n c
       → HandlerMade p v d n c later dropped (out (to Tail (forward v.queue_records v.tail (length (carried d.burst n)))) (resting d) (Answer.Accepted dropped))
 
-module _ (p : List ℕ) (v : Store) (d : Device) (n c : ℕ) (later : Handler) (dropped : Dropped) (a : AttendsAt p v d n c) where
+module _ (p : List ℕ) (v : Store) (d : Device) (n c : ℕ) (later : Handler) (dropped : Option Record) (a : AttendsAt p v d n c) where
   abbrev rs : List Record
   rs = carried d.burst n
 
@@ -241,7 +241,7 @@ module _ (p : List ℕ) (v : Store) (d : Device) (n c : ℕ) (later : Handler) (
 
 pub data Made (p : List ℕ) (v : Store) (d : Device) : Outcome → Type 0 where
   -- "A handler at work makes its next store: event, data, then tail."
-  handler : {h : Handler} {n c : ℕ} {later : Handler} {dropped : Dropped} {o : Outcome} → d.handler ≡ h → Works v h n c later dropped
+  handler : {h : Handler} {n c : ℕ} {later : Handler} {dropped : Option Record} {o : Outcome} → d.handler ≡ h → Works v h n c later dropped
       → HandlerMade p v d n c later dropped o → Made p v d o
   -- N7: "drops the record at head by storing head first"
   head_dropped : d.handler ≡ Dropping → Attends p v d.burst Dropping → event v v.head < events p
@@ -268,9 +268,9 @@ pub data Made (p : List ℕ) (v : Store) (d : Device) : Outcome → Type 0 where
   jumped : {b : Body} {j c k : ℕ} → RunsAt p v d b j c (Effect.Jump k) → Made p v d (out none (at_place d (Run b k 0)) Answer.Worked)
   loaded : {b : Body} {j c a x : ℕ} → RunsAt p v d b j c (Effect.Load a x) → x < memory_words p
       → Made p v d (out none (with_place d (set d.registers a (shown v (find v.log d.count x) x)) (Run b (j + 1) 0) d.count) Answer.Worked)
-  overwritten : {b : Body} {j c x y i : ℕ} → RunsAt p v d b j c (Effect.Save x y) → x < memory_words p → find v.log d.count x ≡ Found.Pair i
+  overwritten : {b : Body} {j c x y i : ℕ} → RunsAt p v d b j c (Effect.Save x y) → x < memory_words p → find v.log d.count x ≡ Some i
       → Made p v d (out (to (Value i) y) (at_place d (Run b (j + 1) 0)) Answer.Stored)
-  half_saved : {b : Body} {j c x y : ℕ} → RunsAt p v d b j c (Effect.Save x y) → x < memory_words p → find v.log d.count x ≡ Found.Nothing
+  half_saved : {b : Body} {j c x y : ℕ} → RunsAt p v d b j c (Effect.Save x y) → x < memory_words p → find v.log d.count x ≡ None
       → d.count < v.log_pairs → Made p v d (out (to (Address d.count) x) (at_place d (Half b j)) Answer.Stored)
   saved : {b : Body} {j x y : ℕ} → Acts p v d (Half b j) b j (Effect.Save x y)
       → Made p v d (out (to (Value d.count) y) (with_place d d.registers (Run b (j + 1) 0) (d.count + 1)) Answer.Stored)
@@ -306,16 +306,16 @@ pub data Meets (p : List ℕ) (v : Store) (d : Device) : Refusal → Type 0 wher
   by_pair : {c : ℕ} → Commits v d c → c < v.count → memory_words p ≤ address v c → Meets p v d (Refusal.Control (log_at (memory_words p) + 2 * c))
   -- the checks of a body at place x
   by_body : (x : Place) (b : Body) (j : ℕ) (f : Effect) {r : Refusal} → d.place ≡ x → BodyIn x b → v.phase ≡ 0 → MayRun p v b
-      → body_sound p v x b j f ≡ Checked.Refused r → Meets p v d r
+      → body_sound p v x b j f ≡ Err r → Meets p v d r
   -- "23: address k + b not below M", of a LOAD and of a SAVE
   load_above : {b : Body} {j c a x : ℕ} → RunsAt p v d b j c (Effect.Load a x) → memory_words p ≤ x → Meets p v d Refusal.Address
   save_above : {b : Body} {j c x y : ℕ} → RunsAt p v d b j c (Effect.Save x y) → memory_words p ≤ x → Meets p v d Refusal.Address
   -- "24: SAVE to an address not in the log, with L pairs there"
-  log-full : {b : Body} {j c x y : ℕ} → RunsAt p v d b j c (Effect.Save x y) → x < memory_words p → find v.log d.count x ≡ Found.Nothing
+  log-full : {b : Body} {j c x y : ℕ} → RunsAt p v d b j c (Effect.Save x y) → x < memory_words p → find v.log d.count x ≡ None
       → v.log_pairs ≤ d.count → Meets p v d Refusal.LogFull
 
 pub data Why (p s : List ℕ) (d : Device) : Refusal → Type 0 where
-  looked : {r : Refusal} → look p s d ≡ Checked.Refused r → Why p s d r
+  looked : {r : Refusal} → look p s d ≡ Err r → Why p s d r
   met : {r : Refusal} → Looked p s d → d.handler ≡ Resting → Meets p (view s) d r → Why p s d r
   -- the event of the record to be dropped isn't below E
   by_dropped : Looked p s d → d.handler ≡ Dropping → events p ≤ event (view s) (view s).head
@@ -334,7 +334,7 @@ module _ (p s : List ℕ) (d : Device) (early : Looked p s d) where
   abbrev Is : Outcome → Type 0
   Is = StepOutcome p s d
 
-  handler_outcome : {h : Handler} {n c : ℕ} {later : Handler} {dropped : Dropped} → d.handler ≡ h → Works v h n c later dropped → (o : Outcome)
+  handler_outcome : {h : Handler} {n c : ℕ} {later : Handler} {dropped : Option Record} → d.handler ≡ h → Works v h n c later dropped → (o : Outcome)
       → HandlerMade p v d n c later dropped o → Is o
   unfolding is_refusal unless_refused
   handler_outcome q w o (record_made a s) = made early (handler q w (record_made a s)) refl
@@ -386,11 +386,11 @@ module _ (p s : List ℕ) (d : Device) (early : Looked p s d) where
       (λ l. rw (choose_refused p v d o (ne_eqb _ _ ne) l) (refused (met early h.rests (by_record h o ne l))))))
       (λ no-o. rw (choose_open p v d no-o) (made early (chosen_task h (λ o. absurd (no-o o))) refl))
 
-  save_outcome : (b : Body) (j c x y : ℕ) → RunsAt p v d b j c (Effect.Save x y) → x < memory_words p → (f : Found) → find v.log d.count x ≡ f
+  save_outcome : (b : Body) (j c x y : ℕ) → RunsAt p v d b j c (Effect.Save x y) → x < memory_words p → (f : Option ℕ) → find v.log d.count x ≡ f
       → Is (save_step v d b j x y f)
   unfolding save_step is_refusal unless_refused
-  save_outcome b j c x y h l (Found.Pair i) e = made early (overwritten h l e) refl
-  save_outcome b j c x y h l Found.Nothing e =
+  save_outcome b j c x y h l (Some i) e = made early (overwritten h l e) refl
+  save_outcome b j c x y h l None e =
       pick_case Is (λ q. made early (half_saved h l e (ltb-true _ _ q)) refl) (λ q. refused (met early h.rests (log-full h l e (ltb-false _ _ q))))
 
   go_outcome : (t j k c : ℕ) → c < 4 → RunsAt p v d (Body.Task t) j c (Effect.EndTask k) → Is (act p v d (Body.Task t) j c (Effect.EndTask k))
@@ -435,7 +435,7 @@ module _ (p s : List ℕ) (d : Device) (early : Looked p s d) where
   rest_outcome b j Effect.Unknown h e = clash e refl
 
   module _ (rests : d.handler ≡ Resting) where
-    acts : (x : Place) (b : Body) (j : ℕ) → d.place ≡ x → Stands p v d.count x → body_sound p v x b j (effect_at p (body_number p b) j d.registers) ≡ Checked.Accepted
+    acts : (x : Place) (b : Body) (j : ℕ) → d.place ≡ x → Stands p v d.count x → body_sound p v x b j (effect_at p (body_number p b) j d.registers) ≡ Ok tt
         → Acts p v d x b j (effect_at p (body_number p b) j d.registers)
     acts x b j q h e =
         let is = body-passed p v x b j _ e in

@@ -17,9 +17,9 @@ use Rattle.model.specs.Check.{contents_rule}
 use Rattle.model.specs.Control.{obey_all, phase_rule, task_rule, open_serving, count_rule, pending_task_rule, head_rule, tail_rule, pending_head_rule, pending_move_rule, begun_rule, begun_event_rule, early_rules}
 use Rattle.model.specs.Device.{with_handler, eligible, may_run, place_sound, records_sound, zeros, handler_sound, device_sound, look, fits}
 use Rattle.model.specs.Program.{tasks}
-use Rattle.model.specs.Store.{Store, view, room, store_rule, Record}
+use Rattle.model.specs.Store.{Store, view, room, store_rule}
 use Rattle.model.specs.Test.{◌or◌}
-use Rattle.model.specs.Types.{Body, Checked, Device, Free, Half, Handler, Place, Resting, Run, Storing, Dropping, Replacing}
+use Rattle.model.specs.Types.{Body, Device, Dropping, Free, Half, Handler, Ok, Place, Record, Replacing, Resting, Run, Storing}
 use Rattle.model.specs.Burst.{carried}
 
 -- ---- 7: the control words
@@ -29,7 +29,7 @@ unfolding ◌or◌
 commits zero e z = clash e refl
 commits (suc n) e z = omega arith
 
-pub control_passes : (p : List ℕ) (v : Store) → Controlled p v → obey_all (early_rules p v) ≡ Checked.Accepted
+pub control_passes : (p : List ℕ) (v : Store) → Controlled p v → obey_all (early_rules p v) ≡ Ok tt
 unfolding obey_all phase_rule task_rule open_serving count_rule pending_task_rule pending_head_rule pending_move_rule head_rule tail_rule begun_rule begun_event_rule
 control_passes p v h =
     ap obey_all (early_are p v)
@@ -115,8 +115,8 @@ pub record Fit (p : List ℕ) (v : Store) (d : Device) : Type 0 where
 pub early_fit : {p s : List ℕ} {d : Device} → Looked p s d → Fit p (view s) d
 early_fit h = record { control = h.control; on = h.on; count_in = h.count_in; place = h.place; handler = h.handler }
 
-pub look_passes : (p s : List ℕ) (d : Device) → contents_rule p ≡ Checked.Accepted → store_rule p s ≡ Checked.Accepted → Fit p (view s) d
-    → look p s d ≡ Checked.Accepted
+pub look_passes : (p s : List ℕ) (d : Device) → contents_rule p ≡ Ok tt → store_rule p s ≡ Ok tt → Fit p (view s) d
+    → look p s d ≡ Ok tt
 unfolding look device_sound
 look_passes p s d contents rule fit =
     let v = view s in
@@ -126,8 +126,8 @@ look_passes p s d contents rule fit =
     (then_passed rule (then_passed (control_passes p v fit.control) (then_passed (must-true _ sound) (must-true _ fit.on))))
 
 -- they pass with the handler at rest as well, and without a burst
-pub look_rests : (p s : List ℕ) (d : Device) (burst : List ℕ) → zeros burst 8 ≡ true → look p s d ≡ Checked.Accepted
-    → look p s (with_handler d Resting burst) ≡ Checked.Accepted
+pub look_rests : (p s : List ℕ) (d : Device) (burst : List ℕ) → zeros burst 8 ≡ true → look p s d ≡ Ok tt
+    → look p s (with_handler d Resting burst) ≡ Ok tt
 unfolding look with_handler
 look_rests p s d burst none e =
     let h = look-passed p s d e in

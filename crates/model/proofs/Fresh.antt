@@ -4,7 +4,6 @@ use mathlib.Core.Path.{◌≡◌, refl, sym, ap, ◌∙◌}
 use mathlib.Core.Logic.{inl}
 use mathlib.Core.Bool.{true}
 use mathlib.Core.List.{List, [], ◌∷◌}
-use mathlib.Core.Option.{Option}
 use native.Mathlib.Nat.{not-suc-le-zero, suc-sub-suc, sub-zero, zero-sub}
 use native.Mathlib.Omega.{arith}
 use borrow.Author.Tests.{eq-eqb, le-leb}
@@ -22,7 +21,7 @@ use Rattle.model.specs.Program.{word, memory_words}
 use Rattle.model.specs.Serial.{given, serial_start}
 use Rattle.model.specs.Store.{Store, view, store_mark, store_contents, store_length, control_at, memory_at, log_at, queue_at, formatted, sizes_rule, format_check, format_store, format, store_rule, records_from, distance}
 use Rattle.model.specs.Test.{pick, must}
-use Rattle.model.specs.Types.{Checked, Refusal}
+use Rattle.model.specs.Types.{None, Ok, Refusal}
 
 -- ---- zeros
 
@@ -60,11 +59,11 @@ module _ (p : List ℕ) (sound : Sound p) (l q : ℕ) (sizes : sizes_rule l q �
         records_is = refl;
       }
 
-  pub contents : store_rule p s ≡ Checked.Accepted
+  pub contents : store_rule p s ≡ Ok tt
   unfolding store_rule formatted store_contents
   contents =
       let eight : 8 ≤ length s = omega (arith, sized.length_is) in
-      let same : (x : ℕ) → must (eqb x x) Refusal.StoreContents ≡ Checked.Accepted = λ x. must-true _ (eq-eqb x x refl) in
+      let same : (x : ℕ) → must (eqb x x) Refusal.StoreContents ≡ (Ok tt) = λ x. must-true _ (eq-eqb x x refl) in
       then_passed (must-true Refusal.StoreContents (le-leb _ _ eight))
       (then_passed (same store_mark)
       (then_passed (same m)
@@ -116,7 +115,7 @@ module _ (p : List ℕ) (sound : Sound p) (l q : ℕ) (sizes : sizes_rule l q �
   fresh-words = record { sized = sized; contents = contents; inv = fresh_inv }
 
   -- no body is begun
-  pub nothing_begun : begun_of (view s) ≡ Option.none
+  pub nothing_begun : begun_of (view s) ≡ None
   unfolding formatted store_contents
   nothing_begun = begun_nothing (view s) (behind 6)
 
@@ -127,7 +126,7 @@ pub record Formatted (p : List ℕ) (l q : ℕ) (s : List ℕ) : Type 0 where
   pub sizes : sizes_rule l q ≡ true
   pub store_is : format p l q s ≡ formatted p l q
 
-pub format-passed : (p : List ℕ) (l q : ℕ) (s : List ℕ) → format_check p l q s ≡ Checked.Accepted → Formatted p l q s
+pub format-passed : (p : List ℕ) (l q : ℕ) (s : List ℕ) → format_check p l q s ≡ Ok tt → Formatted p l q s
 unfolding format_check format format_store
 format-passed p l q s e =
     record {

@@ -4,7 +4,6 @@ use Prim.Native.Nat.{ℕ, ◌≤◌}
 use mathlib.Core.Path.{◌≡◌, refl, sym, ap, ◌∙◌}
 use mathlib.Core.Bool.{true, false}
 use mathlib.Core.List.{List, []}
-use mathlib.Core.Option.{Option}
 use lib.ListN.{length}
 use Rattle.model.proofs.BurstLaws.{burst-passed, carried-length, carried_back, set_to_work_length}
 use Rattle.model.proofs.DeviceLaws.{HandlerMade, judged_case, record_made, tail_made, Made, handler, commit_copy, commit_task, commit_open, commit_head, commit_begun, commit_phase, chosen_event, chosen_task, computed, jumped, loaded, overwritten, half_saved, saved, go_count, go_pending, go_open, go_phase, done_count, done_pending, done_phase, StepOutcome, refused, made, step_outcome, Works, works_storing, works_replacing, head_dropped}
@@ -14,9 +13,9 @@ use Rattle.model.specs.AllOrNone.{way_after}
 use Rattle.model.specs.Burst.{records_at, carried, burst_words}
 use Rattle.model.specs.Calls.{Call, Boot, Step, Cut, Post, call, unless_refused, is_accept, accepted_events}
 use Rattle.model.specs.Device.{Outcome, fresh, with_place, with_handler, started, choosing, begun_of, taken_up, boot_check, boot, cut, post_check, post, burst_length, handled, step, takes, set_to_work}
-use Rattle.model.specs.Store.{Store, Record, view}
+use Rattle.model.specs.Store.{Store, view}
 use Rattle.model.specs.Test.{pick}
-use Rattle.model.specs.Types.{Answer, Body, Device, Handler, Refusal, Resting, Storing, Dropped, Replacing}
+use Rattle.model.specs.Types.{Answer, Body, Device, Handler, None, Option, Record, Refusal, Replacing, Resting, Some, Storing}
 
 -- ---- a step that isn't refused
 
@@ -25,11 +24,11 @@ pub data Accepting : Handler → Type 0 where
   storing : {n c : ℕ} → Accepting (Storing n c)
   replacing : {c : ℕ} → Accepting (Replacing c)
 
-works_accepts : {v : Store} {h : Handler} {n c : ℕ} {later : Handler} {dropped : Dropped} → Works v h n c later dropped → Accepting h
+works_accepts : {v : Store} {h : Handler} {n c : ℕ} {later : Handler} {dropped : Option Record} → Works v h n c later dropped → Accepting h
 works_accepts works_storing = storing
 works_accepts works_replacing = replacing
 
-works_length : {v : Store} {h : Handler} {n c : ℕ} {later : Handler} {dropped : Dropped} → Works v h n c later dropped → burst_length later ≡ burst_length h
+works_length : {v : Store} {h : Handler} {n c : ℕ} {later : Handler} {dropped : Option Record} → Works v h n c later dropped → burst_length later ≡ burst_length h
 unfolding burst_length
 works_length works_storing = refl
 works_length works_replacing = refl
@@ -39,7 +38,7 @@ pub data HandlerGoes (d : Device) (o : Outcome) : Type 0 where
   stores : burst_length o.device.handler ≡ burst_length d.handler → o.device.burst ≡ d.burst → is_accept o.answer ≡ false → HandlerGoes d o
   accepts : {h : Handler} → d.handler ≡ h → Accepting h → o.device.handler ≡ Resting → is_accept o.answer ≡ true → HandlerGoes d o
 
-handling : (p : List ℕ) (v : Store) (d : Device) {h : Handler} {n c : ℕ} {later : Handler} {dropped : Dropped} (o : Outcome) → d.handler ≡ h
+handling : (p : List ℕ) (v : Store) (d : Device) {h : Handler} {n c : ℕ} {later : Handler} {dropped : Option Record} (o : Outcome) → d.handler ≡ h
     → Works v h n c later dropped → HandlerMade p v d n c later dropped o → HandlerGoes d o
 unfolding is_accept with_handler burst_length
 handling p v d o q w (record_made a s) = stores (works_length w ∙ ap burst_length (sym q)) refl refl
@@ -139,8 +138,8 @@ done_way d c o e next =
 
 taken_up_handled : (v : Store) (g : Option Body) → handled (taken_up v g) ≡ []
 unfolding taken_up started with_place fresh records_at burst_length
-taken_up_handled v Option.none = refl
-taken_up_handled v (Option.some b) = refl
+taken_up_handled v None = refl
+taken_up_handled v (Some b) = refl
 
 posted-handled : (v : Store) (d : Device) (rs : List Record) → length rs ≤ 4 → takes v (length rs) ≡ true
     → handled (with_handler d (set_to_work v (length rs)) (burst_words rs)) ≡ rs

@@ -15,8 +15,8 @@ use Rattle.model.specs.Burst.{carried, no_burst}
 use Rattle.model.specs.Device.{off, record_stores, task_stores, event_stores, task_last_stores, event_last_stores, kind_of}
 use Rattle.model.specs.Program.{first_registers, word, tasks, events, memory_words, instructions, transaction, body_number, effect_at}
 use Rattle.model.specs.Serial.{Serial, PostState, walk}
-use Rattle.model.specs.Store.{Store, Record, slot_after, first_waiting, records_from, distance, Phase, Task, Open, Count, Pending, PendingOpen, Head, Tail, Begun, Memory, Address, Value, Event, Datum, Write, none, to}
-use Rattle.model.specs.Types.{Body, Device, Dropped, Dropping, Effect, Free, Half, Handler, Place, Replacing, Resting, Run, Storing}
+use Rattle.model.specs.Store.{Store, slot_after, first_waiting, records_from, distance, Phase, Task, Open, Count, Pending, PendingOpen, Head, Tail, Begun, Memory, Address, Value, Event, Datum, Write, none, to, slot}
+use Rattle.model.specs.Types.{Body, Device, Dropping, Effect, Free, Half, Handler, None, Option, Place, Record, Replacing, Resting, Run, Some, Storing}
 
 -- ---- the control words, but tail, which is the handler's
 
@@ -82,7 +82,7 @@ pub record Waiting (p : List ℕ) (queue : List ℕ) (q f t : ℕ) (records : Li
   pub known : Known p records
 
 -- the handler's records wait for its tail store; the first c of its stores are made behind tail; what was dropped for them
-pub record AtWork (p : List ℕ) (queue : List ℕ) (q h t : ℕ) (posting : PostState) (c : ℕ) (rs : List Record) (dropped : Dropped) : Type 0 where
+pub record AtWork (p : List ℕ) (queue : List ℕ) (q h t : ℕ) (posting : PostState) (c : ℕ) (rs : List Record) (dropped : Option Record) : Type 0 where
   pub least : 1 ≤ length rs
   pub most : length rs ≤ 4
   pub known : Known p rs
@@ -93,15 +93,15 @@ pub record AtWork (p : List ℕ) (queue : List ℕ) (q h t : ℕ) (posting : Pos
   pub made : RecordsMade queue q t rs c
 
 -- the record of a slot, and of the slot after tail
-abbrev pub dropped_at : List ℕ → ℕ → Dropped
-dropped_at queue x = Dropped.Record (word queue (2 * x)) (word queue (2 * x + 1))
+abbrev pub dropped_at : List ℕ → ℕ → Option Record
+dropped_at queue x = Some (slot queue x)
 
-abbrev pub after_tail : List ℕ → ℕ → ℕ → Dropped
+abbrev pub after_tail : List ℕ → ℕ → ℕ → Option Record
 after_tail queue q t = dropped_at queue (slot_after q t)
 
 abbrev pub Handles : List ℕ → List ℕ → ℕ → ℕ → ℕ → ℕ → ℕ → PostState → List ℕ → Handler → Type 0
 Handles p queue q phase h t g posting burst Resting = burst ≡ no_burst
-Handles p queue q phase h t g posting burst (Storing n c) = AtWork p queue q h t posting c (carried burst n) Dropped.Nothing
+Handles p queue q phase h t g posting burst (Storing n c) = AtWork p queue q h t posting c (carried burst n) None
 Handles p queue q phase h t g posting burst Dropping = MayDrop p q phase h t g (carried burst 1) × (h ≢ t) × (posting.posted ≡ carried burst 1)
 Handles p queue q phase h t g posting burst (Replacing c) = AtWork p queue q h t posting c (carried burst 1) (after_tail queue q t)
 

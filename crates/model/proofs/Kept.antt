@@ -5,7 +5,6 @@ use mathlib.Core.Path.{◌≡◌, refl, sym, ap, subst, ◌∙◌}
 use mathlib.Core.Logic.{◌⊎◌, inl, inr, ⊎_elim, ◌≢◌}
 use mathlib.Core.Bool.{true, false}
 use mathlib.Core.List.{List, [], ◌∷◌, ◌++◌}
-use mathlib.Core.Option.{Option, some}
 use native.Mathlib.Numerals.{add-one}
 use native.Mathlib.Omega.{arith}
 use lib.Dec.{eqb}
@@ -24,10 +23,10 @@ use Rattle.model.specs.Accepted.{Known}
 use Rattle.model.specs.Device.{Outcome, out, refuse, judged, fresh, with_handler, resting, with_place, record_stores, handler_step, storing, task_stores, event_stores, task_last_stores, event_last_stores, last_stores, kind_of, begun_of, pair_sound, copy_step}
 use Rattle.model.specs.Program.{word, tasks, events, memory_words}
 use Rattle.model.specs.Serial.{Serial, PostState, given, no_post, with_records, unchanged, accept, after_stored, tell}
-use Rattle.model.specs.Store.{Store, address, value, event, log_at, Record, slot_after, forward, distance, first_waiting, slot, Phase, Task, Open, Head, Tail, Begun, Memory, Write, none, to}
+use Rattle.model.specs.Store.{Store, address, value, event, log_at, slot_after, forward, distance, first_waiting, slot, Phase, Task, Open, Head, Tail, Begun, Memory, Write, none, to}
 use Rattle.model.specs.Test.{pick}
 use Rattle.model.specs.Turns.{begun_after, InTurn}
-use Rattle.model.specs.Types.{Answer, Body, Checked, Device, Dropped, Free, Half, Handler, Place, Refusal, Resting, Run}
+use Rattle.model.specs.Types.{Answer, Body, Checked, Device, Free, Half, Handler, None, Option, Place, Record, Refusal, Resting, Run, Some}
 
 -- a store to a word that is there
 abbrev pub InsideOf : List ℕ → Store → Write → Type 0
@@ -55,7 +54,7 @@ unchanged_is z e =
 pub record Kept (p : List ℕ) (v : Store) (z : Serial) (k : ℕ) (c : Call) (o : Outcome) : Type 0 where
   pub inside : InsideOf p v o.write
   pub serial : Serial
-  pub tells : (fuel : ℕ) → k < fuel → tell fuel (given p v.log_pairs v.queue_records) z c o.answer ≡ some serial
+  pub tells : (fuel : ℕ) → k < fuel → tell fuel (given p v.log_pairs v.queue_records) z c o.answer ≡ Some serial
   pub expected : Expected c o.answer
   pub turn : InTurn z (begun_of v) o.answer
   pub told : TellsDropped z o.answer
@@ -70,7 +69,7 @@ stored-kept {z = z} w e unmarked inside same i =
     record {
       inside = inside;
       serial = z;
-      tells = λ fuel l. pick-false _ _ unmarked ∙ ap some (unchanged_is z unmarked);
+      tells = λ fuel l. pick-false _ _ unmarked ∙ ap Some (unchanged_is z unmarked);
       expected = tt;
       turn = tt;
       told = tt;
@@ -80,28 +79,28 @@ stored-kept {z = z} w e unmarked inside same i =
 
 -- ---- the body that is begun, by the store
 
-pub begun_nothing : (v : Store) → v.begun ≡ 0 → begun_of v ≡ Option.none
+pub begun_nothing : (v : Store) → v.begun ≡ 0 → begun_of v ≡ None
 unfolding begun_of
 begun_nothing v e =
-    pick_case (λ (g : Option Body). g ≡ Option.none) (λ _. pick-false _ _ (ap (λ (n : ℕ). eqb n 1) e) ∙ pick-false _ _ (ap (λ (n : ℕ). eqb n 2) e)) (λ _. refl)
+    pick_case (λ (g : Option Body). g ≡ None) (λ _. pick-false _ _ (ap (λ (n : ℕ). eqb n 1) e) ∙ pick-false _ _ (ap (λ (n : ℕ). eqb n 2) e)) (λ _. refl)
 
-pub begun-committing : (v : Store) (n : ℕ) → v.phase ≡ n → eqb n 0 ≡ false → begun_of v ≡ Option.none
+pub begun-committing : (v : Store) (n : ℕ) → v.phase ≡ n → eqb n 0 ≡ false → begun_of v ≡ None
 unfolding begun_of
 begun-committing v n e f = pick-false _ _ (ap (λ (x : ℕ). eqb x 0) e ∙ f)
 
-pub begun-task : (v : Store) → v.phase ≡ 0 → v.begun ≡ 1 → begun_of v ≡ Option.some (Body.Task v.task)
+pub begun-task : (v : Store) → v.phase ≡ 0 → v.begun ≡ 1 → begun_of v ≡ Some (Body.Task v.task)
 unfolding begun_of
 begun-task v e g = pick_true _ _ (ap (λ (x : ℕ). eqb x 0) e) ∙ pick_true _ _ (ap (λ (n : ℕ). eqb n 1) g)
 
-pub begun_event : (v : Store) → v.phase ≡ 0 → v.begun ≡ 2 → begun_of v ≡ Option.some (Body.Event (event v v.head))
+pub begun_event : (v : Store) → v.phase ≡ 0 → v.begun ≡ 2 → begun_of v ≡ Some (Body.Event (event v v.head))
 unfolding begun_of
 begun_event v e g =
     pick_true _ _ (ap (λ (x : ℕ). eqb x 0) e) ∙ pick-false _ _ (ap (λ (n : ℕ). eqb n 1) g) ∙ pick_true _ _ (ap (λ (n : ℕ). eqb n 2) g)
 
-pub begun-chosen : (v : Store) → v.phase ≡ 0 → (x : ℕ) (b : Body) → ChosenAt v x b → begun_of v ≡ Option.some b
+pub begun-chosen : (v : Store) → v.phase ≡ 0 → (x : ℕ) (b : Body) → ChosenAt v x b → begun_of v ≡ Some b
 unfolding kind_of
-begun-chosen v e x (Body.Task t) (m, g) = begun-task v e g ∙ ap (λ (n : ℕ). Option.some (Body.Task n)) (sym m.0)
-begun-chosen v e x (Body.Event n) (m, g) = begun_event v e g ∙ ap (λ (n : ℕ). Option.some (Body.Event n)) m.1.1.0
+begun-chosen v e x (Body.Task t) (m, g) = begun-task v e g ∙ ap (λ (n : ℕ). Some (Body.Task n)) (sym m.0)
+begun-chosen v e x (Body.Event n) (m, g) = begun_event v e g ∙ ap (λ (n : ℕ). Some (Body.Event n)) m.1.1.0
 
 pub chosen-begins : (v : Store) (b : Body) (x : ℕ) → ChosenAt v x b → Begins v
 unfolding kind_of
@@ -189,7 +188,7 @@ module _ (p : List ℕ) (v : Store) (d : Device) (z : Serial) (k : ℕ) (i : On 
 
 -- the serial run adds what was posted, if it is something
 accept_some : (z : Serial) (posted rs : List Record) → posted ≡ rs → 1 ≤ length rs
-    → accept z posted ≡ some (with_records z (z.records ++ rs) (no_post z.posting))
+    → accept z posted ≡ Some (with_records z (z.records ++ rs) (no_post z.posting))
 unfolding accept
 accept_some z posted [] e l = absurd (omega arith)
 accept_some z posted (r ∷ rs) e l = ap (accept z) e
@@ -241,7 +240,7 @@ module _ (p : List ℕ) (v : Store) (d : Device) (z : Serial) (k : ℕ) (queue :
   begun-queue f (Half b j) ((s, (x, m, r)), e) = begun-chosen (with_queue v queue t) s.phase_is x b (f b x m) ∙ sym (begun-chosen v s.phase_is x b m)
 
 -- the stores of a handler at work on the records rs, c of which are made
-module _ (p : List ℕ) (v : Store) (lengths : Lengths p v) (d : Device) (z : Serial) (k : ℕ) (i : On p v d z k) (rs : List Record) (c : ℕ) (dropped : Dropped)
+module _ (p : List ℕ) (v : Store) (lengths : Lengths p v) (d : Device) (z : Serial) (k : ℕ) (i : On p v d z k) (rs : List Record) (c : ℕ) (dropped : Option Record)
     (a : AtWork p v.queue v.queue_records v.head v.tail z.posting c rs dropped) (unmarked : z.posting.found_full ≡ false) where
   -- a slot that its stores go to isn't head's, if a record waits there, nor a waiting one
   head_apart : v.head ≢ v.tail → (n : ℕ) → n < length rs → v.head ≢ forward v.queue_records v.tail n
@@ -385,7 +384,7 @@ module _ (p : List ℕ) (v : Store) (lengths : Lengths p v) (d : Device) (z : Se
 
 -- a handler at work on n records; after a store that isn't its last it is `later`, and what was dropped for them is what `dropped` finds in the queue
 module _ (p : List ℕ) (v : Store) (lengths : Lengths p v) (d : Device) (z : Serial) (k : ℕ) (i : On p v d z k) (n c : ℕ) (later : Handler)
-    (dropped : List ℕ → Dropped) (a : AtWork p v.queue v.queue_records v.head v.tail z.posting c (carried d.burst n) (dropped v.queue))
+    (dropped : List ℕ → Option Record) (a : AtWork p v.queue v.queue_records v.head v.tail z.posting c (carried d.burst n) (dropped v.queue))
     (not-now : is_dropping d.handler ≡ false) (not-later : is_dropping later ≡ false) where
   abbrev rs : List Record
   rs = carried d.burst n

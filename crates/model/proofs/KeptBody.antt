@@ -3,7 +3,6 @@ use Prim.Native.Nat.{ℕ, zero, suc, ◌+◌, ◌-◌, ◌*◌, ◌≤◌, ◌<�
 use mathlib.Core.Path.{◌≡◌, refl, sym, ap, subst, ◌∙◌}
 use mathlib.Core.Logic.{◌⊎◌, inl, inr, ◌≢◌}
 use mathlib.Core.Bool.{Bool, true, false, not}
-use mathlib.Core.Option.{some}
 use mathlib.Core.List.{List, [], ◌∷◌}
 use native.Mathlib.Nat.{zero-add, add-suc, suc-add}
 use native.Mathlib.Numerals.{add-one}
@@ -25,10 +24,10 @@ use Rattle.model.specs.Demand3.{is_in, may_meet}
 use Rattle.model.specs.Device.{Outcome, out, judged, fresh, with_place, storing, task_stores, event_stores, task_last_stores, event_last_stores, kind_of, current_task, oldest_event, begun_of, data_for, started, record_sound, event_next, choosing, choose_step, shown, save_step, act, save_rest}
 use Rattle.model.specs.Program.{first_registers, word, tasks, events, memory_words, instructions, transaction, body_number, effect_at, new_open}
 use Rattle.model.specs.Serial.{Serial, went, advance, walk, walk_body, after_task, after_event, serve_oldest, run_body, tell, no_post, after_stored}
-use Rattle.model.specs.Store.{Store, event, datum, Record, slot_after, empty, first_waiting, slot, records_from, distance, find, Word, Phase, Count, Pending, PendingOpen, Address, Value, none, to}
+use Rattle.model.specs.Store.{Store, event, datum, slot_after, empty, first_waiting, slot, records_from, distance, find, Word, Phase, Count, Pending, PendingOpen, Address, Value, none, to}
 use Rattle.model.specs.Test.{pick, ◌and◌, ◌or◌}
 use Rattle.model.specs.Turns.{begun_after, oldest_or, next_body}
-use Rattle.model.specs.Types.{Answer, Body, Checked, Device, Effect, Found, Half, Refusal, Run, Resting}
+use Rattle.model.specs.Types.{Answer, Body, Device, Effect, Half, None, Ok, Option, Record, Refusal, Resting, Run, Some}
 
 -- no store of a body's end is made
 ending_none : (p : List ℕ) (v : Store) (d : Device) (b : Body) (i j : ℕ) (f : Effect) → LegalEffect p i j f → EndingAt p v d b 0 f
@@ -160,7 +159,7 @@ module _ (p : List ℕ) (sound : Sound p) (v : Store) (d : Device) (z : Serial) 
       record {
         inside = tt;
         serial = z;
-        tells = λ fuel l. ap some (unchanged_is z (unmarked_of i at_rest));
+        tells = λ fuel l. ap Some (unchanged_is z (unmarked_of i at_rest));
         expected = tt;
         turn = (begun_nothing v nothing, turn);
         told = tt;
@@ -179,7 +178,7 @@ module _ (p : List ℕ) (sound : Sound p) (v : Store) (d : Device) (z : Serial) 
       (λ e.
       let open' : v.open_number ≡ 0 = eqb-true _ _ (and_left _ _ e) in
       let some_record : v.head ≢ v.tail = eqb-false _ _ (not-true _ (and_right _ _ e)) in
-      let passed : record_sound p v ≡ Checked.Accepted = must-true _ (lt-ltb _ _ (event-known p sound v d z k i.held still some_record)) in
+      let passed : record_sound p v ≡ (Ok tt) = must-true _ (lt-ltb _ _ (event-known p sound v d z k i.held still some_record)) in
       rw passed
       (choosing-kept (oldest_event v) (datum v v.head) refl ((open', (some_record, (refl, refl))), refl)
       (event_in p sound v d z k i.held still some_record) (omega arith) (event-next p sound v d z k i.held still open' some_record)))
@@ -199,11 +198,11 @@ shown_is : (v : Store) (l y : ℕ) → Distinct v.log l → y < length v.memory 
 unfolding shown
 shown_is v l y apart h = go (find v.log l y) refl
   where
-    go : (f : Found) → find v.log l y ≡ f → shown v f y ≡ word (overlay v.memory v.log l) y
-    go (Found.Pair n) e =
+    go : (f : Option ℕ) → find v.log l y ≡ f → shown v f y ≡ word (overlay v.memory v.log l) y
+    go (Some n) e =
         let q = find_pair v.log l y n e in
         rw (← q.1) (sym (overlay_pair v.memory v.log l n apart (rw q.1 h) q.0))
-    go Found.Nothing e = sym (overlay_elsewhere v.memory v.log l y (find_nothing v.log l y e))
+    go None e = sym (overlay_elsewhere v.memory v.log l y (find_nothing v.log l y e))
 
 module _ (p : List ℕ) (sound : Sound p) (v : Store) (lengths : Lengths p v) (d : Device) (z : Serial) (k : ℕ)
     (i : On p v d z k) (at_rest : d.handler ≡ Resting) (still : StillAt v z) (b : Body) (j x : ℕ)
@@ -250,7 +249,7 @@ module _ (p : List ℕ) (sound : Sound p) (v : Store) (lengths : Lengths p v) (d
       record {
         inside = tt;
         serial = z;
-        tells = λ fuel l. ap some (unchanged_is z (unmarked_of i at_rest));
+        tells = λ fuel l. ap Some (unchanged_is z (unmarked_of i at_rest));
         expected = tt;
         turn = tt;
         told = tt;
@@ -303,9 +302,9 @@ module _ (p : List ℕ) (sound : Sound p) (v : Store) (lengths : Lengths p v) (d
       }))
 
   save_kept : (y w : ℕ) → effect_at p n j d.registers ≡ Effect.Save y w → j + 1 < instructions p n → y < memory_words p
-      → (f : Found) → find v.log d.count y ≡ f → Kept p v z k Step (save_step v d b j y w f)
+      → (f : Option ℕ) → find v.log d.count y ≡ f → Kept p v z k Step (save_step v d b j y w f)
   unfolding save_step tell apply with_place advance refusal is_in may_meet ◌or◌ begun_of
-  save_kept y w e place below (Found.Pair a) q =
+  save_kept y w e place below (Some a) q =
       let pair = find_pair v.log d.count y a q in
       let keeps : (m : ℕ) → addr (set v.log (2 * a + 1) w) m ≡ addr v.log m = λ m. get_or-set_other v.log (2 * a + 1) (2 * m) w 0 (omega arith) in
       stored-kept (to (Value a) w) _ (unmarked_of i at_rest) (omega (arith, pair.0, i.count_in)) refl
@@ -317,7 +316,7 @@ module _ (p : List ℕ) (sound : Sound p) (v : Store) (lengths : Lengths p v) (d
       ∙ ap (λ (m : List ℕ). walk g p n (j + 1) d.registers m)
       (sym (overlay_overwrite v.memory v.log d.count a w h.distinct (omega (arith, i.count_in, lengths.log_length)) pair.0
       ∙ ap (λ (c : ℕ). set seen c w) pair.1))))
-  save_kept y w e place below Found.Nothing q =
+  save_kept y w e place below None q =
       pick_case (λ (o : Outcome). Kept p v z k Step o) (λ s. half_saved y w e below (find_nothing v.log d.count y q) (ltb-true _ _ s))
       (λ s. refused-kept p v d z k Step Refusal.LogFull refl (inr i))
 
@@ -333,7 +332,7 @@ module _ (p : List ℕ) (sound : Sound p) (v : Store) (lengths : Lengths p v) (d
       record {
         inside = room;
         serial = z;
-        tells = λ fuel s. pick-false _ _ (unmarked_of i at_rest) ∙ ap some (unchanged_is z (unmarked_of i at_rest));
+        tells = λ fuel s. pick-false _ _ (unmarked_of i at_rest) ∙ ap Some (unchanged_is z (unmarked_of i at_rest));
         expected = tt;
         turn = tt;
         told = tt;

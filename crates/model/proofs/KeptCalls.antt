@@ -4,7 +4,6 @@ use mathlib.Core.Path.{◌≡◌, refl, sym, ap, subst, ◌∙◌}
 use mathlib.Core.Logic.{◌⊎◌, inl, inr, ◌≢◌}
 use mathlib.Core.Bool.{Bool, true, false}
 use mathlib.Core.List.{List}
-use mathlib.Core.Option.{Option}
 use native.Mathlib.Omega.{arith}
 use borrow.Author.Tests.{eqb-true, eq-eqb, ne_eqb, leb-true}
 use lib.Dec.{eqb}
@@ -25,10 +24,10 @@ use Rattle.model.specs.Calls.{Boot, Step, Cut, Post}
 use Rattle.model.specs.Device.{out, judged, fresh, off, turned_on, with_handler, task_last_stores, event_last_stores, kind_of, begun_of, data_for, started, taken_up, place_step, next_step, takes, dropped_record, set_to_work, fits}
 use Rattle.model.specs.Program.{body_number, effect_at}
 use Rattle.model.specs.Serial.{Serial, tell, after_done, after_post, unchanged, PostState, with_records, no_post}
-use Rattle.model.specs.Store.{Store, Record, event, datum, none, room, distance, slot, forward, first_waiting, Write, slot_after}
+use Rattle.model.specs.Store.{Store, event, datum, none, room, distance, slot, forward, first_waiting, Write, slot_after}
 use Rattle.model.specs.Test.{pick}
 use Rattle.model.specs.Turns.{begun_after}
-use Rattle.model.specs.Types.{Answer, Body, Device, Free, Half, Handler, Place, Resting, Run, Storing, Dropping, Dropped, Replacing}
+use Rattle.model.specs.Types.{Answer, Body, Device, Dropping, Free, Half, Handler, None, Option, Place, Record, Replacing, Resting, Run, Some, Storing}
 
 -- ---- a step, past its early checks
 
@@ -58,7 +57,7 @@ module _ (p : List ℕ) (sound : Sound p) (v : Store) (lengths : Lengths p v) (d
   unfolding slot forward
   dropped_stays rs one room w s =
       let same = slot_stays v.queue v.queue_records v.tail rs w s (slot_after v.queue_records v.tail) apart in
-      ap (λ (r : Record). Dropped.Record r.event r.datum) same
+      ap Some same
     where
       apart : (n : ℕ) → n < length rs → slot_after v.queue_records v.tail ≢ forward v.queue_records v.tail n
       apart zero l = slot_after_apart v.queue_records v.tail (omega arith)
@@ -68,7 +67,7 @@ module _ (p : List ℕ) (sound : Sound p) (v : Store) (lengths : Lengths p v) (d
   unfolding next_step dropped_record records_at
   next-kept Resting e w = place_kept e d.place i.placed
   next-kept (Storing n c) e w =
-      handler-kept p v lengths d z k i n c (Storing n (c + 1)) (λ _. Dropped.Nothing) w (ap is_dropping e) refl (λ queue a. a) (λ _ _. refl)
+      handler-kept p v lengths d z k i n c (Storing n (c + 1)) (λ _. None) w (ap is_dropping e) refl (λ queue a. a) (λ _ _. refl)
   next-kept Dropping e (m, ne, posted_is) = drop-kept p sound v d z k i m ne posted_is (i.marked ∙ ap is_dropping e)
   next-kept (Replacing c) e w =
       handler-kept p v lengths d z k i 1 c (Replacing (c + 1)) (λ queue. after_tail queue v.queue_records v.tail) w (ap is_dropping e) refl (λ queue a. a)

@@ -4,7 +4,6 @@ use mathlib.Core.Path.{◌≡◌, refl, sym, ap, subst, ◌∙◌}
 use mathlib.Core.Logic.{inl, inr, ◌≢◌}
 use mathlib.Core.Bool.{true}
 use mathlib.Core.List.{List, ◌∷◌}
-use mathlib.Core.Option.{Option, some}
 use native.Mathlib.Omega.{arith}
 use borrow.Author.Tests.{lt-ltb, ne_eqb}
 use lib.Dec.{eqb}
@@ -20,10 +19,10 @@ use Rattle.model.specs.Calls.{Step}
 use Rattle.model.specs.Device.{judged, with_handler, record_stores, task_stores, event_stores, task_last_stores, kind_of, begun_of, record_sound, drop_step}
 use Rattle.model.specs.Program.{tasks, body_number, effect_at}
 use Rattle.model.specs.Serial.{Serial, with_records, after_drop, drop_oldest, after_stored, tell}
-use Rattle.model.specs.Store.{Store, Record, Head, to, slot_after, slot, records_from, distance, first_waiting}
+use Rattle.model.specs.Store.{Store, Head, to, slot_after, slot, records_from, distance, first_waiting}
 use Rattle.model.specs.Test.{pick}
 use Rattle.model.specs.Turns.{begun_after}
-use Rattle.model.specs.Types.{Body, Checked, Device, Effect, Free, Half, Place, Replacing, Run}
+use Rattle.model.specs.Types.{Body, Device, Effect, Free, Half, None, Ok, Option, Place, Record, Replacing, Run, Some}
 
 module _ (p : List ℕ) (sound : Sound p) (v : Store) (d : Device) (z : Serial) (k : ℕ) (i : On p v d z k)
     (m : MayDrop p v.queue_records v.phase v.head v.tail v.begun (carried d.burst 1)) (some_record : v.head ≢ v.tail)
@@ -54,7 +53,7 @@ module _ (p : List ℕ) (sound : Sound p) (v : Store) (d : Device) (z : Serial) 
   abbrev fewer : Serial
   fewer = after_drop z oldest rest
 
-  drops : after_stored z ≡ some fewer
+  drops : after_stored z ≡ Some fewer
   unfolding after_stored drop_oldest
   drops = pick_true _ _ marked ∙ ap (drop_oldest z) records_are
 
@@ -64,7 +63,7 @@ module _ (p : List ℕ) (sound : Sound p) (v : Store) (d : Device) (z : Serial) 
   unfolding begun_of apply
   begun_stays =
       let e = ne_eqb v.begun 2 m.event_not_begun in
-      ap (λ (b : Option Body). pick (eqb v.phase 0) (pick (eqb v.begun 1) (Option.some (Body.Task v.task)) b) Option.none)
+      ap (λ (b : Option Body). pick (eqb v.phase 0) (pick (eqb v.begun 1) (Some (Body.Task v.task)) b) None)
       (pick-false _ _ e ∙ sym (pick-false _ _ e))
 
   lasting_stays : (c : ℕ) → Lasting (controls v) (task_last_stores v) c → Lasting (controls stored) (task_last_stores stored) c
@@ -132,7 +131,7 @@ module _ (p : List ℕ) (sound : Sound p) (v : Store) (d : Device) (z : Serial) 
         made = tt;
       }
 
-  passes : record_sound p v ≡ Checked.Accepted
+  passes : record_sound p v ≡ Ok tt
   unfolding record_sound
   passes = must-true _ (lt-ltb _ _ (known-waiting from_head v.head i.held.head_in (between_first v.head v.tail some_record)))
 

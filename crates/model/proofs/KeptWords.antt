@@ -5,7 +5,6 @@ use mathlib.Core.Path.{◌≡◌, refl, sym, ap, ◌∙◌}
 use mathlib.Core.Logic.{inl, inr}
 use mathlib.Core.Bool.{Bool, true, false, not}
 use mathlib.Core.List.{List}
-use mathlib.Core.Option.{some}
 use native.Mathlib.Omega.{arith}
 use lib.ListN.{length}
 use Rattle.model.proofs.BurstLaws.{burst-passed, EventsFound, all_known, bad_event, events-found}
@@ -25,20 +24,20 @@ use Rattle.model.specs.Control.{obey_all, rules, early_rules}
 use Rattle.model.specs.Device.{Outcome, out, refuse, judged, fresh, with_handler, is_at_rest, zeros, is_fresh, device_sound, look, begun_of, taken_up, boot_check, boot, cut, post_check, post, next_step, step, set_to_work, takes}
 use Rattle.model.specs.Program.{memory_words}
 use Rattle.model.specs.Serial.{Serial, given, tell, after_done}
-use Rattle.model.specs.Store.{Store, Record, view, Write, none, to, settled, store_rule}
+use Rattle.model.specs.Store.{Store, view, Write, none, to, settled, store_rule}
 use Rattle.model.specs.Turns.{begun_after, InTurn}
 use Rattle.model.specs.Test.{pick, ◌and◌, ◌or◌, must, ◌then◌}
-use Rattle.model.specs.Types.{Answer, Checked, Device, Refusal}
+use Rattle.model.specs.Types.{Answer, Checked, Device, Err, Ok, Record, Refusal, Some}
 
 -- the invariant of a store of l log pairs and q queue records
 pub record InvWords (p : List ℕ) (l q : ℕ) (s : List ℕ) (d : Device) (z : Serial) (k : ℕ) : Type 0 where
   pub sized : Sized (memory_words p) l q s
-  pub contents : store_rule p s ≡ Checked.Accepted
+  pub contents : store_rule p s ≡ Ok tt
   pub inv : Inv p (view_at (memory_words p) l q s) d z k
 
 pub record KeptWords (p : List ℕ) (l q : ℕ) (s : List ℕ) (z : Serial) (k : ℕ) (c : Call) (o : Outcome) : Type 0 where
   pub serial : Serial
-  pub tells : (fuel : ℕ) → k < fuel → tell fuel (given p l q) z c o.answer ≡ some serial
+  pub tells : (fuel : ℕ) → k < fuel → tell fuel (given p l q) z c o.answer ≡ Some serial
   pub expected : Expected c o.answer
   pub turn : InTurn z (begun_of (view s)) o.answer
   pub told : TellsDropped z o.answer
@@ -48,8 +47,8 @@ pub record KeptWords (p : List ℕ) (l q : ℕ) (s : List ℕ) (z : Serial) (k :
 
 judged_then : (a b : Checked) (d : Device) (o : Outcome) → judged (a then b) d o ≡ judged a d (judged b d o)
 unfolding judged ◌then◌
-judged_then Checked.Accepted b d o = refl
-judged_then (Checked.Refused r) b d o = refl
+judged_then (Ok tt) b d o = refl
+judged_then (Err r) b d o = refl
 
 module _ (p : List ℕ) (sound : Sound p) (l q : ℕ) (s : List ℕ) (d : Device) (z : Serial) (k : ℕ) (i : InvWords p l q s d z k) where
   abbrev pub v : Store

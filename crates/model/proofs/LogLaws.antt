@@ -14,7 +14,7 @@ use Rattle.model.proofs.TestLaws.{pick_true, pick-false, same_or}
 use Rattle.model.specs.Program.{word}
 use Rattle.model.specs.Store.{find_from, find}
 use Rattle.model.specs.Test.{pick}
-use Rattle.model.specs.Types.{Found}
+use Rattle.model.specs.Types.{None, Option, Some}
 
 -- pair j's address and value
 abbrev pub addr : List ℕ → ℕ → ℕ
@@ -26,36 +26,36 @@ val log j = word log (2 * j + 1)
 -- ---- the search
 
 -- what a search of k pairs from pair j on says
-abbrev Says : List ℕ → ℕ → ℕ → ℕ → Found → Type 0
-Says log a j k (Found.Pair i) = (j ≤ i) × ((i < j + k) × (addr log i ≡ a))
-Says log a j k Found.Nothing = (i : ℕ) → j ≤ i → i < j + k → addr log i ≢ a
+abbrev Says : List ℕ → ℕ → ℕ → ℕ → Option ℕ → Type 0
+Says log a j k (Some i) = (j ≤ i) × ((i < j + k) × (addr log i ≡ a))
+Says log a j k None = (i : ℕ) → j ≤ i → i < j + k → addr log i ≢ a
 
 find_from_lem : (log : List ℕ) (a j k : ℕ) → Says log a j k (find_from log a j k)
 unfolding find_from
 find_from_lem log a j zero = λ i l m. absurd (omega arith)
 find_from_lem log a j (suc k) = step (eqb (addr log j) a) refl (find_from log a (suc j) k) (find_from_lem log a (suc j) k)
   where
-    later : (f : Found) → eqb (addr log j) a ≡ false → Says log a (suc j) k f → Says log a j (suc k) f
-    later (Found.Pair i) e s = (omega arith, (omega arith, s.1.1))
-    later Found.Nothing e s = λ i l m. apart i l m (eqb i j) refl
+    later : (f : Option ℕ) → eqb (addr log j) a ≡ false → Says log a (suc j) k f → Says log a j (suc k) f
+    later (Some i) e s = (omega arith, (omega arith, s.1.1))
+    later None e s = λ i l m. apart i l m (eqb i j) refl
       where
         apart : (i : ℕ) → j ≤ i → i < j + suc k → (b : Bool) → eqb i j ≡ b → addr log i ≢ a
         apart i l m true q = rw (eqb-true i j q) (eqb-false _ _ e)
         apart i l m false q = let ne : i ≢ j = eqb-false _ _ q in s i (omega arith) (omega arith)
 
-    step : (b : Bool) → eqb (addr log j) a ≡ b → (f : Found) → Says log a (suc j) k f → Says log a j (suc k) (pick b (Found.Pair j) f)
+    step : (b : Bool) → eqb (addr log j) a ≡ b → (f : Option ℕ) → Says log a (suc j) k f → Says log a j (suc k) (pick b (Some j) f)
     step true e f s = rw pick_true (omega arith, (omega arith, eqb-true _ _ e))
     step false e f s = rw pick-false (later f e s)
 
 -- a pair that is found is one of the first n, with this address
-pub find_pair : (log : List ℕ) (n a i : ℕ) → find log n a ≡ Found.Pair i → (i < n) × (addr log i ≡ a)
+pub find_pair : (log : List ℕ) (n a i : ℕ) → find log n a ≡ Some i → (i < n) × (addr log i ≡ a)
 unfolding find
-find_pair log n a i e = let s : Says log a 0 n (Found.Pair i) = rw e at (find_from_lem log a 0 n) in (omega arith, s.1.1)
+find_pair log n a i e = let s : Says log a 0 n (Some i) = rw e at (find_from_lem log a 0 n) in (omega arith, s.1.1)
 
 -- where none is found, none of the first n has it
-pub find_nothing : (log : List ℕ) (n a : ℕ) → find log n a ≡ Found.Nothing → (i : ℕ) → i < n → addr log i ≢ a
+pub find_nothing : (log : List ℕ) (n a : ℕ) → find log n a ≡ None → (i : ℕ) → i < n → addr log i ≢ a
 unfolding find
-find_nothing log n a e i l = let s : Says log a 0 n Found.Nothing = rw e at (find_from_lem log a 0 n) in s i (omega arith) (omega arith)
+find_nothing log n a e i l = let s : Says log a 0 n None = rw e at (find_from_lem log a 0 n) in s i (omega arith) (omega arith)
 
 -- ---- memory with the first k pairs laid over it, in order
 

@@ -26,7 +26,7 @@ use Rattle.model.specs.Program.{tasks, memory_words, word}
 use Rattle.model.specs.Store.{Store, view, slot_after, forward, distance, Phase, Write, none, to, index, settled, stored_word}
 use Rattle.model.specs.Calls.{is_refusal, unless_refused, is_commit}
 use Rattle.model.specs.Test.{pick, ◌and◌}
-use Rattle.model.specs.Types.{Answer, Body, Checked, Device, Free, Half, Handler, Place, Resting, Run, Dropped, Dropping, Replacing}
+use Rattle.model.specs.Types.{Answer, Body, Device, Dropping, Free, Half, Handler, Ok, Option, Place, Record, Replacing, Resting, Run}
 use Rattle.model.specs.Claims.{sound_after, LookStays}
 
 some_end : (b : Body) → 0 < end_stores b
@@ -219,7 +219,7 @@ module _ (p : List ℕ) (v : Store) (d : Device) (fit : Fit p v d) where
 
   -- ---- each case
 
-  later_attends : {h : Handler} {n c : ℕ} {later : Handler} {dropped : Dropped} → Works v h n c later dropped → AttendsAt p v d n (c + 1) → Attends p v d.burst later
+  later_attends : {h : Handler} {n c : ℕ} {later : Handler} {dropped : Option Record} → Works v h n c later dropped → AttendsAt p v d n (c + 1) → Attends p v d.burst later
   later_attends works_storing a = a
   later_attends works_replacing a = a
 
@@ -227,7 +227,7 @@ module _ (p : List ℕ) (v : Store) (d : Device) (fit : Fit p v d) where
   abbrev Keeps : Outcome → Type 0
   Keeps o = ((x : ℕ) → o.write ≡ to Phase x → (is_commit o.answer ≡ false) × (v.begun ≡ 0)) → InsideOf p v o.write × Fit p (apply v o.write) o.device
 
-  handling_keeps : {h : Handler} {n c : ℕ} {later : Handler} {dropped : Dropped} (o : Outcome) → Works v h n c later dropped
+  handling_keeps : {h : Handler} {n c : ℕ} {later : Handler} {dropped : Option Record} (o : Outcome) → Works v h n c later dropped
       → HandlerMade p v d n c later dropped o → Keeps o
   unfolding apply
   handling_keeps o w (record_made a (event_store n r l m)) _ = (slot_in v.head n fit.control.tail_in a.room l, handled-fits _ _ (later_attends w a))
@@ -279,7 +279,7 @@ phase-stored s a w x is e =
 -- ---- a step
 
 module _ (p s : List ℕ) (d : Device) where
-  look_after : Looked p s d → (w : Write) (e : Device) → InsideOf p (view s) w → Fit p (apply (view s) w) e → look p (settled s w) e ≡ Checked.Accepted
+  look_after : Looked p s d → (w : Write) (e : Device) → InsideOf p (view s) w → Fit p (apply (view s) w) e → look p (settled s w) e ≡ Ok tt
   unfolding look settled apply
   look_after early none e inside fit = look_passes p s e (then_first _ _ early.passed) (then_first _ _ (then_rest _ _ early.passed)) fit
   look_after early (to w x) e inside fit =
@@ -287,7 +287,7 @@ module _ (p s : List ℕ) (d : Device) where
       (subst (λ (u : Store). Fit p u e) (sym (view_after (memory_words p) (word s 2) (word s 3) s (sized early.shaped) w x inside)) fit)
 
   stays : (o : Outcome) → StepOutcome p s d o → is_refusal o.answer ≡ false → sound_after (stored_word s o.write) o.answer (settled s o.write) ≡ true
-      → look p (settled s o.write) o.device ≡ Checked.Accepted
+      → look p (settled s o.write) o.device ≡ Ok tt
   unfolding is_refusal unless_refused
   stays o (refused w) n e = clash refl n
   stays o (made early m u) n e =

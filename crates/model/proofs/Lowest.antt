@@ -13,7 +13,7 @@ use Rattle.model.specs.Control.{Rule, broken, obey, obey_all, up_to, phase_rule,
 use Rattle.model.specs.Program.{memory_words}
 use Rattle.model.specs.Store.{Store, log_at, queue_at, store_length}
 use Rattle.model.specs.Test.{must, ◌then◌}
-use Rattle.model.specs.Types.{Checked, Refusal}
+use Rattle.model.specs.Types.{Checked, Err, Refusal}
 
 -- ---- rules in the order of their words
 
@@ -51,8 +51,8 @@ rising_above a b (x ∷ xs) (l, t) r (inr m) = omega (arith, l, rising_above x.w
 -- ---- what a row of rules meets
 
 -- the first of them is broken, or the others answer
-met : (b : Bool) (u w : ℕ) (c : Checked) → (must (not b) (Refusal.Control u) then c) ≡ Checked.Refused (Refusal.Control w)
-    → ((b ≡ true) × (u ≡ w)) ⊎ ((b ≡ false) × (c ≡ Checked.Refused (Refusal.Control w)))
+met : (b : Bool) (u w : ℕ) (c : Checked) → (must (not b) (Refusal.Control u) then c) ≡ Err (Refusal.Control w)
+    → ((b ≡ true) × (u ≡ w)) ⊎ ((b ≡ false) × (c ≡ Err (Refusal.Control w)))
 unfolding must ◌then◌
 met true u w c e = inl (refl, cc)
 met false u w c e = inr (refl, e)

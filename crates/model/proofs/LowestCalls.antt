@@ -24,9 +24,9 @@ use Rattle.model.specs.Claims.{LowestBroken, NoneBroken, running_rule, used_rule
 use Rattle.model.specs.Control.{Rule, broken, obey, obey_all, in_phase, phase_rule, open_rule, count_rule, head_rule, tail_rule, address_rule, start_kept, between, record_rule, rules, early_rules}
 use Rattle.model.specs.Device.{look, boot_check, cut, post_check, record_sound, head_sound, open_sound, body_sound}
 use Rattle.model.specs.Program.{events, memory_words, body_number}
-use Rattle.model.specs.Store.{Store, Record, view, address, event, first_waiting}
+use Rattle.model.specs.Store.{Store, view, address, event, first_waiting}
 use Rattle.model.specs.Test.{◌or◌, must}
-use Rattle.model.specs.Types.{Body, Checked, Device, Effect, Place, Refusal, Resting}
+use Rattle.model.specs.Types.{Body, Checked, Device, Effect, Err, Ok, Place, Record, Refusal, Resting}
 
 -- ---- refusals whose place, in 7, is the lowest of rs
 
@@ -47,9 +47,9 @@ module _ (rs : List Rule) where
   lowest-low c l = record { with_such = λ r e w f. clash (rw f at (l.with_such r e)) refl }
 
   lowest-row : NamesLowest rs → Lowest (obey_all rs)
-  lowest-row h = record { with_such = λ r e w f. h w (e ∙ ap Checked.Refused f) }
+  lowest-row h = record { with_such = λ r e w f. h w (e ∙ ap Err f) }
 
-none-broken : (rs : List Rule) → obey_all rs ≡ Checked.Accepted → NoneBroken rs
+none-broken : (rs : List Rule) → obey_all rs ≡ Ok tt → NoneBroken rs
 unfolding obey_all obey
 none-broken [] e r m = absurd m
 none-broken (x ∷ xs) e r (inl q) = ap broken q ∙ not-true _ (must-passed _ _ (then_first _ _ e))

@@ -12,7 +12,7 @@ use Rattle.model.specs.Check.{contents_rule, rows_inside_rule, limits, row_rule,
 use Rattle.model.specs.Device.{named_row}
 use Rattle.model.specs.Store.{store_rule}
 use Rattle.model.specs.Test.{pick, must, ◌then◌}
-use Rattle.model.specs.Types.{Checked, Effect, Refusal}
+use Rattle.model.specs.Types.{Checked, Effect, Ok, Refusal}
 
 abbrev IsLow : Refusal → Type 0
 IsLow r = leb (refusal r).number 6 ≡ true
@@ -87,5 +87,5 @@ low-named p Effect.EndEvent = refuses_accepted
 low-named p Effect.Unknown = refuses_accepted
 
 -- the checks of a body's row, its instruction and the row that it names
-pub low-body : (p : List ℕ) (i j : ℕ) (there : Bool) (f : Effect) → Low (pick there (instruction_rule p i j then named_row p f) Checked.Accepted)
+pub low-body : (p : List ℕ) (i j : ℕ) (there : Bool) (f : Effect) → Low (pick there (instruction_rule p i j then named_row p f) (Ok tt))
 low-body p i j there f = pick_case Low (λ _. refuses_then _ _ (low-instruction p i j) (low-named p f)) (λ _. refuses_accepted)

@@ -12,10 +12,10 @@ use Rattle.model.specs.Claims.{ByCalls}
 use Rattle.model.specs.Demand3.{recovery_steps, AsSerialRun, AllExpected, recovering, Observed, ObservedByCalls}
 use Rattle.model.specs.Device.{off, cut}
 use Rattle.model.specs.Serial.{given}
-use Rattle.model.specs.Store.{Record, view, settled, waiting, format_check, format}
-use Rattle.model.specs.Types.{Answer, Body, Checked}
+use Rattle.model.specs.Store.{view, settled, waiting, format_check, format}
+use Rattle.model.specs.Types.{Answer, Body, Ok, Record}
 
-module _ (p : List ℕ) (l q : ℕ) (s : List ℕ) (e : format_check p l q s ≡ Checked.Accepted) where
+module _ (p : List ℕ) (l q : ℕ) (s : List ℕ) (e : format_check p l q s ≡ Ok tt) where
   abbrev fresh-store : List ℕ
   fresh-store = format p l q s
 

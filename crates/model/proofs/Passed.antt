@@ -20,9 +20,9 @@ use Rattle.model.specs.Check.{fields_fit, instruction_rule}
 use Rattle.model.specs.Control.{obey_all, phase_rule, task_rule, open_serving, count_rule, pending_task_rule, head_rule, tail_rule, pending_head_rule, pending_move_rule, begun_rule, begun_event_rule, early_rules, Rule, up_to, open_rule, pending_open_rule, address_rule, record_rule, control_rules, rules, early_of}
 use Rattle.model.specs.Device.{eligible, may_run, place_sound, records_sound, handler_sound, device_sound, look, boot_check, body_sound, fits}
 use Rattle.model.specs.Program.{word, tasks, memory_words, instructions, body_number, opcode, field_a, field_b, code, operand, bounds, decode}
-use Rattle.model.specs.Store.{Store, view, room, log_at, queue_at, store_length, store_rule, sizes_rule, Record}
+use Rattle.model.specs.Store.{Store, view, room, log_at, queue_at, store_length, store_rule, sizes_rule}
 use Rattle.model.specs.Test.{◌or◌, pick}
-use Rattle.model.specs.Types.{Body, Checked, Device, Effect, Free, Half, Handler, Instruction, Place, Resting, Run, Storing, Replacing, Dropping}
+use Rattle.model.specs.Types.{Body, Device, Dropping, Effect, Free, Half, Handler, Instruction, Ok, Place, Record, Replacing, Resting, Run, Storing}
 
 -- ---- an instruction
 
@@ -48,7 +48,7 @@ registers p i a b k =
     & (λ x y z. tt)  -- DONE
     & tt)
 
-pub rule-passed : (p : List ℕ) (i j : ℕ) → j < instructions p i → instruction_rule p i j ≡ Checked.Accepted → Legal p i j
+pub rule-passed : (p : List ℕ) (i j : ℕ) → j < instructions p i → instruction_rule p i j ≡ Ok tt → Legal p i j
 unfolding instruction_rule fields_fit
 rule-passed p i j h e =
     let w = code p i j in
@@ -74,7 +74,7 @@ sizes-passed l q e =
       most_records = leb-true _ _ (and_right _ _ e2);
     }
 
-pub store-passed : (p s : List ℕ) → Contents p → store_rule p s ≡ Checked.Accepted → ShapedFor p s
+pub store-passed : (p s : List ℕ) → Contents p → store_rule p s ≡ Ok tt → ShapedFor p s
 unfolding store_rule
 store-passed p s c e =
     let (long, e1) = must_then _ _ _ e in
@@ -130,7 +130,7 @@ early_are p v =
     (early-up_to (record_rule p v) (λ x. refl) (v.queue_records + 1))
     ∙ early-left (control_rules p v) (up_to (address_rule p v) v.log_pairs) (early-up_to (address_rule p v) (λ j. refl) v.log_pairs)
 
-pub control-passed : (p : List ℕ) (v : Store) → obey_all (early_rules p v) ≡ Checked.Accepted → Controlled p v
+pub control-passed : (p : List ℕ) (v : Store) → obey_all (early_rules p v) ≡ Ok tt → Controlled p v
 unfolding obey_all phase_rule task_rule open_serving count_rule pending_task_rule pending_head_rule pending_move_rule head_rule tail_rule begun_rule begun_event_rule
 control-passed p v e =
     let e0 = rw (early_are p v) at e in
@@ -173,7 +173,7 @@ control-passed p v e =
 
 -- ---- what a boot checks of the store
 
-pub boot-passed : (p s : List ℕ) (d : Device) → boot_check p s d ≡ Checked.Accepted → Bootable p s
+pub boot-passed : (p s : List ℕ) (d : Device) → boot_check p s d ≡ Ok tt → Bootable p s
 unfolding boot_check early_rules
 boot-passed p s d e0 =
     let e1 = then_rest _ _ e0 in
@@ -232,7 +232,7 @@ attends p v burst (Replacing c) e = attends_to p v c (carried burst 1) e
 
 -- ---- what step and post look at
 
-pub look-passed : (p s : List ℕ) (d : Device) → look p s d ≡ Checked.Accepted → Looked p s d
+pub look-passed : (p s : List ℕ) (d : Device) → look p s d ≡ Ok tt → Looked p s d
 unfolding look device_sound
 look-passed p s d e0 =
     let e1 = then_rest _ _ e0 in
@@ -255,7 +255,7 @@ look-passed p s d e0 =
 
 -- ---- a body at an instruction
 
-pub body-passed : (p : List ℕ) (v : Store) (x : Place) (b : Body) (j : ℕ) (f : Effect) → body_sound p v x b j f ≡ Checked.Accepted → BodyIs p v x b j f
+pub body-passed : (p : List ℕ) (v : Store) (x : Place) (b : Body) (j : ℕ) (f : Effect) → body_sound p v x b j f ≡ Ok tt → BodyIs p v x b j f
 unfolding body_sound
 body-passed p v x b j f e0 =
     let e1 = then_rest _ _ e0 in
@@ -272,7 +272,7 @@ body-passed p v x b j f e0 =
       there = ltb-true _ _ there;
       rule = then_first _ _ code;
       named = then_rest _ _ code;
-      open_sound_lem = then_first _ _ e4;
-      head_is_lem = and_left _ _ (and_right _ _ last);
+      open_number_sound = then_first _ _ e4;
+      head_record_is = and_left _ _ (and_right _ _ last);
       fits = and_right _ _ (and_right _ _ last);
     }

@@ -14,11 +14,11 @@ use Rattle.model.specs.Accepted.{Contents, RowsInside, HasRow, UsableRow, HasBod
 use Rattle.model.specs.Check.{contents_rule, rows_inside_rule, limits, due, row_rule, rows, row_usable, fields_fit, last_one_fits, instruction_rule, body_rule, check}
 use Rattle.model.specs.Program.{tasks, memory_words, total, bodies, start, instructions, bodies_start, opcode, field_a, field_b, code, operand, Bounds, bounds_table, bounds, may_be_last, instruction_table, decode, effect, effect_at, less, reg}
 use Rattle.model.specs.Test.{pick}
-use Rattle.model.specs.Types.{Checked, Instruction}
+use Rattle.model.specs.Types.{Instruction, Ok}
 
 -- ---- the table of contents
 
-pub contents-passed : (p : List ℕ) → contents_rule p ≡ Checked.Accepted → Contents p
+pub contents-passed : (p : List ℕ) → contents_rule p ≡ Ok tt → Contents p
 unfolding contents_rule
 contents-passed p e =
     let (six, e1) = must_then _ _ _ e in
@@ -42,13 +42,13 @@ contents-passed p e =
 
 -- ---- a row
 
-pub inside-passed : (p : List ℕ) → Contents p → rows_inside_rule p ≡ Checked.Accepted → RowsInside p
+pub inside-passed : (p : List ℕ) → Contents p → rows_inside_rule p ≡ Ok tt → RowsInside p
 unfolding rows_inside_rule
 inside-passed p c e =
     let fits : bodies_start p ≤ total p = leb-true _ _ (must-passed _ _ e) in
     record { contents = c; inside = omega arith }
 
-pub row-passed : (p : List ℕ) (i : ℕ) → row_usable p i ≡ Checked.Accepted → UsableRow p i
+pub row-passed : (p : List ℕ) (i : ℕ) → row_usable p i ≡ Ok tt → UsableRow p i
 unfolding row_usable limits
 row-passed p i e =
     let (some, l1) = must_then _ _ _ (then_first _ _ e) in
@@ -61,7 +61,7 @@ row-passed p i e =
       inside = leb-true _ _ (must-passed _ _ e1);
     }
 
-pub used_passed : (p : List ℕ) (i : ℕ) → HasRow p i → row_usable p i ≡ Checked.Accepted → HasBody p i
+pub used_passed : (p : List ℕ) (i : ℕ) → HasRow p i → row_usable p i ≡ Ok tt → HasBody p i
 used_passed p i h e = record { row = h; usable = row-passed p i e }
 
 -- ---- the rows together: each body starts where it is due, so it ends where the next is due, at most at the total
@@ -74,8 +74,8 @@ pub due-next : (p : List ℕ) (j : ℕ) {i : ℕ} → i ≡ suc j → due p i �
 unfolding due
 due-next p j e = rw e
 
-module _ (p : List ℕ) (passed : rows p ≡ Checked.Accepted) where
-  row_is : (i : ℕ) → i < bodies p → row_rule p i ≡ Checked.Accepted
+module _ (p : List ℕ) (passed : rows p ≡ Ok tt) where
+  row_is : (i : ℕ) → i < bodies p → row_rule p i ≡ Ok tt
   unfolding rows
   row_is i h = rw zero-add at (each-passed (row_rule p) 0 (bodies p) i (then_first _ _ (then_rest _ _ passed)) h)
 
@@ -96,7 +96,7 @@ module _ (p : List ℕ) (passed : rows p ≡ Checked.Accepted) where
   due-inside zero i e = omega (arith, ends-at-total, ap (due p) (sym (add-zero i) ∙ e))
   due-inside (suc k) i e = omega (arith, due-inside k (suc i) (omega arith), start-due i (omega arith), due-next p i {i = suc i} refl)
 
-  row_used : (i : ℕ) → i < bodies p → row_usable p i ≡ Checked.Accepted
+  row_used : (i : ℕ) → i < bodies p → row_usable p i ≡ Ok tt
   unfolding row_rule row_usable
   row_used i h =
       let lo : bodies_start p ≤ start p i = omega (arith, due-behind i (omega arith), start-due i h) in
@@ -104,7 +104,7 @@ module _ (p : List ℕ) (passed : rows p ≡ Checked.Accepted) where
       omega (arith, due-next p i {i = suc i} refl, due-inside (bodies p - suc i) (suc i) (omega arith)) in
       then_passed (then_rest _ _ (row_is i h)) (then_passed (must-true _ (le-leb _ _ lo)) (must-true _ (le-leb _ _ hi)))
 
-pub rows-passed : (p : List ℕ) → Contents p → rows p ≡ Checked.Accepted → Bodies p
+pub rows-passed : (p : List ℕ) → Contents p → rows p ≡ Ok tt → Bodies p
 unfolding rows
 rows-passed p c e =
     let inside = inside-passed p c (then_first _ _ e) in
@@ -193,7 +193,7 @@ module _ (p : List ℕ) (i j a b k : ℕ) (r : List ℕ) (h : j < instructions p
       & (λ x y z l. by_event _ refl z)  -- DONE
       & tt)
 
-pub instruction_leads : (p : List ℕ) (i j : ℕ) (r : List ℕ) → j < instructions p i → instruction_rule p i j ≡ Checked.Accepted → LegalEffect p i j (effect_at p i j r)
+pub instruction_leads : (p : List ℕ) (i j : ℕ) (r : List ℕ) → j < instructions p i → instruction_rule p i j ≡ Ok tt → LegalEffect p i j (effect_at p i j r)
 unfolding instruction_rule effect_at fields_fit last_one_fits
 instruction_leads p i j r h e =
     let w = code p i j in
@@ -204,14 +204,14 @@ instruction_leads p i j r h e =
 
 -- ---- a program that passes the check
 
-pub check-passed : (p : List ℕ) → check p ≡ Checked.Accepted → Sound p
+pub check-passed : (p : List ℕ) → check p ≡ Ok tt → Sound p
 unfolding check rows body_rule
 check-passed p e =
     let c = then_first _ _ e in
     let rs = then_first _ _ (then_rest _ _ e) in
-    let body : (i : ℕ) → i < bodies p → body_rule p i ≡ Checked.Accepted =
+    let body : (i : ℕ) → i < bodies p → body_rule p i ≡ (Ok tt) =
     λ i h. rw zero-add at (each-passed (body_rule p) 0 (bodies p) i (then_rest _ _ (then_rest _ _ e)) h) in
-    let rule : (i j : ℕ) → i < bodies p → j < instructions p i → instruction_rule p i j ≡ Checked.Accepted =
+    let rule : (i j : ℕ) → i < bodies p → j < instructions p i → instruction_rule p i j ≡ (Ok tt) =
     λ i j h l. rw zero-add at (each-passed (instruction_rule p i) 0 (instructions p i) j (body i h) l) in
     record {
       passed = e;

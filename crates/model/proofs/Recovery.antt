@@ -5,7 +5,6 @@ use mathlib.Core.Path.{◌≡◌, refl, sym, ap, ◌∙◌, subst}
 use mathlib.Core.Logic.{inl, inr, ◌≢◌}
 use mathlib.Core.Bool.{true, false}
 use mathlib.Core.List.{List}
-use mathlib.Core.Option.{Option, some}
 use native.Mathlib.Nat.{not-suc-le-zero, add-zero, zero-add}
 use native.Mathlib.Omega.{arith}
 use borrow.Author.Tests.{ne_eqb}
@@ -25,7 +24,7 @@ use Rattle.model.specs.Program.{memory_words}
 use Rattle.model.specs.Serial.{Serial, given, tell, unchanged, with_records, after_stored}
 use Rattle.model.specs.Store.{Store, view, Write, none, settled, waiting}
 use Rattle.model.specs.Test.{must}
-use Rattle.model.specs.Types.{Answer, Checked, Device, Free, Resting}
+use Rattle.model.specs.Types.{Answer, Checked, Device, Free, None, Resting, Some}
 
 pub waiting_is : (p : List ℕ) (v : Store) (d : Device) (z : Serial) (k : ℕ) → Inv p v d z k → waiting v ≡ z.records
 unfolding waiting
@@ -98,8 +97,8 @@ module _ (p : List ℕ) (sound : Sound p) (l q : ℕ) (s : List ℕ) (d : Device
   unfolding tell after_stored
   stored_same h on rest e =
       let unmarked = unmarked_of (when_on p sound l q s d z k i on) rest in
-      let t : tell (suc k) (given p l q) z Step Answer.Stored ≡ some h.serial = rw e at (h.tells (suc k) (omega arith)) in
-      let same : some z ≡ some h.serial = sym (pick-false _ _ unmarked ∙ ap some (unchanged_is z unmarked)) ∙ t in
+      let t : tell (suc k) (given p l q) z Step Answer.Stored ≡ Some h.serial = rw e at (h.tells (suc k) (omega arith)) in
+      let same : Some z ≡ Some h.serial = sym (pick-false _ _ unmarked ∙ ap Some (unchanged_is z unmarked)) ∙ t in
       cc
 
 -- ---- recovery
@@ -193,7 +192,7 @@ module _ (p : List ℕ) (sound : Sound p) (l q : ℕ) (s : List ℕ) (d : Device
   left_alone v h = record { memory = h.memory; task = h.task; open_number = h.open_number; records = h.records }
 
   -- in phases 1 and 2 no body is taken up
-  commit_finishes : (fuel : ℕ) → recovery_steps now ≤ fuel → CommitAt p now z 0 → begun_of now ≡ Option.none → Finishes p s booted z fuel 0 (recovery_steps now)
+  commit_finishes : (fuel : ℕ) → recovery_steps now ≤ fuel → CommitAt p now z 0 → begun_of now ≡ None → Finishes p s booted z fuel 0 (recovery_steps now)
   unfolding taken_up fresh
   commit_finishes fuel h commit none_begun =
       let is : turned_on ≡ booted = ap (taken_up now) (sym none_begun) in

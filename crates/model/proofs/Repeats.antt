@@ -26,9 +26,9 @@ use Rattle.model.specs.Claims.{Stays, address, log_full, uncut, RefusalStays, so
 use Rattle.model.specs.Control.{Rule, obey, obey_all, open_rule, task_rule}
 use Rattle.model.specs.Device.{Outcome, out, refuse, with_handler, resting, zeros, look, boot, boot_check, post, post_check, record_sound, head_sound, head_is, open_sound, body_sound, act, step, kind_of, set_to_work}
 use Rattle.model.specs.Program.{word, memory_words, body_number}
-use Rattle.model.specs.Store.{Store, view, event, Record, distance, slot, Word, Event, Datum, Tail, Write, to, queue_at, index, settled, stored_word, forward, Head}
+use Rattle.model.specs.Store.{Store, view, event, distance, slot, Word, Event, Datum, Tail, Write, to, queue_at, index, settled, stored_word, forward, Head}
 use Rattle.model.specs.Test.{pick, ◌and◌, ◌or◌, must}
-use Rattle.model.specs.Types.{Answer, Body, Checked, Device, Effect, Handler, Place, Refusal, Resting, Run, Storing, Dropping, Replacing, Dropped}
+use Rattle.model.specs.Types.{Answer, Body, Checked, Device, Dropping, Effect, Err, Handler, Ok, Option, Place, Record, Refusal, Replacing, Resting, Run, Storing}
 
 -- ---- 23 and 24 come from an instruction alone
 
@@ -97,7 +97,7 @@ module _ (p : List ℕ) (v : Store) (queue : List ℕ) (h t : ℕ)
   body_same x (Body.Task n) j f m = refl
   body_same x (Body.Event n) j f m = let (head, record') = same m.1 m.0.2 in rw (head, record')
 
-  module _ (s : List ℕ) (d : Device) (rests : d.handler ≡ Resting) (looks : look p s d ≡ Checked.Accepted) (parts : view s ≡ with_ring v queue h t) where
+  module _ (s : List ℕ) (d : Device) (rests : d.handler ≡ Resting) (looks : look p s d ≡ Ok tt) (parts : view s ≡ with_ring v queue h t) where
     acts_again : {b : Body} {j c : ℕ} {f : Effect} {r : Refusal} → RunsAt p v d b j c f → act p (with_ring v queue h t) d b j c f ≡ refuse d r
         → (step p s d).answer ≡ Answer.Refused r
     acts_again {b} {j} {c} {f} a e =
@@ -145,7 +145,7 @@ unfolding late refusal ◌or◌
 stuck_why p s d r w e = by_why (why p s d r e).0 refl
   where
     by_why : {q : Refusal} → Why p s d q → q ≡ r → Looked p s d × (d.handler ≡ Resting) × Meets p (view s) d r
-    by_why (looked f) same = absurd ((other_look p s d).with_such r (f ∙ ap Checked.Refused same) w)
+    by_why (looked f) same = absurd ((other_look p s d).with_such r (f ∙ ap Err same) w)
     by_why (met early rests m) same = (early, rests, subst (Meets p (view s) d) same m)
     by_why (by_dropped early q l) same = clash (ap late same ∙ stays_late r w) refl
 
@@ -198,7 +198,7 @@ module _ (p s : List ℕ) (d : Device) (r : Refusal) (w : Stays r) (k : Stuck p 
         no_burst_lem = none;
         met =
             again p v queue h' t same s' (resting d) refl
-            (look_rests p s' (with_handler d h burst) no_burst refl (subst (λ (o : Outcome). look p (settled s o.write) o.device ≡ Checked.Accepted) is looks))
+            (look_rests p s' (with_handler d h burst) no_burst refl (subst (λ (o : Outcome). look p (settled s o.write) o.device ≡ Ok tt) is looks))
             (view_after (memory_words p) v.log_pairs v.queue_records s (sized meets.0.shaped) x y inside ∙ parts) r w meets.1;
       }
 
@@ -223,7 +223,7 @@ module _ (p s : List ℕ) (d : Device) (r : Refusal) (w : Stays r) (k : Stuck p 
   unfolding sound_after stored_word index
   datum-sound u y words = pick-false _ _ (ne_eqb (queue_at (word s 1) (word s 2) + (2 * u + 1)) 8 (omega arith))
 
-  tail-sound : (dropped : Dropped) (y : ℕ) (words : List ℕ) → sound_after (stored_word s (to Tail y)) (Answer.Accepted dropped) words ≡ true
+  tail-sound : (dropped : Option Record) (y : ℕ) (words : List ℕ) → sound_after (stored_word s (to Tail y)) (Answer.Accepted dropped) words ≡ true
   unfolding sound_after stored_word index pick
   tail-sound dropped y words = refl
 
@@ -232,11 +232,11 @@ module _ (p s : List ℕ) (d : Device) (r : Refusal) (w : Stays r) (k : Stuck p 
   head-sound y words = refl
 
   -- one that goes on isn't at rest
-  not_resting : {h : Handler} {n c : ℕ} {later : Handler} {dropped : Dropped} → Works v h n c later dropped → later ≡ Resting → zeros d.burst 8 ≡ true
+  not_resting : {h : Handler} {n c : ℕ} {later : Handler} {dropped : Option Record} → Works v h n c later dropped → later ≡ Resting → zeros d.burst 8 ≡ true
   not_resting works_storing e = impossible (cc)
   not_resting works_replacing e = impossible (cc)
 
-  handling_stuck : {h : Handler} {n c : ℕ} {later : Handler} {dropped : Dropped} (o : Outcome) → Works v h n c later dropped
+  handling_stuck : {h : Handler} {n c : ℕ} {later : Handler} {dropped : Option Record} (o : Outcome) → Works v h n c later dropped
       → HandlerMade p v d n c later dropped o → step p s d ≡ o → StuckAfter o
   unfolding apply queue_after is_refusal unless_refused zeros ◌and◌
   handling_stuck {n = n} {later = later} o g (record_made a (event_store i y l m)) is =

@@ -1,5 +1,6 @@
 -- Laws of the ring (specs/Store.antt), for any number of slots: how far it is from slot to slot, what a new tail and a new head do to the
 -- waiting records, and that the stores of records behind tail change none that waits. Slots are 0 to q. Assumes nothing.
+use Rattle.model.specs.Types.{Record}
 use Prim.Native.Nat.{ℕ, zero, suc, ◌+◌, ◌-◌, ◌*◌, ◌≤◌, ◌<◌}
 use mathlib.Core.Path.{◌≡◌, refl, sym, ap, subst, ◌∙◌}
 use mathlib.Core.Logic.{◌⊎◌, inl, inr, ◌≢◌}
@@ -18,7 +19,7 @@ use Rattle.model.specs.Burst.{records_at}
 use Rattle.model.specs.Control.{between}
 use Rattle.model.specs.Device.{record_stores}
 use Rattle.model.specs.Program.{word, events}
-use Rattle.model.specs.Store.{slot_after, forward, ring_word, distance, room, index, queue_at, slot, records_from, Record, Phase, Task, Open, Count, Pending, PendingOpen, Head, Tail, Begun, Memory, Address, Value, Event, Datum, Write, none, to}
+use Rattle.model.specs.Store.{slot_after, forward, ring_word, distance, room, index, queue_at, slot, records_from, Phase, Task, Open, Count, Pending, PendingOpen, Head, Tail, Begun, Memory, Address, Value, Event, Datum, Write, none, to}
 use Rattle.model.specs.Test.{pick, ◌and◌, ◌or◌}
 
 -- ---- what the definitions say, in plain arithmetic

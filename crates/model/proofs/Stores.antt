@@ -16,7 +16,7 @@ use Rattle.model.specs.Claims.{tells_store, StoreIsTold}
 use Rattle.model.specs.Device.{Outcome, choosing, step}
 use Rattle.model.specs.Program.{word, memory_words}
 use Rattle.model.specs.Store.{view, Word, Phase, Task, Open, Count, Pending, PendingOpen, Head, Tail, Begun, Memory, Address, Value, Event, Datum, index, Write, none, to}
-use Rattle.model.specs.Types.{Device, Dropped, Handler}
+use Rattle.model.specs.Types.{Device, Handler, Option, Record}
 
 -- the place of a word that is there
 inside-index : (m l q : ℕ) (s : List ℕ) → Sized m l q s → (w : Word) → Inside m l q w → index s w < length s
@@ -51,7 +51,7 @@ module _ (p s : List ℕ) (d : Device) (early : Looked p s d) where
     omega (arith, early.shaped.shaped.length_is, early.shaped.shaped.most_memory, early.shaped.shaped.sizes.most_pairs, early.shaped.shaped.sizes.most_records),
   )
 
-  handling_fine : {n c : ℕ} {later : Handler} {dropped : Dropped} (o : Outcome) → HandlerMade p (view s) d n c later dropped o → Fine p s o
+  handling_fine : {n c : ℕ} {later : Handler} {dropped : Option Record} (o : Outcome) → HandlerMade p (view s) d n c later dropped o → Fine p s o
   unfolding is_store tells_store
   handling_fine o (record_made a (event_store n r l m)) = (refl, falls (Event _) (slot_in (view s).head n early.control.tail_in a.room l))
   handling_fine o (record_made a (datum_store n r l m)) = (refl, falls (Datum _) (slot_in (view s).head n early.control.tail_in a.room l))

@@ -12,7 +12,7 @@ use native.Mathlib.Nat.{not-suc-le-zero, le_of_suc-le-suc, add-zero, add-suc, su
 use native.Mathlib.Numerals.{add-one}
 use native.Mathlib.Omega.{arith}
 use Rattle.model.specs.Test.{pick, ◌and◌, ◌or◌, must, ◌then◌, each}
-use Rattle.model.specs.Types.{Checked, Refusal}
+use Rattle.model.specs.Types.{Checked, Err, Ok, Refusal}
 
 -- ---- pick: one law for every proof about a branch
 
@@ -99,56 +99,56 @@ below_or {X = X} a b f g = go (ltb a b) refl
 
 -- ---- an accepted check
 
-pub must-true : {b : Bool} (r : Refusal) → b ≡ true → must b r ≡ Checked.Accepted
+pub must-true : {b : Bool} (r : Refusal) → b ≡ true → must b r ≡ Ok tt
 unfolding must
 must-true r e = rw e
 
-pub must-passed : (b : Bool) (r : Refusal) → must b r ≡ Checked.Accepted → b ≡ true
+pub must-passed : (b : Bool) (r : Refusal) → must b r ≡ Ok tt → b ≡ true
 unfolding must
 must-passed true r e = refl
 must-passed false r e = impossible (cc)
 
-pub then_passed : {a b : Checked} → a ≡ Checked.Accepted → b ≡ Checked.Accepted → (a then b) ≡ Checked.Accepted
+pub then_passed : {a b : Checked} → a ≡ Ok tt → b ≡ Ok tt → (a then b) ≡ Ok tt
 unfolding ◌then◌
 then_passed e f = rw (e, f)
 
-pub then_skip : {a : Checked} (b : Checked) → a ≡ Checked.Accepted → (a then b) ≡ b
+pub then_skip : {a : Checked} (b : Checked) → a ≡ Ok tt → (a then b) ≡ b
 unfolding ◌then◌
 then_skip b e = rw e
 
-pub then_first : (a b : Checked) → (a then b) ≡ Checked.Accepted → a ≡ Checked.Accepted
+pub then_first : (a b : Checked) → (a then b) ≡ Ok tt → a ≡ Ok tt
 unfolding ◌then◌
-then_first Checked.Accepted b e = refl
-then_first (Checked.Refused r) b e = e
+then_first (Ok tt) b e = refl
+then_first (Err r) b e = e
 
-pub then_rest : (a b : Checked) → (a then b) ≡ Checked.Accepted → b ≡ Checked.Accepted
+pub then_rest : (a b : Checked) → (a then b) ≡ Ok tt → b ≡ Ok tt
 unfolding ◌then◌
-then_rest Checked.Accepted b e = e
-then_rest (Checked.Refused r) b e = impossible (cc)
+then_rest (Ok tt) b e = e
+then_rest (Err r) b e = impossible (cc)
 
 -- a check that starts with a test
-pub must_then : (b : Bool) (r : Refusal) (y : Checked) → (must b r then y) ≡ Checked.Accepted → (b ≡ true) × (y ≡ Checked.Accepted)
+pub must_then : (b : Bool) (r : Refusal) (y : Checked) → (must b r then y) ≡ Ok tt → (b ≡ true) × (y ≡ Ok tt)
 must_then b r y e = (must-passed b r (then_first (must b r) y e), then_rest (must b r) y e)
 
-pub each-passed : (f : ℕ → Checked) (i k j : ℕ) → each f i k ≡ Checked.Accepted → j < k → f (i + j) ≡ Checked.Accepted
+pub each-passed : (f : ℕ → Checked) (i k j : ℕ) → each f i k ≡ Ok tt → j < k → f (i + j) ≡ Ok tt
 unfolding each
 each-passed f i zero j e h = absurd (not-suc-le-zero h)
 each-passed f i (suc k) zero e h = rw add-zero (then_first _ _ e)
 each-passed f i (suc k) (suc j) e h =
-    let r : f (suc i + j) ≡ Checked.Accepted = each-passed f (suc i) k j (then_rest _ _ e) (le_of_suc-le-suc h) in
+    let r : f (suc i + j) ≡ (Ok tt) = each-passed f (suc i) k j (then_rest _ _ e) (le_of_suc-le-suc h) in
     rw (add-suc i j, ← suc-add i j) r
 
 -- ---- checks in a row
 
 pub then_assoc : (a b c : Checked) → ((a then b) then c) ≡ (a then (b then c))
 unfolding ◌then◌
-then_assoc Checked.Accepted b c = refl
-then_assoc (Checked.Refused r) b c = refl
+then_assoc (Ok tt) b c = refl
+then_assoc (Err r) b c = refl
 
-pub then_accepted : (a : Checked) → (a then Checked.Accepted) ≡ a
+pub then_accepted : (a : Checked) → (a then (Ok tt)) ≡ a
 unfolding ◌then◌
-then_accepted Checked.Accepted = refl
-then_accepted (Checked.Refused r) = refl
+then_accepted (Ok tt) = refl
+then_accepted (Err r) = refl
 
 -- ---- a function that makes the checks
 
@@ -163,18 +163,18 @@ pub failed : {r t : Bool} → r ≡ t → not r ≡ true → t ≡ false
 failed {r} e h = sym e ∙ of-not-true r h
 
 -- its answer r, with what it gives where it accepts
-pub answered : {P : Type 0} {x r : Checked} → (x ≡ Checked.Accepted → P) → r ≡ x → (r ≡ x) × (r ≡ Checked.Accepted → P)
+pub answered : {P : Type 0} {x r : Checked} → (x ≡ Ok tt → P) → r ≡ x → (r ≡ x) × (r ≡ Ok tt → P)
 answered law e = (e, λ a. law (sym e ∙ a))
 
 -- a test at the end of a row, and one with more to come
-pub must_refuses : {b : Bool} (r : Refusal) → b ≡ false → Checked.Refused r ≡ must b r
+pub must_refuses : {b : Bool} (r : Refusal) → b ≡ false → Err r ≡ must b r
 unfolding must
 must_refuses r e = rw e
 
-pub must-accepts : {b : Bool} (r : Refusal) → b ≡ true → Checked.Accepted ≡ must b r
+pub must-accepts : {b : Bool} (r : Refusal) → b ≡ true → (Ok tt) ≡ must b r
 must-accepts r e = sym (must-true r e)
 
-pub must_stop : {b : Bool} (r : Refusal) (y : Checked) → b ≡ false → Checked.Refused r ≡ (must b r then y)
+pub must_stop : {b : Bool} (r : Refusal) (y : Checked) → b ≡ false → Err r ≡ (must b r then y)
 unfolding must ◌then◌
 must_stop r y e = rw e
 
@@ -182,11 +182,11 @@ pub must_go : {b : Bool} (r : Refusal) (y : Checked) → b ≡ true → y ≡ (m
 must_go r y e = sym (then_skip y (must-true r e))
 
 -- a check x with more to come, of which the answer is r
-pub then_stop : (x y : Checked) {r : Checked} {g : Refusal} → r ≡ x → r ≡ Checked.Refused g → r ≡ (x then y)
+pub then_stop : (x y : Checked) {r : Checked} {g : Refusal} → r ≡ x → r ≡ Err g → r ≡ (x then y)
 unfolding ◌then◌
 then_stop x y h t = rw (← h, t)
 
-pub then_go : (x y : Checked) {r : Checked} → r ≡ x → r ≡ Checked.Accepted → y ≡ (x then y)
+pub then_go : (x y : Checked) {r : Checked} → r ≡ x → r ≡ Ok tt → y ≡ (x then y)
 then_go x y h t = sym (then_skip y (sym h ∙ t))
 
 -- answers joined one by one, g after f and x, for the checks in a row: the last one, one before others, and the first
@@ -201,7 +201,7 @@ begin b h = ap (λ (z : Checked). z then b) h
 
 -- a loop through `each` that has come to check i of n
 module _ (f : ℕ → Checked) (n i : ℕ) where
-  pub each_none : n ≤ i → Checked.Accepted ≡ each f i (n - i)
+  pub each_none : n ≤ i → (Ok tt) ≡ each f i (n - i)
   unfolding each
   each_none h = let e : n - i ≡ 0 = omega arith in rw e
 
@@ -209,20 +209,20 @@ module _ (f : ℕ → Checked) (n i : ℕ) where
   unfolding each
   each-suc h = let e : n - i ≡ suc (n - (i + 1)) = omega arith in rw (e, add-one i)
 
-  pub each_stop : {r : Checked} {g : Refusal} → i < n → r ≡ f i → r ≡ Checked.Refused g → r ≡ each f i (n - i)
+  pub each_stop : {r : Checked} {g : Refusal} → i < n → r ≡ f i → r ≡ Err g → r ≡ each f i (n - i)
   each_stop h a t = rw (each-suc h) (then_stop _ _ a t)
 
-  pub each_go : {r : Checked} → i < n → r ≡ f i → r ≡ Checked.Accepted → each f (i + 1) (n - (i + 1)) ≡ each f i (n - i)
+  pub each_go : {r : Checked} → i < n → r ≡ f i → r ≡ Ok tt → each f (i + 1) (n - (i + 1)) ≡ each f i (n - i)
   each_go h a t = rw (each-suc h) (then_go _ _ a t)
 
 -- ---- what a check refuses with
 
 -- every refusal of the check c is a P
 pub record Refuses (P : Refusal → Type 0) (c : Checked) : Type 0 where
-  pub with_such : (r : Refusal) → c ≡ Checked.Refused r → P r
+  pub with_such : (r : Refusal) → c ≡ Err r → P r
 
 module _ {P : Refusal → Type 0} where
-  pub refuses_accepted : Refuses P Checked.Accepted
+  pub refuses_accepted : Refuses P (Ok tt)
   refuses_accepted = record { with_such = λ r e. impossible (cc) }
 
   pub refuses_must : (b : Bool) (r : Refusal) → (b ≡ false → P r) → Refuses P (must b r)
@@ -232,8 +232,8 @@ module _ {P : Refusal → Type 0} where
 
   pub refuses_then : (a b : Checked) → Refuses P a → Refuses P b → Refuses P (a then b)
   unfolding ◌then◌
-  refuses_then Checked.Accepted b f g = g
-  refuses_then (Checked.Refused r) b f g = f
+  refuses_then (Ok tt) b f g = g
+  refuses_then (Err r) b f g = f
 
   pub refuses_each : (f : ℕ → Checked) (i k : ℕ) → ((j : ℕ) → Refuses P (f j)) → Refuses P (each f i k)
   unfolding each

@@ -4,7 +4,6 @@ use Prim.Native.Nat.{ℕ, suc, ◌+◌}
 use mathlib.Core.Path.{◌≡◌, refl, sym, ap, subst, ◌∙◌}
 use mathlib.Core.Bool.{Bool, true, false}
 use mathlib.Core.List.{List, [], ◌∷◌, ◌++◌}
-use mathlib.Core.Option.{Option}
 use native.Mathlib.Nat.{zero-add}
 use native.Mathlib.Omega.{arith}
 use lib.ListN.{length}
@@ -21,7 +20,7 @@ use Rattle.model.specs.Serial.{Serial, given, serial, serial_start}
 use Rattle.model.specs.Store.{view, settled, formatted}
 use Rattle.model.specs.Test.{pick}
 use Rattle.model.specs.Turns.{begun_after, begun_from, begun_by, InTurn, TakesTurns, BodiesTakeTurns, HasItsTurn, BegunHasItsTurn}
-use Rattle.model.specs.Types.{Answer, Body, Device}
+use Rattle.model.specs.Types.{Answer, Body, Device, None, Option, Some}
 
 -- ---- a list's answers
 
@@ -51,17 +50,17 @@ none-counted false n e = (refl, e)
 
 -- ---- one call: the begun body stays begun unless it is committed
 
-same-begun : {b c : Body} {g : Option Body} → g ≡ Option.some b → g ≡ Option.some c → c ≡ b
-same-begun {b = b} {c = c} e f = let h : Option.some b ≡ Option.some c = sym e ∙ f in cc
+same-begun : {b c : Body} {g : Option Body} → g ≡ Some b → g ≡ Some c → c ≡ b
+same-begun {b = b} {c = c} e f = let h : Some b ≡ Some c = sym e ∙ f in cc
 
-begun_some : {X : Type 0} {b : Body} {g : Option Body} → g ≡ Option.some b → g ≡ Option.none → X
+begun_some : {X : Type 0} {b : Body} {g : Option Body} → g ≡ Some b → g ≡ None → X
 begun_some e f = impossible (ap (λ (g : Option Body). is_none g) (sym e ∙ f))
   where
     is_none : Option Body → ℕ
-    is_none Option.none = 1
-    is_none (Option.some b) = 0
+    is_none None = 1
+    is_none (Some b) = 0
 
-stays_begun : (z : Serial) (g : Option Body) (b : Body) (a : Answer) → g ≡ Option.some b → InTurn z g a → is_commit a ≡ false → begun_after g a ≡ Option.some b
+stays_begun : (z : Serial) (g : Option Body) (b : Body) (a : Answer) → g ≡ Some b → InTurn z g a → is_commit a ≡ false → begun_after g a ≡ Some b
 unfolding begun_after is_commit
 stays_begun z g b Answer.Done e t n = e
 stays_begun z g b (Answer.Chosen c) e t n = begun_some e t.0
@@ -86,8 +85,8 @@ module _ (p : List ℕ) (sound : Sound p) (l q : ℕ) where
       ∙ ap (λ (g : Option Body). begun_from g (history p (settled s o.write) o.device cs)) h.begins
 
   -- without a commit, the begun body stays begun
-  begun_through : (cs : List Call) (s : List ℕ) (d : Device) (z : Serial) (k : ℕ) → InvWords p l q s d z k → (b : Body) → begun_of (view s) ≡ Option.some b
-      → count_by is_commit (history p s d cs) ≡ 0 → begun_of (view (after_calls p s d cs).store) ≡ Option.some b
+  begun_through : (cs : List Call) (s : List ℕ) (d : Device) (z : Serial) (k : ℕ) → InvWords p l q s d z k → (b : Body) → begun_of (view s) ≡ Some b
+      → count_by is_commit (history p s d cs) ≡ 0 → begun_of (view (after_calls p s d cs).store) ≡ Some b
   unfolding history after_calls count_by
   begun_through [] s d z k i b e n = e
   begun_through (c ∷ cs) s d z k i b e n =
@@ -124,7 +123,7 @@ module _ (p : List ℕ) (l q : ℕ) (s : List ℕ) (f : Formatted p l q s) where
   unfolding serial
   take-turns cs = record { state = (kept cs).state; ran = (kept cs).ran (length cs) (omega arith); begun = begun_is cs; turn = next-turn cs }
 
-  module _ (cs later : List Call) (b : Body) (e : begun_by (history p fresh-store off cs) ≡ Option.some b)
+  module _ (cs later : List Call) (b : Body) (e : begun_by (history p fresh-store off cs) ≡ Some b)
       (n : count_by is_commit (history p fresh-store off (cs ++ later)) ≡ count_by is_commit (history p fresh-store off cs)) where
     abbrev now : Now
     now = reached p fresh-store cs
@@ -134,7 +133,7 @@ module _ (p : List ℕ) (l q : ℕ) (s : List ℕ) (f : Formatted p l q s) where
         let more = ap (count_by is_commit) (history-append p fresh-store off cs later) ∙ count-append is_commit (history p fresh-store off cs) _ in
         omega (arith, n, more)
 
-    still_begun : begun_by (history p fresh-store off (cs ++ later)) ≡ Option.some b
+    still_begun : begun_by (history p fresh-store off (cs ++ later)) ≡ Some b
     still_begun =
         sym (begun_is (cs ++ later))
         ∙ ap (λ (x : Now). begun_of (view x.store)) (after_append p fresh-store off cs later)

@@ -4,7 +4,6 @@
 use Prim.Native.Nat.{ℕ, zero, suc, ◌+◌, ◌-◌, ◌*◌, ◌^◌, ◌≤◌, ◌<◌}
 use mathlib.Core.Path.{◌≡◌, refl, subst, ◌∙◌}
 use mathlib.Core.Bool.{Bool, true, false}
-use mathlib.Core.Option.{Option}
 use mathlib.Core.List.{List, [], ◌∷◌, ◌++◌}
 use native.Mathlib.Nat.{div-le_self}
 use native.Mathlib.Omega.{arith}
@@ -26,8 +25,8 @@ use Rattle.model.specs.Calls.{Call, Boot, Step, Cut, Post, call}
 use Rattle.model.specs.Claims.{TypedWords, TypedBody, TypedPlace, TypedHandler, ZeroBehind, TypedDevice, TypedRecords, TypedCall, WordsStayWords, FormatStaysWords}
 use Rattle.model.specs.Device.{Outcome, judged, fresh, turned_on, with_place, with_handler, kind_of, current_task, oldest_event, begun_of, data_for, started, taken_up, boot, cut, post_check, post, burst_length, choosing, shown, step, set_to_work}
 use Rattle.model.specs.Program.{word, memory_words, transaction, body_number, operand, instruction_table, decode, signed, unsigned, shifted, reg, effect, effect_at, new_open}
-use Rattle.model.specs.Store.{Store, view, Record, slot, slot_after, memory_at, log_at, queue_at, index, Write, none, to, settled, store_mark, store_contents, store_length, sizes_rule, formatted, format_check, format_store, format}
-use Rattle.model.specs.Types.{Body, Checked, Device, Effect, Found, Free, Handler, Instruction, Place, Resting, Run, Dropped, Replacing}
+use Rattle.model.specs.Store.{Store, view, slot, slot_after, memory_at, log_at, queue_at, index, Write, none, to, settled, store_mark, store_contents, store_length, sizes_rule, formatted, format_check, format_store, format}
+use Rattle.model.specs.Types.{Body, Checked, Device, Effect, Err, Free, Handler, Instruction, None, Ok, Option, Place, Record, Replacing, Resting, Run, Some}
 
 -- ---- lists of words
 
@@ -334,10 +333,10 @@ module _ (p s : List ℕ) (d : Device) (ps : TypedWords p) (ss : TypedWords s) (
   loaded_words b j a x bs next xs =
       with_place-words (set d.registers a x) (Run b (j + 1) 0) d.count (length-set d.registers a x ∙ ds.registers_length) (words-set d.registers a x ds.registers xs) (bs, (next, omega arith)) ds.count
 
-  shown-words : (f : Found) (a : ℕ) → shown v f a < 2 ^ 16
+  shown-words : (f : Option ℕ) (a : ℕ) → shown v f a < 2 ^ 16
   unfolding shown
-  shown-words (Found.Pair i) a = log-words (2 * i + 1)
-  shown-words Found.Nothing a = memory-words a
+  shown-words (Some i) a = log-words (2 * i + 1)
+  shown-words None a = memory-words a
 
   open_words : (t k : ℕ) → new_open (transaction p t) (transaction p k) < 2 ^ 16
   unfolding new_open
@@ -362,13 +361,13 @@ module _ (p s : List ℕ) (d : Device) (ps : TypedWords p) (ss : TypedWords s) (
     onward_words {c} h =
         went-words (Free (c + 1)) (omega (arith, h.left, most-last v, early.control.count_in h.phase, early.shaped.shaped.sizes.most_pairs))
 
-    later_words : {h : Handler} {n c : ℕ} {later : Handler} {dropped : Dropped} → Works v h n c later dropped → d.handler ≡ h → c + 1 < 2 ^ 16
+    later_words : {h : Handler} {n c : ℕ} {later : Handler} {dropped : Option Record} → Works v h n c later dropped → d.handler ≡ h → c + 1 < 2 ^ 16
         → TypedHandler later × ZeroBehind later d.burst
     unfolding burst_length
     later_words works_storing q next = (((subst TypedHandler q ds.handler).0, next), subst (λ (h : Handler). ZeroBehind h d.burst) q ds.unused)
     later_words works_replacing q next = (next, subst (λ (h : Handler). ZeroBehind h d.burst) q ds.unused)
 
-    handler-words : {h : Handler} {n c : ℕ} {later : Handler} {dropped : Dropped} → d.handler ≡ h → Works v h n c later dropped → (o : Outcome)
+    handler-words : {h : Handler} {n c : ℕ} {later : Handler} {dropped : Option Record} → d.handler ≡ h → Works v h n c later dropped → (o : Outcome)
         → HandlerMade p v d n c later dropped o → TypedOutcome o
     handler-words {n = n} {c = c} q w o (record_made a s) =
         let (typed, unused) = later_words w q next in
@@ -463,5 +462,5 @@ unfolding format format_store
 format_stays_words p l q s ps ss = go (format_check p l q s) refl
   where
     go : (x : Checked) → format_check p l q s ≡ x → TypedWords (format_store x s (formatted p l q))
-    go Checked.Accepted e = let f = format-passed p l q s e in formatted-words p f.sound l q f.sizes ps
-    go (Checked.Refused r) e = ss
+    go (Ok tt) e = let f = format-passed p l q s e in formatted-words p f.sound l q f.sizes ps
+    go (Err r) e = ss

@@ -6,8 +6,8 @@ use Rattle.model.specs.Burst.{carried}
 use Rattle.model.specs.Check.{contents_rule, rows_inside_rule, row_usable, instruction_rule, check}
 use Rattle.model.specs.Device.{record_stores, last_stores, kind_of, end_stores, zeros, look, head_sound, named_row, open_sound, head_is, place_fits}
 use Rattle.model.specs.Program.{word, tasks, events, memory_words, entry, total, bodies, start, instructions, bodies_start, opcode, field_a, field_b, code, operand, decode, effect_at, body_number}
-use Rattle.model.specs.Store.{Store, view, memory_at, log_at, queue_at, store_length, Record, slot_after, distance}
-use Rattle.model.specs.Types.{Body, Checked, Device, Dropping, Effect, Free, Half, Handler, Instruction, Place, Replacing, Resting, Run, Storing}
+use Rattle.model.specs.Store.{Store, view, memory_at, log_at, queue_at, store_length, slot_after, distance}
+use Rattle.model.specs.Types.{Body, Device, Dropping, Effect, Free, Half, Handler, Instruction, Ok, Place, Record, Replacing, Resting, Run, Storing}
 
 -- ---- the program's contents: `contents_rule`
 
@@ -96,13 +96,13 @@ pub record Legal (p : List ℕ) (i j : ℕ) : Type 0 where
 -- ---- the whole program: `check`. What a step asks of it again is accepted.
 
 pub record Sound (p : List ℕ) : Type 0 where
-  pub passed : check p ≡ Checked.Accepted
-  pub head : contents_rule p ≡ Checked.Accepted
-  pub inside : rows_inside_rule p ≡ Checked.Accepted
+  pub passed : check p ≡ Ok tt
+  pub head : contents_rule p ≡ Ok tt
+  pub inside : rows_inside_rule p ≡ Ok tt
   pub rows : RowsInside p
-  pub row : (i : ℕ) → i < bodies p → row_usable p i ≡ Checked.Accepted
+  pub row : (i : ℕ) → i < bodies p → row_usable p i ≡ Ok tt
   pub some_instruction : (i : ℕ) → i < bodies p → 0 < instructions p i
-  pub rule : (i j : ℕ) → i < bodies p → j < instructions p i → instruction_rule p i j ≡ Checked.Accepted
+  pub rule : (i j : ℕ) → i < bodies p → j < instructions p i → instruction_rule p i j ≡ Ok tt
   pub legal : (i j : ℕ) (r : List ℕ) → i < bodies p → j < instructions p i → LegalEffect p i j (effect_at p i j r)
 
 -- ---- 6, the store's contents: `store_rule`
@@ -207,7 +207,7 @@ Attends p v burst handler = AttendsBy p v.queue_records v.phase v.head v.tail v.
 -- ---- what step and post look at: `look`
 
 pub record Looked (p s : List ℕ) (d : Device) : Type 0 where
-  pub passed : look p s d ≡ Checked.Accepted
+  pub passed : look p s d ≡ Ok tt
   pub contents : Contents p
   pub shaped : ShapedFor p s
   pub control : Controlled p (view s)
@@ -219,12 +219,12 @@ pub record Looked (p s : List ℕ) (d : Device) : Type 0 where
 -- ---- body b at a place, whose instruction j does f: `body_sound`
 
 pub record BodyIs (p : List ℕ) (v : Store) (place : Place) (b : Body) (j : ℕ) (f : Effect) : Type 0 where
-  pub head_record : head_sound p v b ≡ Checked.Accepted
-  pub rows_inside : rows_inside_rule p ≡ Checked.Accepted
+  pub head_record : head_sound p v b ≡ Ok tt
+  pub rows_inside : rows_inside_rule p ≡ Ok tt
   pub row : UsableRow p (body_number p b)
   pub there : j < instructions p (body_number p b)
-  pub rule : instruction_rule p (body_number p b) j ≡ Checked.Accepted
-  pub named : named_row p f ≡ Checked.Accepted
-  pub open_sound_lem : open_sound p v b ≡ Checked.Accepted
-  pub head_is_lem : head_is v b ≡ true
+  pub rule : instruction_rule p (body_number p b) j ≡ Ok tt
+  pub named : named_row p f ≡ Ok tt
+  pub open_number_sound : open_sound p v b ≡ Ok tt
+  pub head_record_is : head_is v b ≡ true
   pub fits : place_fits place f ≡ true

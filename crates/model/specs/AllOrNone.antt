@@ -1,15 +1,14 @@
 -- N6, "Several events or none": what is claimed of bursts, beside demand 3, for any list of calls on a fresh store; proofs/ proves it.
 -- Which bursts came in is read from calls and answers alone.
 use Rattle.std.specs.Prelude.{ℕ, ◌≡◌, ◌⊎◌, true, List, [], ◌∷◌, ◌++◌, length}
-use Rattle.std.proofs.Math.Option.{some}
 use Rattle.model.specs.Burst.{is_burst}
 use Rattle.model.specs.Calls.{Call, Boot, Step, Cut, Post, Line, history, unless_refused, is_accept}
 use Rattle.model.specs.Demand3.{reached, recovering, steps_to_recover}
 use Rattle.model.specs.Device.{off}
 use Rattle.model.specs.Serial.{Serial, given, serial}
-use Rattle.model.specs.Store.{Record, view, waiting, format_check, format}
+use Rattle.model.specs.Store.{view, waiting, format_check, format}
 use Rattle.model.specs.Test.{pick}
-use Rattle.model.specs.Types.{Answer, Body, Checked}
+use Rattle.model.specs.Types.{Answer, Body, Ok, Record, Some}
 
 -- ---- the burst on its way: what a post answered done carried, until an answer accepted, a cut or a boot
 
@@ -90,14 +89,14 @@ pub record ComeWhole (p : List ℕ) (l q : ℕ) (s : List ℕ) (cs : List Call) 
   -- of those that left, the committed ones have the events of the answers, and the dropped ones are those that the serial run dropped
   pub committed : events_of (committed_of gone) ≡ committed_events (history p s off cs)
   pub state : Serial
-  pub ran : serial (length cs) (given p l q) (history p s off cs) ≡ some state
+  pub ran : serial (length cs) (given p l q) (history p s off cs) ≡ Some state
   pub dropped : dropped_of gone ≡ state.posting.dropped
   -- and that wait after recovery
   pub recovered : waiting (view (recovering p s cs (steps_to_recover p s cs))) ≡ waiting (view (reached p s cs).store)
 
 abbrev pub BurstsComeWhole : Type 0
 BurstsComeWhole =
-    (p : List ℕ) (l q : ℕ) (s : List ℕ) → format_check p l q s ≡ Checked.Accepted → (cs : List Call) → ComeWhole p l q (format p l q s) cs
+    (p : List ℕ) (l q : ℕ) (s : List ℕ) → format_check p l q s ≡ Ok tt → (cs : List Call) → ComeWhole p l q (format p l q s) cs
 
 -- ---- Of one burst: with rs on its way, and whatever calls and answers follow, it comes in next and whole, or what comes in is as if it hadn't been
 -- posted. (One that drops a record may have dropped it and then be cut off.)

@@ -1,9 +1,9 @@
 -- N6, "Several events or none": a burst of records, as a post carries it and as a handler keeps it in eight words.
 use Rattle.std.specs.Prelude.{ℕ, zero, suc, Bool, true, List, [], ◌∷◌, ◌++◌, ltb, leb, length, replicate, take}
 use Rattle.model.specs.Program.{events}
-use Rattle.model.specs.Store.{Record, slot}
+use Rattle.model.specs.Store.{slot}
 use Rattle.model.specs.Test.{◌and◌, must, ◌then◌}
-use Rattle.model.specs.Types.{Checked, Refusal}
+use Rattle.model.specs.Types.{Checked, Ok, Record, Refusal}
 
 -- "A burst of one to four events"
 unfoldable pub is_burst : List Record → Bool
@@ -44,5 +44,5 @@ known_events p (first ∷ rs) = ltb first.event (events p) and known_events p rs
 
 -- "It meets 8 at its first bad event (place: position from 0)": the records from position i on
 unfoldable pub events_rule : List ℕ → ℕ → List Record → Checked
-events_rule p i [] = Checked.Accepted
+events_rule p i [] = Ok tt
 events_rule p i (first ∷ rs) = must (ltb first.event (events p)) (Refusal.NoEvent i) then events_rule p (suc i) rs

@@ -1,6 +1,5 @@
 -- Worked rows of what calls do: single steps, lists of calls, totals, runs, recovery; the numbers of the refusals; the serial run.
 use Rattle.std.specs.Prelude.{ℕ, Bool, true, false, List, [], ◌∷◌, ◌++◌, map, replicate, set}
-use Rattle.std.proofs.Math.Option.{Option}
 use Rattle.model.specs.Answer.{RefusalNumber, refusal}
 use Rattle.model.specs.AllOrNone.{came_in, committed_events, events_of, joined, Gone, was_committed, was_dropped, gone_records, committed_of, dropped_of}
 use Rattle.model.specs.Burst.{burst_words, carried, single}
@@ -11,9 +10,9 @@ use Rattle.model.specs.Device.{Outcome, out, refuse, begun_of, boot, cut, post, 
 use Rattle.model.specs.Program.{new_open}
 use Rattle.model.specs.Serial.{Serial, given, serial, serial_start, with_records}
 use Rattle.model.specs.Starred.{counting}
-use Rattle.model.specs.Store.{Record, view, room, waiting, Word, Phase, Task, Open, Count, Pending, PendingOpen, Head, Tail, Begun, Memory, Address, Value, Event, Datum, none, to, index, settled, formatted}
+use Rattle.model.specs.Store.{view, room, waiting, Word, Phase, Task, Open, Count, Pending, PendingOpen, Head, Tail, Begun, Memory, Address, Value, Event, Datum, none, to, index, settled, formatted}
 use Rattle.model.specs.Turns.{begun_by, next_body}
-use Rattle.model.specs.Types.{Answer, Body, Device, Dropped, Dropping, Ended, Free, Half, Handler, Refusal, Replacing, Resting, Run, Storing, Totals}
+use Rattle.model.specs.Types.{Answer, Body, Checked, Device, Dropping, Err, Free, Half, Handler, None, Ok, Option, Record, Refusal, Replacing, Resting, Run, Some, Storing, Totals}
 use Rattle.model.specs.ProgramRows.{stores_word}
 use Rattle.model.specs.Sample.{Row, ◌⇒◌, accepted, at, cleared, closed, controls, device_with, event1, event_begun, event_commit, off_value, on_value, opened, registers, sample, task1, task_begun, task_commit, two_pairs, with_instruction, working, working_as}
 use Rattle.model.specs.StateRows.{wrong_open}
@@ -86,8 +85,8 @@ outcomes =
     ∷ step sample (set full_at2 29 2) (about_to_drop (at (task1 2))) ⇒ out (to Head 3) (replacing (at (task1 2)) 0) Answer.Stored
     ∷ step sample (set full_at2 14 3) (replacing (at (task1 2)) 0) ⇒ out (to (Event 1) 1) (replacing (at (task1 2)) 1) Answer.Stored
     ∷ step sample (set full_at2 14 3) (replacing (at (task1 2)) 1) ⇒ out (to (Datum 1) 66) (replacing (at (task1 2)) 2) Answer.Stored
-    ∷ step sample (set full_at2 14 3) (replacing (at (task1 2)) 2) ⇒ out (to Tail 2) (at (task1 2)) (Answer.Accepted (Dropped.Record 0 52))
-    ∷ step sample (controls 0 1 8 0 0 0 0 2) (replacing on_value 2) ⇒ out (to Tail 3) on_value (Answer.Accepted (Dropped.Record 1 53))
+    ∷ step sample (set full_at2 14 3) (replacing (at (task1 2)) 2) ⇒ out (to Tail 2) (at (task1 2)) (Answer.Accepted (Some (holds 0 52)))
+    ∷ step sample (controls 0 1 8 0 0 0 0 2) (replacing on_value 2) ⇒ out (to Tail 3) on_value (Answer.Accepted (Some (holds 1 53)))
     -- "then n copies, 9 from 12, 10 from 13, 8 becomes 0"; N4: "Commits store 0 in it just before the last store", over a 0 too
     ∷ step sample task_commit (at (Free 0)) ⇒ stores_word (Memory 2) 777 (Free 1)
     ∷ step sample task_commit (at (Free 1)) ⇒ stores_word (Memory 3) 888 (Free 2)
@@ -287,8 +286,8 @@ replaced = filled ++ posted 1 53 ++ Step ∷ posted 0 54 ++ steps 2 ++ Post (sin
 abbrev replaces_all : List Answer
 replaces_all =
     Answer.Done ∷ is_accepted ++ is_accepted ++ is_accepted
-    ++ Answer.Done ∷ replicate 3 Answer.Stored ++ Answer.Accepted (Dropped.Record 0 50)
-    ∷ Answer.Done ∷ replicate 3 Answer.Stored ++ Answer.Accepted (Dropped.Record 1 51)
+    ++ Answer.Done ∷ replicate 3 Answer.Stored ++ Answer.Accepted (Some (holds 0 50))
+    ∷ Answer.Done ∷ replicate 3 Answer.Stored ++ Answer.Accepted (Some (holds 1 51))
     ∷ Answer.Chosen (Body.Event 0) ∷ Answer.Refused Refusal.QueueFull ∷ []
 
 abbrev is_full : List Answer
@@ -384,7 +383,7 @@ countings =
     counted_of (Storing 1 2) (totals 5 60 700) commit_store ⇒ totals 6 60 701
     ∷ counted_of (Storing 1 2) (totals 5 60 700) (out (to Phase 2) on_value (Answer.Committed (Body.Event 1))) ⇒ totals 6 60 701
     ∷ counted_of (Storing 1 2) (totals 5 60 700) tail_store ⇒ totals 5 61 701
-    ∷ counted_of (Replacing 2) (totals 5 60 700) (out (to Tail 1) on_value (Answer.Accepted (Dropped.Record 0 52))) ⇒ totals 5 61 701
+    ∷ counted_of (Replacing 2) (totals 5 60 700) (out (to Tail 1) on_value (Answer.Accepted (Some (holds 0 52)))) ⇒ totals 5 61 701
     ∷ counted_of Dropping (totals 5 60 700) (out (to Head 1) on_value Answer.Stored) ⇒ totals 5 60 701
     -- N6: "The accepted total rises by the burst's length"
     ∷ counted_of (Storing 3 6) (totals 5 60 700) tail_store ⇒ totals 5 63 701
@@ -405,7 +404,7 @@ countings =
 
 -- ---- Run
 
-abbrev ran : ℕ → Ended → List ℕ → Device → Totals → RunOutcome
+abbrev ran : ℕ → Checked → List ℕ → Device → Totals → RunOutcome
 ran n e s d t = record { steps = n; ended = e; store = s; device = d; totals = t }
 
 -- a freshly formatted store with other control words, memory, log and ring
@@ -429,25 +428,25 @@ task_ended = words (0 ∷ 2 ∷ 8 ∷ 1 ∷ 2 ∷ 8 ∷ 1 ∷ 1 ∷ 0 ∷ []) (5
 abbrev runs_wrong : ℕ → RunOutcome
 runs_wrong budget = run (with_instruction 0x0A31 0) budget (formatted sample 2 3) on_value (totals 10 20 30)
 
-abbrev at_load : Ended → RunOutcome
+abbrev at_load : Checked → RunOutcome
 at_load e =
     ran 4 e (words (0 ∷ 1 ∷ 0 ∷ 0 ∷ 0 ∷ 0 ∷ 0 ∷ 0 ∷ 1 ∷ []) (replicate 6 0) (4 ∷ 9 ∷ 0 ∷ 0 ∷ []) (replicate 8 0))
     (device_with true (set cleared 1 9) (task1 2) 1 Resting) (totals 10 20 33)
 
 unfoldable pub run_rows : List (Row RunOutcome)
 run_rows =
-    runs 3 ⇒ ran 3 Ended.Spent event_accepted on_value (totals 0 1 3)
-    ∷ runs 13 ⇒ ran 13 Ended.Spent event_served on_value (totals 1 1 13)
-    ∷ runs 27 ⇒ ran 27 Ended.Spent task_ended on_value (totals 2 1 25)
+    runs 3 ⇒ ran 3 (Ok tt) event_accepted on_value (totals 0 1 3)
+    ∷ runs 13 ⇒ ran 13 (Ok tt) event_served on_value (totals 1 1 13)
+    ∷ runs 27 ⇒ ran 27 (Ok tt) task_ended on_value (totals 2 1 25)
     -- "the count of steps made, with spent or the refusal"
-    ∷ runs_wrong 4 ⇒ at_load Ended.Spent
-    ∷ runs_wrong 99 ⇒ at_load (Ended.Refused Refusal.Address)
-    ∷ run sample 99 opened off_value (totals 10 20 30) ⇒ ran 0 (Ended.Refused Refusal.PowerOff) opened off_value (totals 10 20 30)
+    ∷ runs_wrong 4 ⇒ at_load (Ok tt)
+    ∷ runs_wrong 99 ⇒ at_load (Err Refusal.Address)
+    ∷ run sample 99 opened off_value (totals 10 20 30) ⇒ ran 0 (Err Refusal.PowerOff) opened off_value (totals 10 20 30)
     -- in a commit that is about to make its last store, and whose word 16 isn't 0: the step after it meets 25
     ∷ run sample 99 (task_begun task_commit) (at (Free 5)) (totals 10 20 30)
-    ⇒ ran 1 (Ended.Refused Refusal.State) (set (task_begun task_commit) 8 0) on_value (totals 10 20 31)
+    ⇒ ran 1 (Err Refusal.State) (set (task_begun task_commit) 8 0) on_value (totals 10 20 31)
     -- "a budget of 0 looks at nothing and returns spent"
-    ∷ run [] 0 [] off_value (totals 10 20 30) ⇒ ran 0 Ended.Spent [] off_value (totals 10 20 30)
+    ∷ run [] 0 [] off_value (totals 10 20 30) ⇒ ran 0 (Ok tt) [] off_value (totals 10 20 30)
     ∷ []
 
 -- ---- Recovery: "a cut, a boot, then steps while the phase isn't 0"
@@ -529,15 +528,15 @@ pub data Summary : Type 0 where
   -- memory, current task, open number, records
   holding : List ℕ → ℕ → ℕ → List Record → Summary
   -- N7: with what was dropped for the latest post, and all that were dropped
-  dropping : List Record → Dropped → List Record → Summary
+  dropping : List Record → Option Record → List Record → Summary
 
 unfoldable pub summary : Option Serial → Summary
-summary Option.none = stopped
-summary (Option.some z) = holding z.memory z.task z.open_number z.records
+summary None = stopped
+summary (Some z) = holding z.memory z.task z.open_number z.records
 
 unfoldable pub drops : Option Serial → Summary
-drops Option.none = stopped
-drops (Option.some z) = dropping z.records z.posting.dropped_for z.posting.dropped
+drops None = stopped
+drops (Some z) = dropping z.records z.posting.dropped_for z.posting.dropped
 
 -- what the serial run makes of lines, with this much fuel, of another program, and of a list of calls with the device's answers
 abbrev serially : ℕ → List ℕ → List Line → Summary
@@ -630,24 +629,24 @@ serial_runs =
     ∷ serially 5 counting (commits (Body.Task 0) ++ commits (Body.Task 0)) ⇒ holding (2 ∷ 0 ∷ []) 0 0 []
     -- N7: "drops its oldest record at a stored answer when the last call before it that wasn't refused is a post that found Q records": at one stored
     -- answer, behind refused calls too; not where a cut, a boot or another step came between, nor where the post found fewer
-    ∷ drops_of (is_filled ++ posts 1 53) ⇒ dropping (holds 0 50 ∷ holds 1 51 ∷ holds 0 52 ∷ []) Dropped.Nothing []
-    ∷ drops_of (is_filled ++ posts 1 53 ++ stores) ⇒ dropping (holds 1 51 ∷ holds 0 52 ∷ []) (Dropped.Record 0 50) (holds 0 50 ∷ [])
+    ∷ drops_of (is_filled ++ posts 1 53) ⇒ dropping (holds 0 50 ∷ holds 1 51 ∷ holds 0 52 ∷ []) None []
+    ∷ drops_of (is_filled ++ posts 1 53 ++ stores) ⇒ dropping (holds 1 51 ∷ holds 0 52 ∷ []) (Some (holds 0 50)) (holds 0 50 ∷ [])
     ∷ drops_of (is_filled ++ posts 1 53 ++ refused_post ++ line Boot (Answer.Refused Refusal.PowerOn) ++ stores)
-    ⇒ dropping (holds 1 51 ∷ holds 0 52 ∷ []) (Dropped.Record 0 50) (holds 0 50 ∷ [])
-    ∷ drops_of (is_filled ++ posts 1 53 ++ stores ++ stores ++ line Step (Answer.Accepted (Dropped.Record 0 50)))
-    ⇒ dropping (holds 1 51 ∷ holds 0 52 ∷ holds 1 53 ∷ []) (Dropped.Record 0 50) (holds 0 50 ∷ [])
-    ∷ drops_of (is_filled ++ posts 1 53 ++ line Cut Answer.Done ++ stores) ⇒ dropping (holds 0 50 ∷ holds 1 51 ∷ holds 0 52 ∷ []) Dropped.Nothing []
-    ∷ drops_of (is_filled ++ posts 1 53 ++ line Boot Answer.Done ++ stores) ⇒ dropping (holds 0 50 ∷ holds 1 51 ∷ holds 0 52 ∷ []) Dropped.Nothing []
-    ∷ drops_of (is_filled ++ posts 1 53 ++ line Step Answer.Worked ++ stores) ⇒ dropping (holds 0 50 ∷ holds 1 51 ∷ holds 0 52 ∷ []) Dropped.Nothing []
+    ⇒ dropping (holds 1 51 ∷ holds 0 52 ∷ []) (Some (holds 0 50)) (holds 0 50 ∷ [])
+    ∷ drops_of (is_filled ++ posts 1 53 ++ stores ++ stores ++ line Step (Answer.Accepted (Some (holds 0 50))))
+    ⇒ dropping (holds 1 51 ∷ holds 0 52 ∷ holds 1 53 ∷ []) (Some (holds 0 50)) (holds 0 50 ∷ [])
+    ∷ drops_of (is_filled ++ posts 1 53 ++ line Cut Answer.Done ++ stores) ⇒ dropping (holds 0 50 ∷ holds 1 51 ∷ holds 0 52 ∷ []) None []
+    ∷ drops_of (is_filled ++ posts 1 53 ++ line Boot Answer.Done ++ stores) ⇒ dropping (holds 0 50 ∷ holds 1 51 ∷ holds 0 52 ∷ []) None []
+    ∷ drops_of (is_filled ++ posts 1 53 ++ line Step Answer.Worked ++ stores) ⇒ dropping (holds 0 50 ∷ holds 1 51 ∷ holds 0 52 ∷ []) None []
     ∷ drops_of (is_filled ++ posts 1 53 ++ line Step (Answer.Chosen (Body.Task 1)) ++ stores)
-    ⇒ dropping (holds 0 50 ∷ holds 1 51 ∷ holds 0 52 ∷ []) Dropped.Nothing []
-    ∷ drops_of (is_filled ++ posts 1 53 ++ commits (Body.Event 0) ++ stores) ⇒ dropping (holds 1 51 ∷ holds 0 52 ∷ []) Dropped.Nothing []
-    ∷ drops_of (accepts 0 50 ++ posts 1 53 ++ stores) ⇒ dropping (holds 0 50 ∷ []) Dropped.Nothing []
+    ⇒ dropping (holds 0 50 ∷ holds 1 51 ∷ holds 0 52 ∷ []) None []
+    ∷ drops_of (is_filled ++ posts 1 53 ++ commits (Body.Event 0) ++ stores) ⇒ dropping (holds 1 51 ∷ holds 0 52 ∷ []) None []
+    ∷ drops_of (accepts 0 50 ++ posts 1 53 ++ stores) ⇒ dropping (holds 0 50 ∷ []) None []
     ∷ drops_of (is_filled ++ posts 1 53 ++ stores ++ line Cut Answer.Done ++ posts 0 54)
-    ⇒ dropping (holds 1 51 ∷ holds 0 52 ∷ []) Dropped.Nothing (holds 0 50 ∷ [])
-    ∷ drops_of_calls replaced ⇒ dropping (holds 0 52 ∷ holds 1 53 ∷ holds 0 54 ∷ []) (Dropped.Record 1 51) (holds 0 50 ∷ holds 1 51 ∷ [])
+    ⇒ dropping (holds 1 51 ∷ holds 0 52 ∷ []) None (holds 0 50 ∷ [])
+    ∷ drops_of_calls replaced ⇒ dropping (holds 0 52 ∷ holds 1 53 ∷ holds 0 54 ∷ []) (Some (holds 1 51)) (holds 0 50 ∷ holds 1 51 ∷ [])
     -- a cut after the head store: the old record is dropped and the new one not accepted
-    ∷ drops_of_calls (filled ++ Post (single 1 53) ∷ Step ∷ Cut ∷ Boot ∷ []) ⇒ dropping (holds 1 51 ∷ holds 0 52 ∷ []) (Dropped.Record 0 50) (holds 0 50 ∷ [])
+    ∷ drops_of_calls (filled ++ Post (single 1 53) ∷ Step ∷ Cut ∷ Boot ∷ []) ⇒ dropping (holds 1 51 ∷ holds 0 52 ∷ []) (Some (holds 0 50)) (holds 0 50 ∷ [])
     -- "All else, cuts and refusals too, changes nothing": the device's own answers
     ∷ from_calls (refilled ++ steps 20 ++ Cut ∷ Boot ∷ []) ⇒ holding (52 ∷ 0 ∷ 0 ∷ 0 ∷ 0 ∷ 51 ∷ []) 1 0 (holds 1 53 ∷ [])
     ∷ from_calls (transaction_calls ++ steps 18 ++ Post (single 1 51) ∷ Cut ∷ Step ∷ []) ⇒ holding after_task1 3 8 (holds 0 50 ∷ [])
@@ -660,16 +659,16 @@ chooses b = line Step (Answer.Chosen b)
 
 unfoldable pub begun_bodies : List (Row (Option Body))
 begun_bodies =
-    begun_by (accepts 0 50) ⇒ Option.none
-    ∷ begun_by (chooses (Body.Task 1)) ⇒ Option.some (Body.Task 1)
+    begun_by (accepts 0 50) ⇒ None
+    ∷ begun_by (chooses (Body.Task 1)) ⇒ Some (Body.Task 1)
     ∷ begun_by (chooses (Body.Event 1) ++ accepts 0 50 ++ refused_post ++ line Step Answer.Worked ++ line Step Answer.Stored ++ line Cut Answer.Done ++ line Boot Answer.Done)
-    ⇒ Option.some (Body.Event 1)
-    ∷ begun_by (chooses (Body.Task 1) ++ commits (Body.Task 1)) ⇒ Option.none
-    ∷ begun_by (chooses (Body.Task 1) ++ commits (Body.Task 1) ++ line Step Answer.Stored ++ chooses (Body.Task 2)) ⇒ Option.some (Body.Task 2)
+    ⇒ Some (Body.Event 1)
+    ∷ begun_by (chooses (Body.Task 1) ++ commits (Body.Task 1)) ⇒ None
+    ∷ begun_by (chooses (Body.Task 1) ++ commits (Body.Task 1) ++ line Step Answer.Stored ++ chooses (Body.Task 2)) ⇒ Some (Body.Task 2)
     -- the store has it, cut or no cut
-    ∷ begun_of (view (left (refilled ++ Step ∷ [])).store) ⇒ Option.some (Body.Event 1)
-    ∷ begun_of (view (left (refilled ++ Step ∷ Cut ∷ [])).store) ⇒ Option.some (Body.Event 1)
-    ∷ begun_of (view (left (refilled ++ steps 6)).store) ⇒ Option.none
+    ∷ begun_of (view (left (refilled ++ Step ∷ [])).store) ⇒ Some (Body.Event 1)
+    ∷ begun_of (view (left (refilled ++ Step ∷ Cut ∷ [])).store) ⇒ Some (Body.Event 1)
+    ∷ begun_of (view (left (refilled ++ steps 6)).store) ⇒ None
     ∷ []
 
 abbrev in_state : ℕ → List Record → Serial

@@ -1,9 +1,9 @@
 -- Document 01: a list of calls, run, the host's totals, and uncut recovery.
 use Rattle.std.specs.Prelude.{ℕ, zero, suc, ◌+◌, ◌-◌, ◌^◌, min, Bool, true, false, List, [], ◌∷◌, eqb}
 use Rattle.model.specs.Device.{Outcome, boot, cut, post, burst_length, step}
-use Rattle.model.specs.Store.{view, Record, Write, none, to, settled}
+use Rattle.model.specs.Store.{view, Write, none, to, settled}
 use Rattle.model.specs.Test.{pick}
-use Rattle.model.specs.Types.{Answer, Device, Ended, Handler, Refusal, Totals}
+use Rattle.model.specs.Types.{Answer, Checked, Device, Err, Handler, Ok, Record, Refusal, Totals}
 
 -- ---- "any list of boots, steps, posts and cuts"; a post carries a burst
 
@@ -135,17 +135,17 @@ stores_made p s d (c ∷ cs) =
 
 pub record RunOutcome : Type 0 where
   pub steps : ℕ
-  pub ended : Ended
+  pub ended : Checked
   pub store : List ℕ
   pub device : Device
   pub totals : Totals
 
 unfoldable pub run_from : List ℕ → ℕ → ℕ → List ℕ → Device → Totals → RunOutcome
-run_from p zero n s d t = record { steps = n; ended = Ended.Spent; store = s; device = d; totals = t }
+run_from p zero n s d t = record { steps = n; ended = Ok tt; store = s; device = d; totals = t }
 run_from p (suc budget) n s d t =
     let o = step p s d in
     let rest = run_from p budget (n + 1) (settled s o.write) o.device (counted t d.handler o) in
-    unless_refused o.answer (λ r. record { steps = n; ended = Ended.Refused r; store = s; device = d; totals = t }) rest
+    unless_refused o.answer (λ r. record { steps = n; ended = Err r; store = s; device = d; totals = t }) rest
 
 unfoldable pub run : List ℕ → ℕ → List ℕ → Device → Totals → RunOutcome
 run p budget s d t = run_from p budget 0 s d t

@@ -5,9 +5,9 @@ use Rattle.model.specs.Calls.{Call, Boot, Step, Cut, Post, call, history, after_
 use Rattle.model.specs.Control.{Rule, broken, obey_all, in_phase, open_rule, address_rule, record_rule, rules, early_rules}
 use Rattle.model.specs.Device.{off, burst_length, look, step}
 use Rattle.model.specs.Program.{word}
-use Rattle.model.specs.Store.{Store, Record, view, Word, index, to, settled, stored_word, slot_after, room, format}
+use Rattle.model.specs.Store.{Store, view, Word, index, to, settled, stored_word, slot_after, room, format}
 use Rattle.model.specs.Test.{pick, ◌and◌}
-use Rattle.model.specs.Types.{Answer, Body, Checked, Device, Dropping, Ended, Free, Half, Handler, Place, Refusal, Replacing, Resting, Run, Stored, Storing, Totals}
+use Rattle.model.specs.Types.{Answer, Body, Checked, Device, Dropping, Err, Free, Half, Handler, None, Ok, Option, Place, Record, Refusal, Replacing, Resting, Run, Some, Storing, Totals}
 
 -- "A refusal .. changes no word, state or total."
 pub record ChangesNothing (p s : List ℕ) (d : Device) (c : Call) (t : Totals) : Type 0 where
@@ -158,7 +158,7 @@ LowestIsOne = (order : List (List Rule)) (place other : ℕ) → FirstLowest ord
 
 -- The definitions find the place as the first broken rule of a list: that is the lowest.
 abbrev pub NamesLowest : List Rule → Type 0
-NamesLowest rs = (place : ℕ) → obey_all rs ≡ Checked.Refused (Refusal.Control place) → LowestBroken rs place
+NamesLowest rs = (place : ℕ) → obey_all rs ≡ Err (Refusal.Control place) → LowestBroken rs place
 
 abbrev pub FirstIsLowest : Type 0
 FirstIsLowest = (p : List ℕ) (v : Store) → NamesLowest (rules p v) × NamesLowest (early_rules p v)
@@ -185,9 +185,9 @@ StoreIsTold = (p s : List ℕ) (d : Device) → StoreTold p s d
 -- ---- Run, totals and recovery are what the calls one by one are
 
 -- how a run of so many steps ended: all of its budget, or less and a step that is refused
-abbrev pub EndedSo : List ℕ → ℕ → RunOutcome → Ended → Type 0
-EndedSo p budget o Ended.Spent = o.steps ≡ budget
-EndedSo p budget o (Ended.Refused r) = (o.steps < budget) × ((step p o.store o.device).answer ≡ Answer.Refused r)
+abbrev pub EndedSo : List ℕ → ℕ → RunOutcome → Checked → Type 0
+EndedSo p budget o (Ok tt) = o.steps ≡ budget
+EndedSo p budget o (Err r) = (o.steps < budget) × ((step p o.store o.device).answer ≡ Answer.Refused r)
 
 -- a run from s, d and t with outcome o is its steps, none of them refused
 pub record IsSteps (p : List ℕ) (budget : ℕ) (s : List ℕ) (d : Device) (t : Totals) (o : RunOutcome) : Type 0 where
@@ -223,12 +223,12 @@ RecoveryByCalls = (p s : List ℕ) (allowed n : ℕ) (store : List ℕ) → reco
 -- What step and post look at first passes again after a step that wasn't refused, save after two stores of the phase: a commit store makes
 -- phase 1 or 2, whose rules for words 11 and 12 no step has looked at; a commit's last store makes phase 0, in which word 16 must be 0,
 -- and no step has looked at that in phases 1 and 2. By which word was stored, the answer, and the words after it:
-unfoldable pub sound_after : Stored → Answer → List ℕ → Bool
-sound_after Stored.Nothing a s = true
-sound_after (Stored.Word i) a s = pick (eqb i 8) (not (is_commit a) and eqb (word s 16) 0) true
+unfoldable pub sound_after : Option ℕ → Answer → List ℕ → Bool
+sound_after None a s = true
+sound_after (Some i) a s = pick (eqb i 8) (not (is_commit a) and eqb (word s 16) 0) true
 
 abbrev pub LookStays : Type 0
 LookStays =
     (p s : List ℕ) (d : Device) → is_refusal (step p s d).answer ≡ false
     → sound_after (stored_word s (step p s d).write) (step p s d).answer (settled s (step p s d).write) ≡ true
-    → look p (settled s (step p s d).write) (step p s d).device ≡ Checked.Accepted
+    → look p (settled s (step p s d).write) (step p s d).device ≡ Ok tt

@@ -5,7 +5,7 @@ use Rattle.std.specs.Prelude.{ℕ, zero, suc, ◌+◌, ◌*◌, Bool, true, fals
 use Rattle.model.specs.Program.{tasks, events, memory_words, transaction}
 use Rattle.model.specs.Store.{Store, address, event, slot_after, empty, first_waiting, log_at, queue_at}
 use Rattle.model.specs.Test.{pick, ◌and◌, ◌or◌, must, ◌then◌}
-use Rattle.model.specs.Types.{Checked, Refusal}
+use Rattle.model.specs.Types.{Checked, Ok, Refusal}
 
 -- A rule speaks where `asked` is true: in its phases, and where the words that it needs are sound. It is `early` if it needs no row, no
 -- log pair and no record.
@@ -29,7 +29,7 @@ unfoldable pub obey : Rule → Checked
 obey r = must (not (broken r)) (Refusal.Control r.word)
 
 unfoldable pub obey_all : List Rule → Checked
-obey_all [] = Checked.Accepted
+obey_all [] = Ok tt
 obey_all (r ∷ rs) = obey r then obey_all rs
 
 -- f 0, .., f (n - 1)

@@ -1,15 +1,14 @@
 -- Demand 3: "for any list of boots, steps, posts and cuts, refused ones among them, on a store freshly formatted with a checked program, the
 -- device off at first". What is claimed of such a list, as statements; proofs/ proves each. docs/CLAIMS.md says which sentence is which.
 use Rattle.std.specs.Prelude.{ℕ, suc, ◌+◌, ◌≤◌, ◌<◌, ◌≡◌, ◌≢◌, Bool, true, false, List, [], ◌∷◌, ◌++◌, eqb, length}
-use Rattle.std.proofs.Math.Option.{Option, none, some}
 use Rattle.model.specs.Answer.{refusal}
 use Rattle.model.specs.Calls.{Call, Boot, Step, Cut, Post, Line, Now, call, history, after_calls, count_by, events_accepted, steps, recovered, recovery}
 use Rattle.model.specs.Device.{off}
 use Rattle.model.specs.Program.{entry}
 use Rattle.model.specs.Serial.{Serial, Formatting, given, Walked, went, served, lost, walk_body, tell, serial, serial_start}
-use Rattle.model.specs.Store.{Store, Record, view, waiting, format_check, format}
+use Rattle.model.specs.Store.{Store, view, waiting, format_check, format}
 use Rattle.model.specs.Test.{pick, ◌or◌}
-use Rattle.model.specs.Types.{Answer, Body, Checked, Dropped}
+use Rattle.model.specs.Types.{Answer, Body, None, Ok, Option, Record, Some}
 
 -- ---- The refusals that a list of calls on a fresh store can meet
 
@@ -99,15 +98,15 @@ steps_to_recover p s cs = recovery_steps (view (reached p s cs).store)
 -- After any list of calls on a store s, formatted with program p, L l and Q q, with the serial state of the calls and their answers:
 pub record AsSerialRun (p : List ℕ) (l q : ℕ) (s : List ℕ) (cs : List Call) : Type 0 where
   pub state : Serial
-  pub ran : (fuel : ℕ) → length cs ≤ fuel → serial fuel (given p l q) (history p s off cs) ≡ some state
+  pub ran : (fuel : ℕ) → length cs ≤ fuel → serial fuel (given p l q) (history p s off cs) ≡ Some state
   pub recovers : (allowed : ℕ) → steps_to_recover p s cs ≤ allowed → Recovers p (reached p s cs).store state allowed
   -- "Its records are the store's waiting ones (event, data), in order, before recovery too."
   pub waits : waiting (view (reached p s cs).store) ≡ state.records
   -- N7: "Accepted now equals completed plus waiting plus dropped". A cut after the head store has dropped a record that no answer tells.
   pub balance : events_accepted p s off cs
       ≡ count_by is_completion (history p s off cs) + length state.records + length state.posting.dropped
-  -- "The accepting answer gains the dropped record or none": the one that was dropped for that post
-  pub dropped : (x : Dropped) → next_answer p s cs Step ≡ Answer.Accepted x → x ≡ state.posting.dropped_for
+  -- "The accepting answer gains the dropped record or None": the one that was dropped for that post
+  pub dropped : (x : Option Record) → next_answer p s cs Step ≡ Answer.Accepted x → x ≡ state.posting.dropped_for
   -- whichever call is next: the refusals that it may meet, and the body that it commits
   pub refusals : (c : Call) → Expected c (next_answer p s cs c)
   pub bodies : (b : Body) → next_answer p s cs Step ≡ Answer.Committed b
@@ -115,14 +114,14 @@ pub record AsSerialRun (p : List ℕ) (l q : ℕ) (s : List ℕ) (cs : List Call
 
 abbrev pub Demand3 : Type 0
 Demand3 =
-    (p : List ℕ) (l q : ℕ) (s : List ℕ) → format_check p l q s ≡ Checked.Accepted → (cs : List Call) → AsSerialRun p l q (format p l q s) cs
+    (p : List ℕ) (l q : ℕ) (s : List ℕ) → format_check p l q s ≡ Ok tt → (cs : List Call) → AsSerialRun p l q (format p l q s) cs
 
 -- ---- The serial run by itself
 
 -- It determines its state: whatever the fuel, if the run comes to an end, it comes to the same.
 abbrev pub SerialDetermined : Type 0
 SerialDetermined =
-    (fuel fuel' : ℕ) (g : Formatting) (z z' : Serial) (lines : List Line) → serial fuel g lines ≡ some z → serial fuel' g lines ≡ some z' → z ≡ z'
+    (fuel fuel' : ℕ) (g : Formatting) (z z' : Serial) (lines : List Line) → serial fuel g lines ≡ Some z → serial fuel' g lines ≡ Some z' → z ≡ z'
 
 -- Each task is the one that the task before it named, the first the entry task: the tasks whose commit store was made, and
 -- behind them the current one, are the entry task and behind it the tasks that these named at GO.
@@ -153,8 +152,8 @@ named_by fuel p m (t ∷ ts) = named_at_end (walk_body fuel p (Body.Task t) 0 m)
 
 -- along the serial run
 unfoldable pub from_state : Option Serial → (Serial → List ℕ) → List ℕ
-from_state none tasks = []
-from_state (some z) tasks = tasks z
+from_state None tasks = []
+from_state (Some z) tasks = tasks z
 
 unfoldable pub named_tasks : ℕ → Formatting → Serial → List Line → List ℕ
 named_tasks fuel g z [] = []
@@ -164,7 +163,7 @@ named_tasks fuel g z (line ∷ lines) =
 
 abbrev pub TasksFollow : Type 0
 TasksFollow =
-    (fuel : ℕ) (g : Formatting) (lines : List Line) (z : Serial) → serial fuel g lines ≡ some z
+    (fuel : ℕ) (g : Formatting) (lines : List Line) (z : Serial) → serial fuel g lines ≡ Some z
     → committed_tasks lines ++ (z.task ∷ []) ≡ entry g.program ∷ named_tasks fuel g (serial_start g) lines
 
 -- ---- What a bench sees that makes the calls, recovery among them, and reads words and answers
@@ -180,7 +179,7 @@ AllExpected (line ∷ lines) = Expected line.called line.answered × AllExpected
 
 pub record Observed (p : List ℕ) (l q : ℕ) (s : List ℕ) (cs : List Call) : Type 0 where
   pub state : Serial
-  pub ran : serial (length cs) (given p l q) (history p s off cs) ≡ some state
+  pub ran : serial (length cs) (given p l q) (history p s off cs) ≡ Some state
   pub tasks : committed_tasks (history p s off cs) ++ (state.task ∷ [])
       ≡ entry p ∷ named_tasks (length cs) (given p l q) (serial_start (given p l q)) (history p s off cs)
   pub answers : AllExpected (history p s off cs)
@@ -191,11 +190,11 @@ pub record Observed (p : List ℕ) (l q : ℕ) (s : List ℕ) (cs : List Call) :
   -- accepted is completed plus waiting plus dropped
   pub balance : events_accepted p s off cs
       ≡ count_by is_completion (history p s off cs) + length (waiting (view (reached p s cs).store)) + length state.posting.dropped
-  pub dropped : (x : Dropped) → next_answer p s cs Step ≡ Answer.Accepted x → x ≡ state.posting.dropped_for
+  pub dropped : (x : Option Record) → next_answer p s cs Step ≡ Answer.Accepted x → x ≡ state.posting.dropped_for
   -- "for an event that of the oldest record"
   pub oldest : (e : ℕ) → next_answer p s cs Step ≡ Answer.Committed (Body.Event e)
       → (first : Record) × (rest : List Record) × (waiting (view (reached p s cs).store) ≡ first ∷ rest) × (first.event ≡ e)
 
 abbrev pub ObservedByCalls : Type 0
 ObservedByCalls =
-    (p : List ℕ) (l q : ℕ) (s : List ℕ) → format_check p l q s ≡ Checked.Accepted → (cs : List Call) → Observed p l q (format p l q s) cs
+    (p : List ℕ) (l q : ℕ) (s : List ℕ) → format_check p l q s ≡ Ok tt → (cs : List Call) → Observed p l q (format p l q s) cs

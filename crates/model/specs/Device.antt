@@ -1,14 +1,13 @@
 -- Document 01, "What a step does" and "Order": the device, what a call looks at, and what boot, cut, post and step do, for all
 -- words and all device states. A call's outcome is at most one store, a device state and an answer.
 use Rattle.std.specs.Prelude.{ℕ, zero, suc, ◌+◌, ◌-◌, ◌*◌, Bool, true, false, not, List, [], ◌∷◌, ltb, leb, eqb, length, get_or, set, replicate}
-use Rattle.std.proofs.Math.Option.{Option}
 use Rattle.model.specs.Burst.{is_burst, carried, no_burst, burst_words, known_events, events_rule}
 use Rattle.model.specs.Check.{contents_rule, rows_inside_rule, row_usable, instruction_rule, check}
 use Rattle.model.specs.Control.{obey, obey_all, open_rule, rules, early_rules}
 use Rattle.model.specs.Program.{events, memory_words, instructions, transaction, body_number, effect_at, new_open, first_registers, word, reg}
-use Rattle.model.specs.Store.{Store, view, address, value, event, datum, Phase, Task, Open, Count, Pending, PendingOpen, Head, Tail, Begun, Memory, Address, Value, Event, Datum, Write, none, to, Record, find, slot_after, empty, full, room, log_at, queue_at, store_rule}
+use Rattle.model.specs.Store.{Store, view, address, value, event, datum, Phase, Task, Open, Count, Pending, PendingOpen, Head, Tail, Begun, Memory, Address, Value, Event, Datum, Write, none, to, find, slot_after, empty, full, room, log_at, queue_at, store_rule, slot}
 use Rattle.model.specs.Test.{pick, ◌and◌, ◌or◌, must, ◌then◌}
-use Rattle.model.specs.Types.{Answer, Body, Checked, Device, Dropped, Dropping, Effect, Found, Free, Half, Handler, Place, Refusal, Replacing, Resting, Run, Storing}
+use Rattle.model.specs.Types.{Answer, Body, Checked, Device, Dropping, Effect, Err, Free, Half, Handler, None, Ok, Option, Place, Record, Refusal, Replacing, Resting, Run, Some, Storing}
 
 -- ---- "Off is one fixed value of the device, all else 0. Boot makes no store and turns that value on."
 
@@ -45,8 +44,8 @@ abbrev pub refuse : Device → Refusal → Outcome
 refuse d why = out none d (Answer.Refused why)
 
 unfoldable pub judged : Checked → Device → Outcome → Outcome
-judged Checked.Accepted d o = o
-judged (Checked.Refused why) d o = refuse d why
+judged (Ok tt) d o = o
+judged (Err why) d o = refuse d why
 
 -- Store number c of a row of stores, after which the device is d. The last of them has its own device and answer.
 unfoldable pub storing : List Write → ℕ → Device → Device → Answer → Outcome
@@ -101,7 +100,7 @@ oldest_event v = Body.Event (event v v.head)
 unfoldable pub begun_of : Store → Option Body
 begun_of v =
     pick (eqb v.phase 0)
-    (pick (eqb v.begun 1) (Option.some (current_task v)) (pick (eqb v.begun 2) (Option.some (oldest_event v)) Option.none)) Option.none
+    (pick (eqb v.begun 1) (Some (current_task v)) (pick (eqb v.begun 2) (Some (oldest_event v)) None)) None
 
 -- "Registers become 0, except that register 0 gets an event's data. The log count becomes 0." N4: "at its first instruction, registers as
 -- at choosing"
@@ -195,8 +194,8 @@ boot_check p s d = check p then store_rule p s then obey_all (rules p (view s)) 
 
 -- "Boot .. turns that value on"; N4: "a boot in phase 0 takes up the begun body at its first instruction, registers as at choosing"
 unfoldable pub taken_up : Store → Option Body → Device
-taken_up v Option.none = turned_on
-taken_up v (Option.some b) = started v turned_on b
+taken_up v None = turned_on
+taken_up v (Some b) = started v turned_on b
 
 unfoldable pub boot : List ℕ → List ℕ → Device → Outcome
 boot p s d = judged (boot_check p s d) d (out none (taken_up (view s) (begun_of (view s))) Answer.Done)
@@ -246,7 +245,7 @@ abbrev pub handled : Device → List Record
 handled d = carried d.burst (burst_length d.handler)
 
 -- the handler that is left after a store that isn't the last, and what was dropped for the burst
-unfoldable pub handler_step : Store → Device → ℕ → ℕ → Handler → Dropped → Outcome
+unfoldable pub handler_step : Store → Device → ℕ → ℕ → Handler → Option Record → Outcome
 handler_step v d n c later dropped =
     storing (handler_stores v (carried d.burst n)) c (with_handler d later d.burst) (resting d) (Answer.Accepted dropped)
 
@@ -257,10 +256,8 @@ drop_step p v d =
     (out (to Head (slot_after v.queue_records v.head)) (with_handler d (Replacing 0) d.burst) Answer.Stored)
 
 -- "The accepting answer gains the dropped record": the ring was full, so its slot is the one after tail, and stays as it was until tail is stored
-unfoldable pub dropped_record : Store → Dropped
-dropped_record v =
-    let u = slot_after v.queue_records v.tail in
-    Dropped.Record (event v u) (datum v u)
+unfoldable pub dropped_record : Store → Option Record
+dropped_record v = Some (slot v.queue (slot_after v.queue_records v.tail))
 
 -- ---- Step 2. "A commit makes its next store", in phases 1 and 2: c stores are made after the commit store
 
@@ -293,21 +290,21 @@ choose_step p v d = pick (event_next v) (judged (record_sound p v) d (choosing v
 -- The rules that are left for a body at instruction j, with what its instruction does: "a chosen record (7), the body's row (4
 -- ..), the instruction (5), at GO task k's row (4), the rest of 7, then of 25, for these"
 unfoldable pub head_sound : List ℕ → Store → Body → Checked
-head_sound p v (Body.Task t) = Checked.Accepted
+head_sound p v (Body.Task t) = Ok tt
 head_sound p v (Body.Event e) = record_sound p v
 
 unfoldable pub named_row : List ℕ → Effect → Checked
-named_row p (Effect.Compute a x) = Checked.Accepted
-named_row p (Effect.Jump k) = Checked.Accepted
-named_row p (Effect.Load a y) = Checked.Accepted
-named_row p (Effect.Save y x) = Checked.Accepted
+named_row p (Effect.Compute a x) = Ok tt
+named_row p (Effect.Jump k) = Ok tt
+named_row p (Effect.Load a y) = Ok tt
+named_row p (Effect.Save y x) = Ok tt
 named_row p (Effect.EndTask k) = row_usable p k
-named_row p Effect.EndEvent = Checked.Accepted
-named_row p Effect.Unknown = Checked.Accepted
+named_row p Effect.EndEvent = Ok tt
+named_row p Effect.Unknown = Ok tt
 
 unfoldable pub open_sound : List ℕ → Store → Body → Checked
 open_sound p v (Body.Task t) = obey (open_rule p v)
-open_sound p v (Body.Event e) = Checked.Accepted
+open_sound p v (Body.Event e) = Ok tt
 
 -- the event of the record at head
 unfoldable pub head_is : Store → Body → Bool
@@ -345,20 +342,20 @@ body_sound p v place b j f =
     head_sound p v b
     then rows_inside_rule p
     then row_usable p number
-    then pick there (instruction_rule p number j then named_row p f) Checked.Accepted
+    then pick there (instruction_rule p number j then named_row p f) (Ok tt)
     then open_sound p v b
     then must (there and head_is v b and place_fits place f) Refusal.State
 
 -- what address y shows: "LOAD takes the log's value for that address, if it has one, else memory's"
-unfoldable pub shown : Store → Found → ℕ → ℕ
-shown v (Found.Pair i) y = value v i
-shown v Found.Nothing y = word v.memory y
+unfoldable pub shown : Store → Option ℕ → ℕ → ℕ
+shown v (Some i) y = value v i
+shown v None y = word v.memory y
 
 -- "SAVE to an address in the log overwrites its value in one step; otherwise one step stores the address and the next .. the
 -- value." "24: SAVE to an address not in the log, with L pairs there."
-unfoldable pub save_step : Store → Device → Body → ℕ → ℕ → ℕ → Found → Outcome
-save_step v d b j y x (Found.Pair i) = out (to (Value i) x) (with_place d d.registers (Run b (j + 1) 0) d.count) Answer.Stored
-save_step v d b j y x Found.Nothing =
+unfoldable pub save_step : Store → Device → Body → ℕ → ℕ → ℕ → Option ℕ → Outcome
+save_step v d b j y x (Some i) = out (to (Value i) x) (with_place d d.registers (Run b (j + 1) 0) d.count) Answer.Stored
+save_step v d b j y x None =
     pick (ltb d.count v.log_pairs) (out (to (Address d.count) y) (with_place d d.registers (Half b j) d.count) Answer.Stored)
     (refuse d Refusal.LogFull)
 
@@ -401,7 +398,7 @@ place_step p v d (Half b j) =
 
 unfoldable pub next_step : List ℕ → Store → Device → Handler → Outcome
 next_step p v d Resting = place_step p v d d.place
-next_step p v d (Storing n c) = handler_step v d n c (Storing n (c + 1)) Dropped.Nothing
+next_step p v d (Storing n c) = handler_step v d n c (Storing n (c + 1)) None
 next_step p v d Dropping = drop_step p v d
 next_step p v d (Replacing c) = handler_step v d 1 c (Replacing (c + 1)) (dropped_record v)
 

@@ -4,7 +4,7 @@ use Rattle.std.specs.Prelude.{ℕ, ◌+◌, ◌-◌, ◌*◌, ◌/◌, ◌%◌, 
 use Rattle.std.specs.Int.Bits.{bit_and, bit_or, bit_xor}
 use Rattle.std.specs.Int.Signed.{lt_z, shr_z}
 use Rattle.model.specs.Test.{pick}
-use Rattle.model.specs.Types.{Body, Instruction, Effect}
+use Rattle.model.specs.Types.{Body, Effect, Instruction}
 
 abbrev pub word : List ℕ → ℕ → ℕ
 word ws i = get_or ws i 0

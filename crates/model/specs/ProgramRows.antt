@@ -3,7 +3,7 @@ use Rattle.std.specs.Prelude.{ℕ, ◌+◌, ◌*◌, true, List, [], ◌∷◌, 
 use Rattle.model.specs.Check.{instruction_rule, check}
 use Rattle.model.specs.Device.{Outcome, out, refuse, step}
 use Rattle.model.specs.Store.{Word, Count, Address, Value, none, to, format, format_check}
-use Rattle.model.specs.Types.{Answer, Body, Checked, Half, Place, Refusal, Resting, Run}
+use Rattle.model.specs.Types.{Answer, Body, Checked, Err, Half, Ok, Place, Refusal, Resting, Run}
 use Rattle.model.specs.Sample.{Row, ◌⇒◌, at, closed, device_with, event1, event_begun, opened, registers, sample, task1, task_begun, with_instruction}
 
 -- ---- Each opcode, as instruction 2 of task 1
@@ -69,15 +69,15 @@ abbrev largest : ℕ → ℕ → ℕ → ℕ → List Checked
 largest op a b k = checked op a b k ∷ checked op (a + 1) b k ∷ checked op a (b + 1) k ∷ checked op a b (k + 1) ∷ []
 
 abbrev wrong : Checked
-wrong = Checked.Refused (Refusal.Instruction 1 2)
+wrong = Err (Refusal.Instruction 1 2)
 
 abbrev no_larger : List Checked
-no_larger = Checked.Accepted ∷ wrong ∷ wrong ∷ wrong ∷ []
+no_larger = Ok tt ∷ wrong ∷ wrong ∷ wrong ∷ []
 
 -- M is 6, T is 5, task 1 has 4 instructions
 unfoldable pub fields : List (Row (List Checked))
 fields =
-    (checked 0 7 0 0xFFFF ∷ checked 0 8 0 0xFFFF ∷ checked 0 7 1 0xFFFF ∷ []) ⇒ (Checked.Accepted ∷ wrong ∷ wrong ∷ [])  -- SET
+    (checked 0 7 0 0xFFFF ∷ checked 0 8 0 0xFFFF ∷ checked 0 7 1 0xFFFF ∷ []) ⇒ (Ok tt ∷ wrong ∷ wrong ∷ [])  -- SET
     ∷ largest 1 7 7 0 ⇒ no_larger  -- MOV
     ∷ largest 2 7 7 0 ⇒ no_larger  -- ADD
     ∷ largest 3 7 7 0 ⇒ no_larger  -- SUB
@@ -97,8 +97,8 @@ fields =
 
 -- the opcodes that the rule accepts in instruction j of body i, at word w, its fields 0
 unfoldable pub if_accepted : Checked → ℕ → List ℕ → List ℕ
-if_accepted Checked.Accepted op ops = op ∷ ops
-if_accepted (Checked.Refused r) op ops = ops
+if_accepted (Ok tt) op ops = op ∷ ops
+if_accepted (Err r) op ops = ops
 
 unfoldable pub accepted_of : List ℕ → ℕ → ℕ → ℕ → List ℕ
 accepted_of [] i j w = []
@@ -123,77 +123,77 @@ rows_only total start = 0xC0B1 ∷ 1 ∷ 0 ∷ 1 ∷ 0 ∷ total ∷ start ∷ 1
 
 unfoldable pub programs : List (Row Checked)
 programs =
-    check sample ⇒ Checked.Accepted
-    ∷ check [] ⇒ Checked.Refused Refusal.ProgramLength
-    ∷ check (take 5 sample) ⇒ Checked.Refused Refusal.ProgramLength
-    ∷ check (set sample 5 50) ⇒ Checked.Refused Refusal.ProgramLength
-    ∷ check (set sample 5 52) ⇒ Checked.Refused Refusal.ProgramLength
-    ∷ check (set sample 0 0xC0A2) ⇒ Checked.Refused Refusal.ProgramMark
+    check sample ⇒ Ok tt
+    ∷ check [] ⇒ Err Refusal.ProgramLength
+    ∷ check (take 5 sample) ⇒ Err Refusal.ProgramLength
+    ∷ check (set sample 5 50) ⇒ Err Refusal.ProgramLength
+    ∷ check (set sample 5 52) ⇒ Err Refusal.ProgramLength
+    ∷ check (set sample 0 0xC0A2) ⇒ Err Refusal.ProgramMark
     -- "3: T, E, M or entry; place: word index"
-    ∷ check (set sample 1 0) ⇒ Checked.Refused (Refusal.ProgramSize 1)
-    ∷ check (set sample 1 33) ⇒ Checked.Refused (Refusal.ProgramSize 1)
-    ∷ check (set sample 2 17) ⇒ Checked.Refused (Refusal.ProgramSize 2)
-    ∷ check (set sample 3 0) ⇒ Checked.Refused (Refusal.ProgramSize 3)
-    ∷ check (set sample 3 1025) ⇒ Checked.Refused (Refusal.ProgramSize 3)
-    ∷ check (set sample 3 1024) ⇒ Checked.Accepted
-    ∷ check (set sample 4 5) ⇒ Checked.Refused (Refusal.ProgramSize 4)
-    ∷ check (set sample 4 4) ⇒ Checked.Accepted
+    ∷ check (set sample 1 0) ⇒ Err (Refusal.ProgramSize 1)
+    ∷ check (set sample 1 33) ⇒ Err (Refusal.ProgramSize 1)
+    ∷ check (set sample 2 17) ⇒ Err (Refusal.ProgramSize 2)
+    ∷ check (set sample 3 0) ⇒ Err (Refusal.ProgramSize 3)
+    ∷ check (set sample 3 1025) ⇒ Err (Refusal.ProgramSize 3)
+    ∷ check (set sample 3 1024) ⇒ Ok tt
+    ∷ check (set sample 4 5) ⇒ Err (Refusal.ProgramSize 4)
+    ∷ check (set sample 4 4) ⇒ Ok tt
     -- "4: rows run past the program (place 0)": 32 tasks and 16 events are allowed, but there is no room for their rows
-    ∷ check (set sample 1 32) ⇒ Checked.Refused (Refusal.Row 0)
-    ∷ check (set sample 2 16) ⇒ Checked.Refused (Refusal.Row 0)
-    ∷ check (take 6 (rows_only 6 9)) ⇒ Checked.Refused (Refusal.Row 0)
-    ∷ check (take 8 (rows_only 8 9)) ⇒ Checked.Refused (Refusal.Row 0)
-    ∷ check (rows_only 9 9) ⇒ Checked.Refused (Refusal.Row 1)
+    ∷ check (set sample 1 32) ⇒ Err (Refusal.Row 0)
+    ∷ check (set sample 2 16) ⇒ Err (Refusal.Row 0)
+    ∷ check (take 6 (rows_only 6 9)) ⇒ Err (Refusal.Row 0)
+    ∷ check (take 8 (rows_only 8 9)) ⇒ Err (Refusal.Row 0)
+    ∷ check (rows_only 9 9) ⇒ Err (Refusal.Row 1)
     -- "a row breaks its rule (place: body)"
-    ∷ check (set sample 6 28) ⇒ Checked.Refused (Refusal.Row 0)
-    ∷ check (set sample 12 38) ⇒ Checked.Refused (Refusal.Row 2)
-    ∷ check (set sample 10 0) ⇒ Checked.Refused (Refusal.Row 1)
-    ∷ check (set sample 10 3) ⇒ Checked.Refused (Refusal.Row 2)
-    ∷ check (set sample 25 257) ⇒ Checked.Refused (Refusal.Row 6)
-    ∷ check (set sample 11 255) ⇒ Checked.Accepted
-    ∷ check (set sample 11 256) ⇒ Checked.Refused (Refusal.Row 1)
-    ∷ check (set sample 20 255) ⇒ Checked.Accepted
-    ∷ check (set sample 23 1) ⇒ Checked.Refused (Refusal.Row 5)
+    ∷ check (set sample 6 28) ⇒ Err (Refusal.Row 0)
+    ∷ check (set sample 12 38) ⇒ Err (Refusal.Row 2)
+    ∷ check (set sample 10 0) ⇒ Err (Refusal.Row 1)
+    ∷ check (set sample 10 3) ⇒ Err (Refusal.Row 2)
+    ∷ check (set sample 25 257) ⇒ Err (Refusal.Row 6)
+    ∷ check (set sample 11 255) ⇒ Ok tt
+    ∷ check (set sample 11 256) ⇒ Err (Refusal.Row 1)
+    ∷ check (set sample 20 255) ⇒ Ok tt
+    ∷ check (set sample 23 1) ⇒ Err (Refusal.Row 5)
     -- "or the bodies don't end at the total (place T + E)"
-    ∷ check (set sample 25 256) ⇒ Checked.Refused (Refusal.Row 7)
-    ∷ check (set sample 25 1) ⇒ Checked.Refused (Refusal.Row 7)
+    ∷ check (set sample 25 256) ⇒ Err (Refusal.Row 7)
+    ∷ check (set sample 25 1) ⇒ Err (Refusal.Row 7)
     -- "5: an instruction breaks its rule; place: body, instruction"
-    ∷ check (set sample 27 0x1100) ⇒ Checked.Refused (Refusal.Instruction 0 0)
-    ∷ check (set sample 31 0x1100) ⇒ Checked.Refused (Refusal.Instruction 1 1)
-    ∷ check (set sample 49 0xFF00) ⇒ Checked.Refused (Refusal.Instruction 6 1)
-    ∷ check (set sample 45 0x1010) ⇒ Checked.Refused (Refusal.Instruction 5 1)
-    ∷ check (set sample 45 0x1001) ⇒ Checked.Refused (Refusal.Instruction 5 1)
-    ∷ check (set sample 46 1) ⇒ Checked.Refused (Refusal.Instruction 5 1)
+    ∷ check (set sample 27 0x1100) ⇒ Err (Refusal.Instruction 0 0)
+    ∷ check (set sample 31 0x1100) ⇒ Err (Refusal.Instruction 1 1)
+    ∷ check (set sample 49 0xFF00) ⇒ Err (Refusal.Instruction 6 1)
+    ∷ check (set sample 45 0x1010) ⇒ Err (Refusal.Instruction 5 1)
+    ∷ check (set sample 45 0x1001) ⇒ Err (Refusal.Instruction 5 1)
+    ∷ check (set sample 46 1) ⇒ Err (Refusal.Instruction 5 1)
     -- "check 1 to 5": with two faults, the first
-    ∷ check (set (set sample 0 0) 5 50) ⇒ Checked.Refused Refusal.ProgramLength
-    ∷ check (set (set sample 0 0) 1 0) ⇒ Checked.Refused Refusal.ProgramMark
-    ∷ check (set (set sample 2 17) 1 0) ⇒ Checked.Refused (Refusal.ProgramSize 1)
-    ∷ check (set (set sample 3 0) 2 17) ⇒ Checked.Refused (Refusal.ProgramSize 2)
-    ∷ check (set (set sample 4 5) 3 0) ⇒ Checked.Refused (Refusal.ProgramSize 3)
-    ∷ check (set (set sample 6 28) 4 5) ⇒ Checked.Refused (Refusal.ProgramSize 4)
-    ∷ check (set (set sample 10 0) 1 32) ⇒ Checked.Refused (Refusal.Row 0)
-    ∷ check (set (set sample 20 256) 11 256) ⇒ Checked.Refused (Refusal.Row 1)
-    ∷ check (set (set sample 25 1) 11 256) ⇒ Checked.Refused (Refusal.Row 1)
-    ∷ check (set (set sample 27 0x1100) 25 1) ⇒ Checked.Refused (Refusal.Row 7)
-    ∷ check (set (set sample 47 0x1100) 33 0x1100) ⇒ Checked.Refused (Refusal.Instruction 1 2)
-    ∷ check (set (set sample 33 0x1100) 29 0x1100) ⇒ Checked.Refused (Refusal.Instruction 1 0)
+    ∷ check (set (set sample 0 0) 5 50) ⇒ Err Refusal.ProgramLength
+    ∷ check (set (set sample 0 0) 1 0) ⇒ Err Refusal.ProgramMark
+    ∷ check (set (set sample 2 17) 1 0) ⇒ Err (Refusal.ProgramSize 1)
+    ∷ check (set (set sample 3 0) 2 17) ⇒ Err (Refusal.ProgramSize 2)
+    ∷ check (set (set sample 4 5) 3 0) ⇒ Err (Refusal.ProgramSize 3)
+    ∷ check (set (set sample 6 28) 4 5) ⇒ Err (Refusal.ProgramSize 4)
+    ∷ check (set (set sample 10 0) 1 32) ⇒ Err (Refusal.Row 0)
+    ∷ check (set (set sample 20 256) 11 256) ⇒ Err (Refusal.Row 1)
+    ∷ check (set (set sample 25 1) 11 256) ⇒ Err (Refusal.Row 1)
+    ∷ check (set (set sample 27 0x1100) 25 1) ⇒ Err (Refusal.Row 7)
+    ∷ check (set (set sample 47 0x1100) 33 0x1100) ⇒ Err (Refusal.Instruction 1 2)
+    ∷ check (set (set sample 33 0x1100) 29 0x1100) ⇒ Err (Refusal.Instruction 1 0)
     ∷ []
 
 -- ---- Formatting
 
 unfoldable pub formats : List (Row Checked)
 formats =
-    format_check sample 2 3 (replicate 35 7) ⇒ Checked.Accepted
-    ∷ format_check sample 2 3 (replicate 34 7) ⇒ Checked.Refused Refusal.StoreContents
-    ∷ format_check sample 2 3 (replicate 36 7) ⇒ Checked.Refused Refusal.StoreContents
-    ∷ format_check sample 0 3 (replicate 31 7) ⇒ Checked.Refused Refusal.StoreSize
-    ∷ format_check sample 65 3 (replicate 161 7) ⇒ Checked.Refused Refusal.StoreSize
-    ∷ format_check sample 2 0 (replicate 29 7) ⇒ Checked.Refused Refusal.StoreSize
-    ∷ format_check sample 2 33 (replicate 95 7) ⇒ Checked.Refused Refusal.StoreSize
-    ∷ format_check sample 1 1 (replicate 29 7) ⇒ Checked.Accepted
-    ∷ format_check sample 64 32 (replicate 217 7) ⇒ Checked.Accepted
-    ∷ format_check sample 0 3 [] ⇒ Checked.Refused Refusal.StoreSize
-    ∷ format_check (set sample 33 0x1100) 0 3 (replicate 31 7) ⇒ Checked.Refused (Refusal.Instruction 1 2)
+    format_check sample 2 3 (replicate 35 7) ⇒ Ok tt
+    ∷ format_check sample 2 3 (replicate 34 7) ⇒ Err Refusal.StoreContents
+    ∷ format_check sample 2 3 (replicate 36 7) ⇒ Err Refusal.StoreContents
+    ∷ format_check sample 0 3 (replicate 31 7) ⇒ Err Refusal.StoreSize
+    ∷ format_check sample 65 3 (replicate 161 7) ⇒ Err Refusal.StoreSize
+    ∷ format_check sample 2 0 (replicate 29 7) ⇒ Err Refusal.StoreSize
+    ∷ format_check sample 2 33 (replicate 95 7) ⇒ Err Refusal.StoreSize
+    ∷ format_check sample 1 1 (replicate 29 7) ⇒ Ok tt
+    ∷ format_check sample 64 32 (replicate 217 7) ⇒ Ok tt
+    ∷ format_check sample 0 3 [] ⇒ Err Refusal.StoreSize
+    ∷ format_check (set sample 33 0x1100) 0 3 (replicate 31 7) ⇒ Err (Refusal.Instruction 1 2)
     ∷ []
 
 unfoldable pub formatted_stores : List (Row (List ℕ))

@@ -1,7 +1,7 @@
 -- What the worked rows speak of: tables of rows, a sample program, a store for it, devices. A row is `computed ⇒ expected`. ProgramRows, StateRows and
 -- CallRows have the tables, Rows gathers them.
 use Rattle.std.specs.Prelude.{ℕ, ◌≡◌, Bool, true, false, List, [], ◌∷◌, ◌++◌, map, set, take}
-use Rattle.model.specs.Types.{Answer, Body, Device, Dropped, Free, Half, Handler, Place, Resting, Run, Storing}
+use Rattle.model.specs.Types.{Answer, Body, Device, Free, Half, Handler, None, Place, Resting, Run, Storing}
 
 -- ---- Tables
 
@@ -121,7 +121,7 @@ working d n c ws = working_as (Storing n c) d ws
 
 -- one that accepts, and drops nothing
 abbrev pub accepted : Answer
-accepted = Answer.Accepted Dropped.Nothing
+accepted = Answer.Accepted None
 
 -- a body at an instruction
 abbrev pub task1 : ℕ → Place

@@ -5,12 +5,10 @@
 -- "each body run is the answered one and ends, each address below M; at an event a record is there and the open number is 0."
 -- It stops, too, at an event accepted before any post, and where a record is to be dropped and there is none.
 use Rattle.std.specs.Prelude.{ℕ, zero, suc, ◌+◌, Bool, false, List, [], ◌∷◌, ◌++◌, ltb, eqb, length, set, replicate}
-use Rattle.std.proofs.Math.Option.{Option, none, some}
 use Rattle.model.specs.Calls.{Call, Boot, Step, Cut, Post, Line}
 use Rattle.model.specs.Program.{entry, memory_words, transaction, instructions, body_number, effect_at, new_open, first_registers, word}
-use Rattle.model.specs.Store.{Record}
 use Rattle.model.specs.Test.{pick, ◌and◌}
-use Rattle.model.specs.Types.{Answer, Body, Dropped, Effect}
+use Rattle.model.specs.Types.{Answer, Body, Effect, None, Option, Record, Some}
 
 -- What the run keeps of posts and of the records that were dropped for them.
 pub record PostState : Type 0 where
@@ -19,7 +17,7 @@ pub record PostState : Type 0 where
   -- N7: "the last call .. that wasn't refused is a post that found Q records"
   pub found_full : Bool
   -- what was dropped for the latest post with the answer done, and all that were dropped, in order
-  pub dropped_for : Dropped
+  pub dropped_for : Option Record
   pub dropped : List Record
 
 pub record Serial : Type 0 where
@@ -46,7 +44,7 @@ serial_start g =
       task = entry g.program;
       open_number = 0;
       records = [];
-      posting = record { posted = []; found_full = false; dropped_for = Dropped.Nothing; dropped = [] };
+      posting = record { posted = []; found_full = false; dropped_for = None; dropped = [] };
     }
 
 -- ---- "instructions run from the first, on memory without a log, to DONE or to GO"
@@ -86,7 +84,7 @@ no_post posting = record { posted = posting.posted; found_full = false; dropped_
 -- "to GO, which sets current task and open number"
 unfoldable pub after_task : List ℕ → Serial → Walked → Option Serial
 after_task p z (went k m) =
-    some
+    Some
     (record {
       memory = m;
       task = k;
@@ -94,25 +92,25 @@ after_task p z (went k m) =
       records = z.records;
       posting = no_post z.posting;
     })
-after_task p z (served m) = none
-after_task p z lost = none
+after_task p z (served m) = None
+after_task p z lost = None
 
 unfoldable pub after_event : Serial → List Record → Walked → Option Serial
-after_event z rest (went k m) = none
+after_event z rest (went k m) = None
 after_event z rest (served m) =
-    some (record { memory = m; task = z.task; open_number = z.open_number; records = rest; posting = no_post z.posting })
-after_event z rest lost = none
+    Some (record { memory = m; task = z.task; open_number = z.open_number; records = rest; posting = no_post z.posting })
+after_event z rest lost = None
 
 -- "for an event that of the oldest record, which goes"
 unfoldable pub serve_oldest : ℕ → List ℕ → Serial → ℕ → List Record → Option Serial
-serve_oldest fuel p z e [] = none
+serve_oldest fuel p z e [] = None
 serve_oldest fuel p z e (oldest ∷ rest) =
     pick (eqb oldest.event e and eqb z.open_number 0)
-    (after_event z rest (walk_body fuel p (Body.Event e) oldest.datum z.memory)) none
+    (after_event z rest (walk_body fuel p (Body.Event e) oldest.datum z.memory)) None
 
 -- "The answer committed runs a body: for a task the current one"
 unfoldable pub run_body : ℕ → List ℕ → Serial → Body → Option Serial
-run_body fuel p z (Body.Task t) = pick (eqb t z.task) (after_task p z (walk_body fuel p (Body.Task t) 0 z.memory)) none
+run_body fuel p z (Body.Task t) = pick (eqb t z.task) (after_task p z (walk_body fuel p (Body.Task t) 0 z.memory)) None
 run_body fuel p z (Body.Event e) = serve_oldest fuel p z e z.records
 
 -- other records, and another state of posts
@@ -134,7 +132,7 @@ unchanged z = with_records z z.records (no_post z.posting)
 unfoldable pub after_post : ℕ → Serial → List Record → Serial
 after_post q z rs =
     with_records z z.records
-    (record { posted = rs; found_full = eqb (length z.records) q; dropped_for = Dropped.Nothing; dropped = z.posting.dropped })
+    (record { posted = rs; found_full = eqb (length z.records) q; dropped_for = None; dropped = z.posting.dropped })
 
 unfoldable pub after_done : ℕ → Serial → Call → Serial
 after_done q z Boot = unchanged z
@@ -144,8 +142,8 @@ after_done q z (Post rs) = after_post q z rs
 
 -- "The answer accepted adds what the latest post with the answer done carried"
 unfoldable pub accept : Serial → List Record → Option Serial
-accept z [] = none
-accept z (first ∷ rs) = some (with_records z (z.records ++ first ∷ rs) (no_post z.posting))
+accept z [] = None
+accept z (first ∷ rs) = Some (with_records z (z.records ++ first ∷ rs) (no_post z.posting))
 
 -- with its oldest record dropped, and these left
 unfoldable pub after_drop : Serial → Record → List Record → Serial
@@ -154,34 +152,34 @@ after_drop z oldest rest =
     (record {
       posted = z.posting.posted;
       found_full = false;
-      dropped_for = Dropped.Record oldest.event oldest.datum;
+      dropped_for = Some oldest;
       dropped = z.posting.dropped ++ oldest ∷ [];
     })
 
 unfoldable pub drop_oldest : Serial → List Record → Option Serial
-drop_oldest z [] = none
-drop_oldest z (oldest ∷ rest) = some (after_drop z oldest rest)
+drop_oldest z [] = None
+drop_oldest z (oldest ∷ rest) = Some (after_drop z oldest rest)
 
 -- N7: "drops its oldest record at a stored answer when the last call before it that wasn't refused is a post that found Q records"
 unfoldable pub after_stored : Serial → Option Serial
-after_stored z = pick z.posting.found_full (drop_oldest z z.records) (some (unchanged z))
+after_stored z = pick z.posting.found_full (drop_oldest z z.records) (Some (unchanged z))
 
 -- "All else, cuts and refusals too, changes nothing."
 unfoldable pub tell : ℕ → Formatting → Serial → Call → Answer → Option Serial
-tell fuel g z c Answer.Done = some (after_done g.queue_records z c)
-tell fuel g z c (Answer.Chosen b) = some (unchanged z)
-tell fuel g z c Answer.Worked = some (unchanged z)
+tell fuel g z c Answer.Done = Some (after_done g.queue_records z c)
+tell fuel g z c (Answer.Chosen b) = Some (unchanged z)
+tell fuel g z c Answer.Worked = Some (unchanged z)
 tell fuel g z c Answer.Stored = after_stored z
 tell fuel g z c (Answer.Committed b) = run_body fuel g.program z b
 tell fuel g z c (Answer.Accepted dropped) = accept z z.posting.posted
-tell fuel g z c (Answer.Refused why) = some z
+tell fuel g z c (Answer.Refused why) = Some z
 
 unfoldable pub and_then : Option Serial → (Serial → Option Serial) → Option Serial
-and_then none next = none
-and_then (some z) next = next z
+and_then None next = None
+and_then (Some z) next = next z
 
 unfoldable pub serial_from : ℕ → Formatting → Serial → List Line → Option Serial
-serial_from fuel g z [] = some z
+serial_from fuel g z [] = Some z
 serial_from fuel g z (line ∷ lines) = and_then (tell fuel g z line.called line.answered) (λ z'. serial_from fuel g z' lines)
 
 unfoldable pub serial : ℕ → Formatting → List Line → Option Serial

@@ -7,7 +7,7 @@ use Rattle.model.specs.Calls.{Call, Boot, Step, Cut, Post, call, after_calls, st
 use Rattle.model.specs.Check.{check}
 use Rattle.model.specs.Device.{off}
 use Rattle.model.specs.Store.{view, waiting, formatted}
-use Rattle.model.specs.Types.{Answer, Body, Checked, Device, Dropped, Refusal, Run}
+use Rattle.model.specs.Types.{Answer, Body, Device, Err, None, Ok, Refusal, Run, Some}
 
 -- ---- programs
 
@@ -57,7 +57,7 @@ abbrev pub memory_of : Recovery → List ℕ
 memory_of r = (view (store_of r)).memory
 
 abbrev pub Refuses : List ℕ → Refusal → Type 0
-Refuses p r = check p ≡ Checked.Refused r
+Refuses p r = check p ≡ Err r
 
 -- a post and the three steps that accept it
 abbrev pub accepted : List Call
@@ -66,7 +66,7 @@ accepted = Boot ∷ Post (single 0 7) ∷ steps 3
 pub record Starred : Type 0 where
   pub program_words : with_task (0x0800 ∷ 0 ∷ 0x0010 ∷ 1 ∷ 0x0201 ∷ 0 ∷ 0x0900 ∷ 0 ∷ 0x0F00 ∷ 0 ∷ []) ≡ counting
   -- "Accepted; with word 5 as hex 001B: 1. With five words: 1."
-  pub program_accepted : check counting ≡ Checked.Accepted
+  pub program_accepted : check counting ≡ Ok tt
   pub word_5_wrong : Refuses (set counting 5 0x001B) Refusal.ProgramLength
   pub five_words : Refuses (take 5 counting) Refusal.ProgramLength
   pub number_1 : refusal Refusal.ProgramLength ≡ record { number = 1; first = 0; second = 0 }
@@ -76,7 +76,7 @@ pub record Starred : Type 0 where
   pub last_instruction : Refuses (set counting 24 0x0200) (Refusal.Instruction 1 1)
   pub number_5 : refusal (Refusal.Instruction 1 1) ≡ record { number = 5; first = 1; second = 1 }
   -- "LOAD with k 1 accepted, with k 2: 5."
-  pub load_1 : check (set counting 13 1) ≡ Checked.Accepted
+  pub load_1 : check (set counting 13 1) ≡ Ok tt
   pub load_2 : Refuses (set counting 13 2) (Refusal.Instruction 0 0)
   -- "Boot, 9 steps, cut: recovered memory 0, 0. After 10 steps: 1, 0, by 4 recovery steps. Step 14 ends the commit." N4: "recovery takes one
   -- step more (in 01's cases 5, and step 15)"
@@ -88,9 +88,9 @@ pub record Starred : Type 0 where
   pub step_fifteen : (view (store_after counting (Boot ∷ steps 15))).phase ≡ 0
   -- "Post and 3 steps: accepted. A further post before the event commits: 21." N7: "drops the record at head ..; then it is 21, so in 01's
   -- case only once the event has begun". (The first step more begins it, the sixth commits it, and 21 lasts until the eighth has moved head.)
-  pub three_steps : answer counting (Boot ∷ Post (single 0 7) ∷ steps 2) Step ≡ Answer.Accepted Dropped.Nothing
+  pub three_steps : answer counting (Boot ∷ Post (single 0 7) ∷ steps 2) Step ≡ Answer.Accepted None
   pub post_at_once : answer counting accepted (Post (single 0 8)) ≡ Answer.Done
-  pub four_steps : answer counting (accepted ++ Post (single 0 8) ∷ steps 3) Step ≡ Answer.Accepted (Dropped.Record 0 7)
+  pub four_steps : answer counting (accepted ++ Post (single 0 8) ∷ steps 3) Step ≡ Answer.Accepted (Some (record { event = 0; datum = 7 }))
   pub event-begun : answer counting accepted Step ≡ Answer.Chosen (Body.Event 0)
   pub post_once_begun : answer counting (accepted ++ Step ∷ []) (Post (single 0 8)) ≡ Answer.Refused Refusal.QueueFull
   pub post_before_commit : answer counting (accepted ++ steps 5) (Post (single 0 8)) ≡ Answer.Refused Refusal.QueueFull

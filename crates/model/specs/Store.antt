@@ -3,7 +3,7 @@ use Rattle.std.specs.Prelude.{ℕ, zero, suc, ◌+◌, ◌-◌, ◌*◌, Bool, L
 use Rattle.model.specs.Check.{check}
 use Rattle.model.specs.Program.{word, memory_words, entry}
 use Rattle.model.specs.Test.{pick, ◌and◌, must, ◌then◌}
-use Rattle.model.specs.Types.{Checked, Refusal, Found, Stored}
+use Rattle.model.specs.Types.{Checked, Err, None, Ok, Option, Record, Refusal, Some}
 
 -- ---- "Contents first. Words 0 to 7: mark .., M, log pairs L (1 to 64), queue records Q (1 to 32), then the starts of control (8),
 -- memory .., log .., queue .. the ring has Q + 1 slots of two words (event, data)"; N4: "Control gets word 16", "The start of every later
@@ -111,17 +111,17 @@ settled s none = s
 settled s (to w x) = set s (index s w) x
 
 -- which word that is
-unfoldable pub stored_word : List ℕ → Write → Stored
-stored_word s none = Stored.Nothing
-stored_word s (to w x) = Stored.Word (index s w)
+unfoldable pub stored_word : List ℕ → Write → Option ℕ
+stored_word s none = None
+stored_word s (to w x) = Some (index s w)
 
 -- ---- The log: "the search of the log ends with the pair found, or with none". Of k pairs from pair i on, the first with this
 -- address.
-unfoldable pub find_from : List ℕ → ℕ → ℕ → ℕ → Found
-find_from log y i zero = Found.Nothing
-find_from log y i (suc k) = pick (eqb (word log (2 * i)) y) (Found.Pair i) (find_from log y (suc i) k)
+unfoldable pub find_from : List ℕ → ℕ → ℕ → ℕ → Option ℕ
+find_from log y i zero = None
+find_from log y i (suc k) = pick (eqb (word log (2 * i)) y) (Some i) (find_from log y (suc i) k)
 
-unfoldable pub find : List ℕ → ℕ → ℕ → Found
+unfoldable pub find : List ℕ → ℕ → ℕ → Option ℕ
 find log n y = find_from log y 0 n
 
 -- ---- The ring: "Empty means head equals tail; full means the slot after tail is head." Then there is room for no record.
@@ -159,10 +159,6 @@ distance q h t = pick (leb h t) (t - h) (t + (q + 1) - h)
 unfoldable pub room : Store → ℕ
 room v = v.queue_records - distance v.queue_records v.head v.tail
 
-pub record Record : Type 0 where
-  pub event : ℕ
-  pub datum : ℕ
-
 unfoldable pub slot : List ℕ → ℕ → Record
 slot queue u = record { event = word queue (2 * u); datum = word queue (2 * u + 1) }
 
@@ -196,8 +192,8 @@ format_check p l q s =
 
 -- the store after the call
 unfoldable pub format_store : Checked → List ℕ → List ℕ → List ℕ
-format_store Checked.Accepted s new = new
-format_store (Checked.Refused r) s new = s
+format_store (Ok tt) s new = new
+format_store (Err r) s new = s
 
 unfoldable pub format : List ℕ → ℕ → ℕ → List ℕ → List ℕ
 format p l q s = format_store (format_check p l q s) s (formatted p l q)

@@ -1,7 +1,7 @@
 -- How the definitions choose and refuse. A test is a Bool; a check is `must` with the refusal that it meets, checks stand in
 -- a row with `then`, and the first refusal counts.
 use Rattle.std.specs.Prelude.{ℕ, zero, suc, Bool, true, false}
-use Rattle.model.specs.Types.{Checked, Refusal}
+use Rattle.model.specs.Types.{Checked, Err, Ok, Refusal}
 
 unfoldable pub pick {ℓ} : {A : Type ℓ} → Bool → A → A → A
 pick true x y = x
@@ -18,15 +18,15 @@ unfoldable pub ◌or◌ : Bool → Bool → Bool
 ◌or◌ false b = b
 
 unfoldable pub must : Bool → Refusal → Checked
-must true r = Checked.Accepted
-must false r = Checked.Refused r
+must true r = Ok tt
+must false r = Err r
 
 infixr 30 ◌then◌
 unfoldable pub ◌then◌ : Checked → Checked → Checked
-◌then◌ Checked.Accepted b = b
-◌then◌ (Checked.Refused r) b = Checked.Refused r
+◌then◌ (Ok tt) b = b
+◌then◌ (Err r) b = Err r
 
 -- the checks f i, f (i + 1), .. of which there are k
 unfoldable pub each : (ℕ → Checked) → ℕ → ℕ → Checked
-each f i zero = Checked.Accepted
+each f i zero = Ok tt
 each f i (suc k) = f i then each f (suc i) k

@@ -7,12 +7,13 @@ pub use Rattle.model.specs.declared.Place.{Place}
 pub use Rattle.model.specs.declared.Place.TheVariants.{Free, Run, Half}
 pub use Rattle.model.specs.declared.Device.{Device}
 pub use Rattle.model.specs.declared.Refusal.{Refusal}
-pub use Rattle.model.specs.declared.Checked.{Checked}
-pub use Rattle.model.specs.declared.Dropped.{Dropped}
+pub use Rattle.model.specs.declared.Record.{Record}
 pub use Rattle.model.specs.declared.Answer.{Answer}
 pub use Rattle.model.specs.declared.Instruction.{Instruction}
 pub use Rattle.model.specs.declared.Effect.{Effect}
-pub use Rattle.model.specs.declared.Found.{Found}
-pub use Rattle.model.specs.declared.Stored.{Stored}
 pub use Rattle.model.specs.declared.Totals.{Totals}
-pub use Rattle.model.specs.declared.Ended.{Ended}
+pub use Rattle.std.specs.Prelude.{Option, Some, None, Result, Ok, Err}
+
+-- What a check finds, and how a run ends: well, or with a refusal.
+abbrev pub Checked : Type 0
+Checked = Result Unit Refusal

@@ -81,21 +81,14 @@ pub enum Refusal {
     BurstLength,
 }
 
-// What a check finds.
+// A record of the queue or of a burst: an event's number and its data.
 #[derive(Clone, Copy)]
-pub enum Checked {
-    Accepted,
-    Refused(Refusal),
+pub struct Record {
+    pub event: u16,
+    pub datum: u16,
 }
 
-// What a handler dropped for its burst: nothing, or a record's event and data.
-#[derive(Clone, Copy)]
-pub enum Dropped {
-    Nothing,
-    Record(u16, u16),
-}
-
-// What a call answers.
+// What a call answers. An acceptance tells the record that was dropped for it.
 #[derive(Clone, Copy)]
 pub enum Answer {
     Done,
@@ -103,7 +96,7 @@ pub enum Answer {
     Worked,
     Stored,
     Committed(Body),
-    Accepted(Dropped),
+    Accepted(Option<Record>),
     Refused(Refusal),
 }
 
@@ -148,31 +141,10 @@ pub enum Effect {
     Unknown,
 }
 
-// What the search of the log ends with.
-#[derive(Clone, Copy)]
-pub enum Found {
-    Pair(u16),
-    Nothing,
-}
-
-// Which word of the store a step stored: none, or the word with this index. Where a word's value stays the same it is told, too.
-#[derive(Clone, Copy)]
-pub enum Stored {
-    Nothing,
-    Word(u16),
-}
-
 // The host's totals: bodies committed, events accepted, stores made.
 #[derive(Clone, Copy)]
 pub struct Totals {
     pub committed: u32,
     pub accepted: u32,
     pub stores: u32,
-}
-
-// How a run ends.
-#[derive(Clone, Copy)]
-pub enum Ended {
-    Spent,
-    Refused(Refusal),
 }
