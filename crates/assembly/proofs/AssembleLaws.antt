@@ -87,10 +87,10 @@ rule_some p number i j =
     (pick_some (eqb i 1) (some_number 22) (pick_some (eqb i 2) (some_number 23) (pick_some (eqb i 3) (some_number 24) (some_number 25))))
     (pick_some (eqb number 4) (pick_some _ (some_number 27) (some_number 26)) (pick_some (eqb number 5) (instruction_some _ _ _ _ _ _) (some_number 21)))
 
-pub rule-accepted : (room : List ℕ) (n : ℕ) (p : List ℕ) (found : Checked) → (rule_mistake room n p found).number ≡ 0 → found ≡ Checked.Accepted
+pub rule-accepted : (room : List ℕ) (n : ℕ) (p : List ℕ) (found : Checked) → (rule_mistake room n p found).number ≡ 0 → found ≡ Ok tt
 unfolding rule_mistake explained_by
-rule-accepted room n p Checked.Accepted e = refl
-rule-accepted room n p (Checked.Refused r) e = absurd (rule_some p _ _ _ e)
+rule-accepted room n p (Ok _) e = refl
+rule-accepted room n p (Err r) e = absurd (rule_some p _ _ _ e)
 
 -- ---- What was put is inside; and how many lines were read
 

@@ -13,11 +13,11 @@ use Rattle.assembly.specs.Rules.{explained_by, rule_mistake}
 module _ (room : List ℕ) (n : ℕ) (p : List ℕ) where
   pub told-accepted : (found : Checked) → word (checked_words found) 0 ≢ 6 → mistake_at 0 0 ≡ rule_mistake room n p found
   unfolding checked_words refused_words rule_mistake
-  told-accepted Checked.Accepted other = refl
-  told-accepted (Checked.Refused r) other = absurd (other refl)
+  told-accepted (Ok _) other = refl
+  told-accepted (Err r) other = absurd (other refl)
 
   pub told-refused : (found : Checked) → word (checked_words found) 0 ≡ 6
       → explained_by room n p (word (checked_words found) 2) (word (checked_words found) 3) (word (checked_words found) 4) ≡ rule_mistake room n p found
   unfolding checked_words refused_words rule_mistake
-  told-refused Checked.Accepted six = absurd (omega (arith, six))
-  told-refused (Checked.Refused r) six = refl
+  told-refused (Ok _) six = absurd (omega (arith, six))
+  told-refused (Err r) six = refl

@@ -30,11 +30,11 @@ pub record AssemblesLines (room : List ℕ) (n : ℕ) (left : List ℕ) (r : Ass
   pub mistake : r.mistake ≡ lines_mistake room n
   pub inside : r.count ≤ length left
   pub made : r.mistake.number ≡ 0 → take r.count left ≡ words room n
-  pub accepted : r.mistake.number ≡ 0 → check (words room n) ≡ Checked.Accepted
+  pub accepted : r.mistake.number ≡ 0 → check (words room n) ≡ Ok tt
 
 -- "Every text is answered: by its words, which the check accepts, or by a line and a mistake"
 pub record Assembles (text left : List ℕ) (r : Assembled) : Type 0 where
   pub mistake : r.mistake ≡ assemble_mistake text
   pub inside : r.count ≤ length left
   pub made : r.mistake.number ≡ 0 → take r.count left ≡ assembled text
-  pub accepted : r.mistake.number ≡ 0 → check (assembled text) ≡ Checked.Accepted
+  pub accepted : r.mistake.number ≡ 0 → check (assembled text) ≡ Ok tt

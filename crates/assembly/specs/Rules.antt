@@ -112,8 +112,8 @@ unfoldable pub explained_by : List ℕ → ℕ → List ℕ → ℕ → ℕ → 
 explained_by room n p number i j = mistake_at (suc (rule_place room n number i j)) (rule_number p number i j)
 
 unfoldable pub rule_mistake : List ℕ → ℕ → List ℕ → Checked → Mistake
-rule_mistake room n p Checked.Accepted = mistake_at 0 0
-rule_mistake room n p (Checked.Refused r) = explained_by room n p (refusal r).number (refusal r).first (refusal r).second
+rule_mistake room n p (Ok _) = mistake_at 0 0
+rule_mistake room n p (Err r) = explained_by room n p (refusal r).number (refusal r).first (refusal r).second
 
 unfoldable pub lines_mistake : List ℕ → ℕ → Mistake
 lines_mistake room n = or_next (mistake_of room n) (rule_mistake room n (words room n) (check (words room n)))

@@ -243,7 +243,7 @@ fn explained(room: &[u64], n: usize, words: &[u16], number: u16, i: u16, j: u16)
 }
 
 // The mistake of lines whose words the check refuses; none where it accepts them.
-pub fn rule_mistake(room: &[u64], n: usize, words: &[u16], checked: Checked) -> Mistake
+pub fn rule_mistake(room: &[u64], n: usize, words: &[u16], checked: Result<(), Refusal>) -> Mistake
     requires { (6 * n ≤ length room.now) × (1 ≤ n) }
     ensures { result ≡ rule_mistake room.now n words.now checked }
 {

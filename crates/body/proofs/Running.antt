@@ -12,7 +12,7 @@ use Rattle.model.specs.Check.{instruction_rule}
 use Rattle.model.specs.Device.{end_stores, named_row, open_sound, head_is, saves, place_fits, body_sound, Outcome, refuse, judged, act, save_rest, place_step}
 use Rattle.model.specs.Program.{word, instructions, body_number, effect_at}
 use Rattle.model.specs.Store.{Store, view}
-use Rattle.model.specs.Test.{pick, ◌and◌, must, ◌then◌}
+use Rattle.model.specs.Test.{pick, ◌and◌, must, ◌then◌, in_turn, both}
 use Rattle.model.specs.declared.Body.{Body}
 use Rattle.model.specs.declared.Checked.{Checked}
 use Rattle.model.specs.declared.Device.{Device}
@@ -76,13 +76,13 @@ module _ (p s : List ℕ) (d : Device) (h : Looked p s d) where
 -- ---- a fetch, check by check: those of the row, is instruction j there, those of the instruction, word 10's, the record's event
 
 row_first : (a b c d : Checked) → (a then b then c then d) ≡ ((a then b then c) then d)
-unfolding ◌then◌
-row_first Checked.Accepted Checked.Accepted c d = refl
-row_first Checked.Accepted (Checked.Refused r) c d = refl
-row_first (Checked.Refused r) b c d = refl
+unfolding in_turn
+row_first (Ok _) (Ok _) c d = refl
+row_first (Ok _) (Err r) c d = refl
+row_first (Err r) b c d = refl
 
 abbrev whole : Checked → Bool → Checked → Checked → Bool → Checked
-whole a t m o h = a then pick t m Checked.Accepted then o then must (t and h and true) Refusal.State
+whole a t m o h = a then pick t m (Ok tt) then o then must (t and h and true) Refusal.State
 
 module _ (p : List ℕ) (v : Store) (r : List ℕ) (b : Body) (j : ℕ) where
   abbrev there : Bool
@@ -98,36 +98,36 @@ module _ (p : List ℕ) (v : Store) (r : List ℕ) (b : Body) (j : ℕ) where
   unfolding fetched body_sound place_fits
   fetched_is = ap (λ (x : Checked). does x at) (row_first _ _ _ _)
 
-  pub fetched-row : {x : Refusal} → row_sound p v b ≡ Checked.Refused x → Fetched.Refused x ≡ fetched p v r b j
-  unfolding does ◌then◌
+  pub fetched-row : {x : Refusal} → row_sound p v b ≡ Err x → Fetched.Refused x ≡ fetched p v r b j
+  unfolding does in_turn
   fetched-row e = rw fetched_is (rw e)
 
-  module _ (row : row_sound p v b ≡ Checked.Accepted) where
-    pub gone_open : {x : Refusal} → there ≡ false → open_sound p v b ≡ Checked.Refused x → Fetched.Refused x ≡ fetched p v r b j
-    unfolding does ◌then◌ pick
+  module _ (row : row_sound p v b ≡ Ok tt) where
+    pub gone_open : {x : Refusal} → there ≡ false → open_sound p v b ≡ Err x → Fetched.Refused x ≡ fetched p v r b j
+    unfolding does in_turn pick
     gone_open t o = rw fetched_is (simp (row, t, o))
 
-    pub gone : there ≡ false → open_sound p v b ≡ Checked.Accepted → Fetched.Refused Refusal.State ≡ fetched p v r b j
-    unfolding does ◌then◌ pick must ◌and◌
+    pub gone : there ≡ false → open_sound p v b ≡ Ok tt → Fetched.Refused Refusal.State ≡ fetched p v r b j
+    unfolding does in_turn pick must both
     gone t o = rw fetched_is (simp (row, t, o))
 
     module _ (t : there ≡ true) where
-      pub fetched-code : {x : Refusal} → code_checks ≡ Checked.Refused x → Fetched.Refused x ≡ fetched p v r b j
-      unfolding does ◌then◌ pick
+      pub fetched-code : {x : Refusal} → code_checks ≡ Err x → Fetched.Refused x ≡ fetched p v r b j
+      unfolding does in_turn pick
       fetched-code c = rw fetched_is (simp (row, t, c))
 
       last_is : (h : Bool) (o : Checked) → (o then must (true and h and true) Refusal.State) ≡ (o then must h Refusal.State)
-      unfolding ◌and◌
+      unfolding both
       last_is true o = refl
       last_is false o = refl
 
-      pub fetched-last : code_checks ≡ Checked.Accepted → does (last_sound p v b) at ≡ fetched p v r b j
-      unfolding ◌then◌ pick
+      pub fetched-last : code_checks ≡ Ok tt → does (last_sound p v b) at ≡ fetched p v r b j
+      unfolding in_turn pick
       fetched-last c = rw fetched_is (simp (row, t, c) (ap (λ (x : Checked). does x at) (sym (last_is (head_is v b) (open_sound p v b)))))
 
 -- ---- what an accepted row gives
 
-pub row-given : (p s : List ℕ) (b : Body) → Running p s b → row_sound p (view s) b ≡ Checked.Accepted → HasBody p (body_number p b)
+pub row-given : (p s : List ℕ) (b : Body) → Running p s b → row_sound p (view s) b ≡ Ok tt → HasBody p (body_number p b)
 row-given p s b h e =
     let rest = then_rest _ _ e in
     used_passed p (body_number p b)
@@ -136,11 +136,11 @@ row-given p s b h e =
 
 -- ---- from the checks to what is fetched, and back
 
-pub does_stop : {x : Refusal} {m : Checked} (f : Effect) → m ≡ Checked.Refused x → Fetched.Refused x ≡ does m f
+pub does_stop : {x : Refusal} {m : Checked} (f : Effect) → m ≡ Err x → Fetched.Refused x ≡ does m f
 unfolding does
 does_stop f e = rw e
 
-pub does_go : {m : Checked} (f g : Effect) → m ≡ Checked.Accepted → f ≡ g → Fetched.Does f ≡ does m g
+pub does_go : {m : Checked} (f g : Effect) → m ≡ Ok tt → f ≡ g → Fetched.Does f ≡ does m g
 unfolding does
 does_go f g e h = rw (e, h)
 
@@ -150,26 +150,26 @@ does-same e = cc
 pub never {ℓ} : {X : Type ℓ} {x : Refusal} {f : Effect} → Fetched.Refused x ≡ Fetched.Does f → X
 never e = impossible (cc)
 
-pub does-refused : {x : Refusal} (f : Effect) (m : Checked) → does m f ≡ Fetched.Refused x → m ≡ Checked.Refused x
+pub does-refused : {x : Refusal} (f : Effect) (m : Checked) → does m f ≡ Fetched.Refused x → m ≡ Err x
 unfolding does
-does-refused f Checked.Accepted e = cc
-does-refused f (Checked.Refused r) e = cc
+does-refused f (Ok _) e = cc
+does-refused f (Err r) e = cc
 
-pub does-accepted : {g : Effect} (f : Effect) (m : Checked) → does m f ≡ Fetched.Does g → (m ≡ Checked.Accepted) × (f ≡ g)
+pub does-accepted : {g : Effect} (f : Effect) (m : Checked) → does m f ≡ Fetched.Does g → (m ≡ Ok tt) × (f ≡ g)
 unfolding does
-does-accepted f Checked.Accepted e = (refl, cc)
-does-accepted f (Checked.Refused r) e = (cc, cc)
+does-accepted f (Ok _) e = (refl, cc)
+does-accepted f (Err r) e = (cc, cc)
 
 placed_last : (a b c d e : Checked) (t h q : Bool) (r : Refusal) → (a then b then c then d then e then must (t and h and q) r) ≡ ((a then b then c then d then e then must (t and h and true) r) then must q r)
-unfolding ◌then◌ must ◌and◌
-placed_last (Checked.Refused x) b c d e t h q r = refl
-placed_last Checked.Accepted (Checked.Refused x) c d e t h q r = refl
-placed_last Checked.Accepted Checked.Accepted (Checked.Refused x) d e t h q r = refl
-placed_last Checked.Accepted Checked.Accepted Checked.Accepted (Checked.Refused x) e t h q r = refl
-placed_last Checked.Accepted Checked.Accepted Checked.Accepted Checked.Accepted (Checked.Refused x) t h q r = refl
-placed_last Checked.Accepted Checked.Accepted Checked.Accepted Checked.Accepted Checked.Accepted false h q r = refl
-placed_last Checked.Accepted Checked.Accepted Checked.Accepted Checked.Accepted Checked.Accepted true false q r = refl
-placed_last Checked.Accepted Checked.Accepted Checked.Accepted Checked.Accepted Checked.Accepted true true q r = refl
+unfolding in_turn must both
+placed_last (Err x) b c d e t h q r = refl
+placed_last (Ok _) (Err x) c d e t h q r = refl
+placed_last (Ok _) (Ok _) (Err x) d e t h q r = refl
+placed_last (Ok _) (Ok _) (Ok _) (Err x) e t h q r = refl
+placed_last (Ok _) (Ok _) (Ok _) (Ok _) (Err x) t h q r = refl
+placed_last (Ok _) (Ok _) (Ok _) (Ok _) (Ok _) false h q r = refl
+placed_last (Ok _) (Ok _) (Ok _) (Ok _) (Ok _) true false q r = refl
+placed_last (Ok _) (Ok _) (Ok _) (Ok _) (Ok _) true true q r = refl
 
 -- the checks at a place: those at every place, and that the effect fits it
 placed : (p : List ℕ) (v : Store) (x : Place) (b : Body) (j : ℕ) (f : Effect) → body_sound p v x b j f ≡ (body_sound p v (Free 0) b j f then must (place_fits x f) Refusal.State)
@@ -182,12 +182,12 @@ module _ (p : List ℕ) (v : Store) (d : Device) (b : Body) (j : ℕ) where
   abbrev effect_here : Effect
   effect_here = effect_at p (body_number p b) j d.registers
 
-  refused-at : {x : Refusal} (y : Place) → fetched p v d.registers b j ≡ Fetched.Refused x → body_sound p v y b j effect_here ≡ Checked.Refused x
-  unfolding fetched ◌then◌
+  refused-at : {x : Refusal} (y : Place) → fetched p v d.registers b j ≡ Fetched.Refused x → body_sound p v y b j effect_here ≡ Err x
+  unfolding fetched in_turn
   refused-at y e = rw (placed, does-refused _ _ e)
 
   judged-fits : {g : Effect} (y : Place) (o : Effect → Outcome) → fetched p v d.registers b j ≡ Fetched.Does g → judged (body_sound p v y b j effect_here) d (o effect_here) ≡ judged (must (place_fits y g) Refusal.State) d (o g)
-  unfolding fetched ◌then◌
+  unfolding fetched in_turn
   judged-fits y o e = let k = does-accepted _ _ e in rw (placed, k.0, k.1)
 
   pub run-refused : {x : Refusal} (n : ℕ) → fetched p v d.registers b j ≡ Fetched.Refused x → place_step p v d (Run b j n) ≡ refuse d x

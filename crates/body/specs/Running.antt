@@ -46,8 +46,8 @@ abbrev pub last_sound : List ℕ → Store → Body → Checked
 last_sound p v b = open_sound p v b then must (head_is v b) Refusal.State
 
 unfoldable pub does : Checked → Effect → Fetched
-does Checked.Accepted f = Fetched.Does f
-does (Checked.Refused r) f = Fetched.Refused r
+does (Ok _) f = Fetched.Does f
+does (Err r) f = Fetched.Refused r
 
 -- of the instruction alone, with the registers r
 abbrev pub instruction_fetched : List ℕ → List ℕ → ℕ → ℕ → Fetched

@@ -30,7 +30,7 @@ fn shown(store: &[u16], log_count: u16, address: u16) -> u16
     ensures { result ≡ (let v = view store.now in shown v (find v.log log_count address) address) }
 {
     let found = log::find(store, log_count, address);
-    let Found::Pair(pair) = found else {
+    let Some(pair) = found else {
         return memory::read(store, address);
     };
     log::value(store, pair)
@@ -65,7 +65,7 @@ fn load(
 fn append(store: &mut [u16], core: Core, body: Body, instruction: u16, address: u16) -> CoreResult
     requires { Shaped store.old }
     ensures { OnAnyRegisters core result store.new
-        (leaves (λ v d. save_step v d body instruction address 0 Found.Nothing) store.old) }
+        (leaves (λ v d. save_step v d body instruction address 0 None) store.old) }
 {
     let log_count = core.count;
     if log_count >= store[2] {
@@ -97,7 +97,7 @@ fn save(
     let address = address as u16;
     let log_count = core.count;
     let found = log::find(store, log_count, address);
-    let Found::Pair(pair) = found else {
+    let Some(pair) = found else {
         return append(store, core, body, instruction, address);
     };
     let word = log::write_value(store, pair, value);

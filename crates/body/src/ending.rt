@@ -56,11 +56,11 @@ pub fn end_task(
     let place = Place::Run(body, instruction, made + 1);
     if made == 0 {
         store[11] = log_count;
-        return results::stored(core, place, log_count, Stored::Word(11));
+        return results::stored(core, place, log_count, Some(11));
     }
     if made == 1 {
         store[12] = task;
-        return results::stored(core, place, log_count, Stored::Word(12));
+        return results::stored(core, place, log_count, Some(12));
     }
     if made == 2 {
         let number = fetching::body_number(program, body);
@@ -68,7 +68,7 @@ pub fn end_task(
             rows::transaction(program, number),
             rows::transaction(program, task),
         );
-        return results::stored(core, place, log_count, Stored::Word(13));
+        return results::stored(core, place, log_count, Some(13));
     }
     store[8] = 1;
     results::turned_on(registers, Answer::Committed(body))
@@ -93,13 +93,13 @@ pub fn end_event(
     let place = Place::Run(body, instruction, made + 1);
     if made == 0 {
         store[11] = log_count;
-        return results::stored(core, place, log_count, Stored::Word(11));
+        return results::stored(core, place, log_count, Some(11));
     }
     if made == 1 {
         let head = store[14];
         let next = queue::slot_after(store[3], head);
         store[12] = next;
-        return results::stored(core, place, log_count, Stored::Word(12));
+        return results::stored(core, place, log_count, Some(12));
     }
     store[8] = 2;
     results::turned_on(registers, Answer::Committed(body))

@@ -47,25 +47,25 @@ pub fn instruction_at(place: Place) -> u16
 }
 
 // The record at head, for a running event.
-fn head_sound(program: &[u16], store: &[u16], body: Body) -> Checked
+fn head_sound(program: &[u16], store: &[u16], body: Body) -> Result<(), Refusal>
     requires { Running program.now store.now body }
     ensures { result ≡ head_sound program.now (view store.now) body }
 {
     match body {
-        Body::Task(_) => Checked::Accepted,
+        Body::Task(_) => Ok(()),
         Body::Event(_) => single::record_at_head(program, store),
     }
 }
 
 // Word 10, for a running task.
-fn open_sound(program: &[u16], store: &[u16], body: Body) -> Checked
+fn open_sound(program: &[u16], store: &[u16], body: Body) -> Result<(), Refusal>
     requires running { Running program.now store.now body }
     requires rows_inside { RowsInside program.now }
     ensures { result ≡ open_sound program.now (view store.now) body }
 {
     match body {
         Body::Task(_) => single::open_number(program, store),
-        Body::Event(_) => Checked::Accepted,
+        Body::Event(_) => Ok(()),
     }
 }
 
@@ -82,36 +82,30 @@ fn head_is(store: &[u16], body: Body) -> bool
 }
 
 // "at GO task k's row (4)"
-fn named_row(program: &[u16], effect: Effect) -> Checked
+fn named_row(program: &[u16], effect: Effect) -> Result<(), Refusal>
     requires rows_inside { RowsInside program.now }
     requires by_index { (k : ℕ) → effect ≡ Effect.EndTask k → k < tasks program.now }
     ensures { result ≡ named_row program.now effect }
 {
     match effect {
-        Effect::Compute(_, _) => Checked::Accepted,
-        Effect::Jump(_) => Checked::Accepted,
-        Effect::Load(_, _) => Checked::Accepted,
-        Effect::Save(_, _) => Checked::Accepted,
+        Effect::Compute(_, _) => Ok(()),
+        Effect::Jump(_) => Ok(()),
+        Effect::Load(_, _) => Ok(()),
+        Effect::Save(_, _) => Ok(()),
         Effect::EndTask(task) => rows::usable(program, task),
-        Effect::EndEvent => Checked::Accepted,
-        Effect::Unknown => Checked::Accepted,
+        Effect::EndEvent => Ok(()),
+        Effect::Unknown => Ok(()),
     }
 }
 
 // The checks of a body's record and of its row.
-fn row_sound(program: &[u16], store: &[u16], body: Body) -> Checked
+fn row_sound(program: &[u16], store: &[u16], body: Body) -> Result<(), Refusal>
     requires { Running program.now store.now body }
     ensures value { result ≡ row_sound program.now (view store.now) body }
-    ensures given { result ≡ Checked.Accepted → HasBody program.now (body_number program.now body) }
+    ensures given { result ≡ Ok tt → HasBody program.now (body_number program.now body) }
 {
-    let record = head_sound(program, store, body);
-    let Checked::Accepted = record else {
-        return record;
-    };
-    let found = rows::inside(program);
-    let Checked::Accepted = found else {
-        return found;
-    };
+    head_sound(program, store, body)?;
+    rows::inside(program)?;
     rows::usable(program, body_number(program, body))
 }
 
@@ -127,31 +121,28 @@ fn instruction_effect(
     ensures given { (f : Effect) → result ≡ Fetched.Does f → LegalEffect program.now body_number instruction f }
 {
     let found = code::rule(program, body_number, instruction);
-    if let Checked::Refused(why) = found {
+    if let Err(why) = found {
         return Fetched::Refused(why);
     }
     let effect = effects::effect_at(program, body_number, instruction, registers);
     let named = named_row(program, effect);
-    if let Checked::Refused(why) = named {
+    if let Err(why) = named {
         return Fetched::Refused(why);
     }
     Fetched::Does(effect)
 }
 
 // Word 10's rule, and that a running event is that of the record at head.
-fn last_sound(program: &[u16], store: &[u16], body: Body) -> Checked
+fn last_sound(program: &[u16], store: &[u16], body: Body) -> Result<(), Refusal>
     requires running { Running program.now store.now body }
     requires rows_inside { RowsInside program.now }
     ensures { result ≡ last_sound program.now (view store.now) body }
 {
-    let found = open_sound(program, store, body);
-    let Checked::Accepted = found else {
-        return found;
-    };
+    open_sound(program, store, body)?;
     if !head_is(store, body) {
-        return Checked::Refused(Refusal::State);
+        return Err(Refusal::State);
     }
-    Checked::Accepted
+    Ok(())
 }
 
 // The checks of a body at an instruction that hold for every place, and what the instruction does.
@@ -167,13 +158,13 @@ pub fn fetch(
     ensures given { (f : Effect) → result ≡ Fetched.Does f → Fetches program.now body instruction f }
 {
     let found = row_sound(program, store, body);
-    if let Checked::Refused(why) = found {
+    if let Err(why) = found {
         return Fetched::Refused(why);
     }
     let number = body_number(program, body);
     if instruction >= rows::instructions(program, number) {
         let open = open_sound(program, store, body);
-        if let Checked::Refused(why) = open {
+        if let Err(why) = open {
             return Fetched::Refused(why);
         }
         return Fetched::Refused(Refusal::State);
@@ -183,7 +174,7 @@ pub fn fetch(
         return got;
     };
     let last = last_sound(program, store, body);
-    if let Checked::Refused(why) = last {
+    if let Err(why) = last {
         return Fetched::Refused(why);
     }
     Fetched::Does(effect)

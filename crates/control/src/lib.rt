@@ -18,26 +18,26 @@ use store::{log, queue};
 pub mod single;
 
 // "8 at most 2"
-fn phase_rule(store: &[u16]) -> Checked
+fn phase_rule(store: &[u16]) -> Result<(), Refusal>
     requires { Shaped store.now }
     ensures { result ≡ obey (phase_rule (view store.now)) }
 {
     if store[8] > 2 {
-        return Checked::Refused(Refusal::Control(8));
+        return Err(Refusal::Control(8));
     }
-    Checked::Accepted
+    Ok(())
 }
 
 // "9 below T"
-fn task_rule(program: &[u16], store: &[u16]) -> Checked
+fn task_rule(program: &[u16], store: &[u16]) -> Result<(), Refusal>
     requires contents { Contents program.now }
     requires shaped { Shaped store.now }
     ensures { result ≡ obey (task_rule program.now (view store.now)) }
 {
     if store[9] >= program[1] {
-        return Checked::Refused(Refusal::Control(9));
+        return Err(Refusal::Control(9));
     }
-    Checked::Accepted
+    Ok(())
 }
 
 // Is an open number 0 or the transaction number of a task?
@@ -53,35 +53,35 @@ fn open_kept(program: &[u16], open_number: u16, task: u16) -> bool
 }
 
 // "in phase 0, 10 is 0 or the transaction number of task 9"
-fn open_rule(program: &[u16], store: &[u16]) -> Checked
+fn open_rule(program: &[u16], store: &[u16]) -> Result<(), Refusal>
     requires rows_inside { RowsInside program.now }
     requires shaped { Shaped store.now }
     ensures { result ≡ obey (open_rule program.now (view store.now)) }
 {
     if store[8] != 0 {
-        return Checked::Accepted;
+        return Ok(());
     }
     if store[9] >= program[1] {
-        return Checked::Accepted;
+        return Ok(());
     }
     if !open_kept(program, store[10], store[9]) {
-        return Checked::Refused(Refusal::Control(10));
+        return Err(Refusal::Control(10));
     }
-    Checked::Accepted
+    Ok(())
 }
 
 // "in phase 2, 10 is 0"
-fn open_serving(store: &[u16]) -> Checked
+fn open_serving(store: &[u16]) -> Result<(), Refusal>
     requires { Shaped store.now }
     ensures { result ≡ obey (open_serving (view store.now)) }
 {
     if store[8] != 2 {
-        return Checked::Accepted;
+        return Ok(());
     }
     if store[10] != 0 {
-        return Checked::Refused(Refusal::Control(10));
+        return Err(Refusal::Control(10));
     }
-    Checked::Accepted
+    Ok(())
 }
 
 fn is_committing(store: &[u16]) -> bool
@@ -95,46 +95,46 @@ fn is_committing(store: &[u16]) -> bool
 }
 
 // "In phases 1 and 2, 11 at most L"
-fn count_rule(store: &[u16]) -> Checked
+fn count_rule(store: &[u16]) -> Result<(), Refusal>
     requires { Shaped store.now }
     ensures { result ≡ obey (count_rule (view store.now)) }
 {
     if !is_committing(store) {
-        return Checked::Accepted;
+        return Ok(());
     }
     if store[11] > store[2] {
-        return Checked::Refused(Refusal::Control(11));
+        return Err(Refusal::Control(11));
     }
-    Checked::Accepted
+    Ok(())
 }
 
 // "In phase 1, 12 below T"
-fn pending_task_rule(program: &[u16], store: &[u16]) -> Checked
+fn pending_task_rule(program: &[u16], store: &[u16]) -> Result<(), Refusal>
     requires contents { Contents program.now }
     requires shaped { Shaped store.now }
     ensures { result ≡ obey (pending_task_rule program.now (view store.now)) }
 {
     if store[8] != 1 {
-        return Checked::Accepted;
+        return Ok(());
     }
     if store[12] >= program[1] {
-        return Checked::Refused(Refusal::Control(12));
+        return Err(Refusal::Control(12));
     }
-    Checked::Accepted
+    Ok(())
 }
 
 // "In phase 2, 12 at most Q"
-fn pending_head_rule(store: &[u16]) -> Checked
+fn pending_head_rule(store: &[u16]) -> Result<(), Refusal>
     requires { Shaped store.now }
     ensures { result ≡ obey (pending_head_rule (view store.now)) }
 {
     if store[8] != 2 {
-        return Checked::Accepted;
+        return Ok(());
     }
     if store[12] > store[3] {
-        return Checked::Refused(Refusal::Control(12));
+        return Err(Refusal::Control(12));
     }
-    Checked::Accepted
+    Ok(())
 }
 
 // "and equals 14, or is the slot after it with the queue not empty"
@@ -153,121 +153,121 @@ fn pending_move_kept(store: &[u16]) -> bool
 }
 
 // In phase 2 that, which "needs 14 and 15".
-fn pending_move_rule(store: &[u16]) -> Checked
+fn pending_move_rule(store: &[u16]) -> Result<(), Refusal>
     requires { Shaped store.now }
     ensures { result ≡ obey (pending_move_rule (view store.now)) }
 {
     if store[8] != 2 {
-        return Checked::Accepted;
+        return Ok(());
     }
     if store[14] > store[3] {
-        return Checked::Accepted;
+        return Ok(());
     }
     if store[15] > store[3] {
-        return Checked::Accepted;
+        return Ok(());
     }
     if !pending_move_kept(store) {
-        return Checked::Refused(Refusal::Control(12));
+        return Err(Refusal::Control(12));
     }
-    Checked::Accepted
+    Ok(())
 }
 
 // "13 is 0 or task 12's number", in phase 1
-fn pending_open_rule(program: &[u16], store: &[u16]) -> Checked
+fn pending_open_rule(program: &[u16], store: &[u16]) -> Result<(), Refusal>
     requires rows_inside { RowsInside program.now }
     requires shaped { Shaped store.now }
     ensures { result ≡ obey (pending_open_rule program.now (view store.now)) }
 {
     if store[8] != 1 {
-        return Checked::Accepted;
+        return Ok(());
     }
     if store[12] >= program[1] {
-        return Checked::Accepted;
+        return Ok(());
     }
     if !open_kept(program, store[13], store[12]) {
-        return Checked::Refused(Refusal::Control(13));
+        return Err(Refusal::Control(13));
     }
-    Checked::Accepted
+    Ok(())
 }
 
 // "14 and 15 at most Q"
-fn head_rule(store: &[u16]) -> Checked
+fn head_rule(store: &[u16]) -> Result<(), Refusal>
     requires { Shaped store.now }
     ensures { result ≡ obey (head_rule (view store.now)) }
 {
     if store[14] > store[3] {
-        return Checked::Refused(Refusal::Control(14));
+        return Err(Refusal::Control(14));
     }
-    Checked::Accepted
+    Ok(())
 }
 
-fn tail_rule(store: &[u16]) -> Checked
+fn tail_rule(store: &[u16]) -> Result<(), Refusal>
     requires { Shaped store.now }
     ensures { result ≡ obey (tail_rule (view store.now)) }
 {
     if store[15] > store[3] {
-        return Checked::Refused(Refusal::Control(15));
+        return Err(Refusal::Control(15));
     }
-    Checked::Accepted
+    Ok(())
 }
 
 // "word 16 at most 2"
-fn begun_rule(store: &[u16]) -> Checked
+fn begun_rule(store: &[u16]) -> Result<(), Refusal>
     requires { Shaped store.now }
     ensures { result ≡ obey (begun_rule (view store.now)) }
 {
     if store[16] > 2 {
-        return Checked::Refused(Refusal::Control(16));
+        return Err(Refusal::Control(16));
     }
-    Checked::Accepted
+    Ok(())
 }
 
 // "in phase 0 a 2 needs a queue not empty and word 10 at 0", which needs 14 and 15
-fn begun_event_rule(store: &[u16]) -> Checked
+fn begun_event_rule(store: &[u16]) -> Result<(), Refusal>
     requires { Shaped store.now }
     ensures { result ≡ obey (begun_event_rule (view store.now)) }
 {
     if store[16] != 2 {
-        return Checked::Accepted;
+        return Ok(());
     }
     if store[8] != 0 {
-        return Checked::Accepted;
+        return Ok(());
     }
     if store[14] > store[3] {
-        return Checked::Accepted;
+        return Ok(());
     }
     if store[15] > store[3] {
-        return Checked::Accepted;
+        return Ok(());
     }
     if store[14] == store[15] {
-        return Checked::Refused(Refusal::Control(16));
+        return Err(Refusal::Control(16));
     }
     if store[10] != 0 {
-        return Checked::Refused(Refusal::Control(16));
+        return Err(Refusal::Control(16));
     }
-    Checked::Accepted
+    Ok(())
 }
 
 // "the first n log addresses below M", one pair's
-fn address_rule(program: &[u16], store: &[u16], pair: u16) -> Checked
+fn address_rule(program: &[u16], store: &[u16], pair: u16) -> Result<(), Refusal>
     requires contents { Contents program.now }
     requires shaped_for { ShapedFor program.now store.now }
     requires pair_bound { pair < word store.now 2 }
     ensures { result ≡ obey (address_rule program.now (view store.now) pair) }
 {
     if !is_committing(store) {
-        return Checked::Accepted;
+        return Ok(());
     }
     if store[11] > store[2] {
-        return Checked::Accepted;
+        return Ok(());
     }
     if pair >= store[11] {
-        return Checked::Accepted;
+        return Ok(());
     }
     if log::address(store, pair) >= program[3] {
-        return Checked::Refused(Refusal::Control(store[6] + 2 * pair));
+        return Err(Refusal::Control(store[6] + 2 * pair));
     }
-    Checked::Accepted
+    Ok(())
 }
 
 // In phase 2 the waiting records start at word 12's slot, so that its rules must be kept.
@@ -306,23 +306,23 @@ fn record_waits(store: &[u16], slot: u16) -> bool
 }
 
 // "each waiting record's event below E", one slot's
-fn record_rule(program: &[u16], store: &[u16], slot: u16) -> Checked
+fn record_rule(program: &[u16], store: &[u16], slot: u16) -> Result<(), Refusal>
     requires contents { Contents program.now }
     requires shaped_for { ShapedFor program.now store.now }
     requires slot_bound { slot ≤ word store.now 3 }
     ensures { result ≡ obey (record_rule program.now (view store.now) slot) }
 {
     if !record_waits(store, slot) {
-        return Checked::Accepted;
+        return Ok(());
     }
     if queue::event(store, slot) >= program[2] {
-        return Checked::Refused(Refusal::Control(store[7] + 2 * slot));
+        return Err(Refusal::Control(store[7] + 2 * slot));
     }
-    Checked::Accepted
+    Ok(())
 }
 
 // "the first n log addresses below M"
-fn addresses(program: &[u16], store: &[u16]) -> Checked
+fn addresses(program: &[u16], store: &[u16]) -> Result<(), Refusal>
     requires contents { Contents program.now }
     requires shaped_for { ShapedFor program.now store.now }
     ensures { result ≡ obey_all (address_rules program.now (view store.now)) }
@@ -330,17 +330,14 @@ fn addresses(program: &[u16], store: &[u16]) -> Checked
     let log_pairs = store[2];
     let mut pair: u16 = 0;
     while pair < log_pairs {
-        let found = address_rule(program, store, pair);
-        let Checked::Accepted = found else {
-            return found;
-        };
+        address_rule(program, store, pair)?;
         pair += 1;
     }
-    Checked::Accepted
+    Ok(())
 }
 
 // "each waiting record's event below E"
-fn records(program: &[u16], store: &[u16]) -> Checked
+fn records(program: &[u16], store: &[u16]) -> Result<(), Refusal>
     requires contents { Contents program.now }
     requires shaped_for { ShapedFor program.now store.now }
     ensures { result ≡ obey_all (record_rules program.now (view store.now)) }
@@ -348,27 +345,24 @@ fn records(program: &[u16], store: &[u16]) -> Checked
     let slots = store[3] + 1;
     let mut slot: u16 = 0;
     while slot < slots {
-        let found = record_rule(program, store, slot);
-        let Checked::Accepted = found else {
-            return found;
-        };
+        record_rule(program, store, slot)?;
         slot += 1;
     }
-    Checked::Accepted
+    Ok(())
 }
 
 // Of two checks the first refusal counts.
-fn first(earlier: Checked, later: Checked) -> Checked
+fn first(earlier: Result<(), Refusal>, later: Result<(), Refusal>) -> Result<(), Refusal>
     ensures { result ≡ (earlier then later) }
 {
-    let Checked::Accepted = earlier else {
+    let Ok(()) = earlier else {
         return earlier;
     };
     later
 }
 
 // The rules of words 10 to 12 that speak in phases 1 and 2 alone.
-fn commit_rules(program: &[u16], store: &[u16]) -> Checked
+fn commit_rules(program: &[u16], store: &[u16]) -> Result<(), Refusal>
     requires contents { Contents program.now }
     requires shaped { Shaped store.now }
     ensures { result ≡ obey_all (commit_rules program.now (view store.now)) }
@@ -381,51 +375,42 @@ fn commit_rules(program: &[u16], store: &[u16]) -> Checked
 }
 
 // The same without a call in phase 0, where each of them is passed over: most steps are of phase 0.
-fn early_commit_rules(program: &[u16], store: &[u16]) -> Checked
+fn early_commit_rules(program: &[u16], store: &[u16]) -> Result<(), Refusal>
     requires contents { Contents program.now }
     requires shaped { Shaped store.now }
     ensures { result ≡ obey_all (commit_rules program.now (view store.now)) }
 {
     if store[8] == 0 {
-        return Checked::Accepted;
+        return Ok(());
     }
     commit_rules(program, store)
 }
 
 // The rules of word 16, without a call where it is 0 or 1: both are kept then.
-fn early_begun_rules(store: &[u16]) -> Checked
+fn early_begun_rules(store: &[u16]) -> Result<(), Refusal>
     requires { Shaped store.now }
     ensures { result ≡ (obey (begun_rule (view store.now)) then obey (begun_event_rule (view store.now))) }
 {
     if store[16] < 2 {
-        return Checked::Accepted;
+        return Ok(());
     }
     first(begun_rule(store), begun_event_rule(store))
 }
 
 // 7 without the rules that need a row, a log pair or a record.
-pub fn early(program: &[u16], store: &[u16]) -> Checked
+pub fn early(program: &[u16], store: &[u16]) -> Result<(), Refusal>
     requires contents { Contents program.now }
     requires shaped_for { ShapedFor program.now store.now }
     ensures { result ≡ obey_all (early_rules program.now (view store.now)) }
 {
-    let found = first(phase_rule(store), task_rule(program, store));
-    let Checked::Accepted = found else {
-        return found;
-    };
-    let found = early_commit_rules(program, store);
-    let Checked::Accepted = found else {
-        return found;
-    };
-    let found = first(head_rule(store), tail_rule(store));
-    let Checked::Accepted = found else {
-        return found;
-    };
+    first(phase_rule(store), task_rule(program, store))?;
+    early_commit_rules(program, store)?;
+    first(head_rule(store), tail_rule(store))?;
     early_begun_rules(store)
 }
 
 // 7 whole, for a program whose rows can be read.
-pub fn whole(program: &[u16], store: &[u16]) -> Checked
+pub fn whole(program: &[u16], store: &[u16]) -> Result<(), Refusal>
     requires rows_inside { RowsInside program.now }
     requires shaped_for { ShapedFor program.now store.now }
     ensures { result ≡ obey_all (rules program.now (view store.now)) }

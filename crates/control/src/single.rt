@@ -11,43 +11,43 @@ use program::rows;
 use store::{log, queue};
 
 // "a chosen record (7)", the record at head.
-pub fn record_at_head(program: &[u16], store: &[u16]) -> Checked
+pub fn record_at_head(program: &[u16], store: &[u16]) -> Result<(), Refusal>
     requires contents { Contents program.now }
     requires shaped_for { ShapedFor program.now store.now }
     requires store_bound { word store.now 14 ≤ word store.now 3 }
     ensures { result ≡ record_sound program.now (view store.now) }
 {
     if queue::head_event(store) >= program[2] {
-        return Checked::Refused(Refusal::Control(store[7] + 2 * store[14]));
+        return Err(Refusal::Control(store[7] + 2 * store[14]));
     }
-    Checked::Accepted
+    Ok(())
 }
 
 // Word 10 in phase 0: "0 or the transaction number of task 9".
-pub fn open_number(program: &[u16], store: &[u16]) -> Checked
+pub fn open_number(program: &[u16], store: &[u16]) -> Result<(), Refusal>
     requires rows_inside { RowsInside program.now }
     requires shaped { Shaped store.now }
     requires store_value { (word store.now 8 ≡ 0) × (word store.now 9 < tasks program.now) }
     ensures { result ≡ obey (open_rule program.now (view store.now)) }
 {
     if store[10] == 0 {
-        return Checked::Accepted;
+        return Ok(());
     }
     if store[10] != rows::transaction(program, store[9]) {
-        return Checked::Refused(Refusal::Control(10));
+        return Err(Refusal::Control(10));
     }
-    Checked::Accepted
+    Ok(())
 }
 
 // "the first n log addresses below M", that of one pair.
-pub fn pair_address(program: &[u16], store: &[u16], pair: u16) -> Checked
+pub fn pair_address(program: &[u16], store: &[u16], pair: u16) -> Result<(), Refusal>
     requires contents { Contents program.now }
     requires shaped_for { ShapedFor program.now store.now }
     requires pair_bound { pair < word store.now 2 }
     ensures { result ≡ pair_sound program.now (view store.now) pair }
 {
     if log::address(store, pair) >= program[3] {
-        return Checked::Refused(Refusal::Control(store[6] + 2 * pair));
+        return Err(Refusal::Control(store[6] + 2 * pair));
     }
-    Checked::Accepted
+    Ok(())
 }

@@ -17,7 +17,7 @@ use Rattle.model.specs.Burst.{is_burst, records_at, carried, record_words, burst
 use Rattle.model.specs.Device.{fits, records_sound, may_drop, takes, post_check, set_to_work}
 use Rattle.model.specs.Program.{word, events}
 use Rattle.model.specs.Store.{Store, Record, slot, full, room}
-use Rattle.model.specs.Test.{pick, ◌and◌, ◌or◌, must, ◌then◌}
+use Rattle.model.specs.Test.{pick, ◌and◌, must, ◌then◌, in_turn, both, either}
 use Rattle.model.specs.declared.Checked.{Checked}
 use Rattle.model.specs.declared.Device.{Device}
 use Rattle.model.specs.declared.Handler.TheVariants.{Storing, Dropping}
@@ -36,8 +36,8 @@ module _ (p ws : List ℕ) (n i : ℕ) (l : i < n) where
   unfolding events_rule records_at slot
   first_is = ap (λ (k : ℕ). events_rule p i (records_at ws i k)) one_less
 
-  pub event-refused : events p ≤ word ws (2 * i) → events_rule p i rest ≡ Checked.Refused (Refusal.NoEvent i)
-  unfolding must ◌then◌
+  pub event-refused : events p ≤ word ws (2 * i) → events_rule p i rest ≡ Err (Refusal.NoEvent i)
+  unfolding must in_turn
   event-refused m = first_is ∙ ap (λ (b : Bool). must b (Refusal.NoEvent i) then events_rule p (suc i) (records_at ws (suc i) (n - (i + 1)))) (le-ltb _ _ m)
 
   pub event-passed : word ws (2 * i) < events p → events_rule p i rest ≡ events_rule p (i + 1) (records_at ws (i + 1) (n - (i + 1)))
@@ -48,27 +48,27 @@ module _ (p ws : List ℕ) (n i : ℕ) (l : i < n) where
       ∙ ap (λ (k : ℕ). events_rule p k (records_at ws k (n - (i + 1)))) next
 
 -- none left
-pub events-left : (p ws : List ℕ) (n i : ℕ) → n ≤ i → events_rule p i (records_at ws i (n - i)) ≡ Checked.Accepted
+pub events-left : (p ws : List ℕ) (n i : ℕ) → n ≤ i → events_rule p i (records_at ws i (n - i)) ≡ Ok tt
 unfolding events_rule records_at
 events-left p ws n i l = let none : n - i ≡ 0 = omega arith in ap (λ (k : ℕ). events_rule p i (records_at ws i k)) none
 
 -- ---- the same test in 25
 
-pub known_so : (p : List ℕ) (i : ℕ) (rs : List Record) → events_rule p i rs ≡ Checked.Accepted → known_events p rs ≡ true
-unfolding events_rule known_events must ◌then◌ ◌and◌
+pub known_so : (p : List ℕ) (i : ℕ) (rs : List Record) → events_rule p i rs ≡ Ok tt → known_events p rs ≡ true
+unfolding events_rule known_events must in_turn both
 known_so p i [] e = refl
 known_so p i (r ∷ rs) e = by_first (ltb r.event (events p)) refl (known_so p (suc i) rs)
   where
-    by_first : (b : Bool) → ltb r.event (events p) ≡ b → (events_rule p (suc i) rs ≡ Checked.Accepted → known_events p rs ≡ true) → (ltb r.event (events p) and known_events p rs) ≡ true
+    by_first : (b : Bool) → ltb r.event (events p) ≡ b → (events_rule p (suc i) rs ≡ Ok tt → known_events p rs ≡ true) → (ltb r.event (events p) and known_events p rs) ≡ true
     by_first true q f = rw q (f (sym (then_skip _ (must-true _ q)) ∙ e))
     by_first false q f = impossible (cc)
 
-pub unknown_so : (p : List ℕ) (i : ℕ) (rs : List Record) (r : Refusal) → events_rule p i rs ≡ Checked.Refused r → known_events p rs ≡ false
-unfolding events_rule known_events must ◌then◌ ◌and◌
+pub unknown_so : (p : List ℕ) (i : ℕ) (rs : List Record) (r : Refusal) → events_rule p i rs ≡ Err r → known_events p rs ≡ false
+unfolding events_rule known_events must in_turn both
 unknown_so p i [] f e = impossible (cc)
 unknown_so p i (r ∷ rs) f e = by_first (ltb r.event (events p)) refl (unknown_so p (suc i) rs f)
   where
-    by_first : (b : Bool) → ltb r.event (events p) ≡ b → (events_rule p (suc i) rs ≡ Checked.Refused f → known_events p rs ≡ false) → (ltb r.event (events p) and known_events p rs) ≡ false
+    by_first : (b : Bool) → ltb r.event (events p) ≡ b → (events_rule p (suc i) rs ≡ Err f → known_events p rs ≡ false) → (ltb r.event (events p) and known_events p rs) ≡ false
     by_first true q g = rw q (g (sym (then_skip _ (must-true _ q)) ∙ e))
     by_first false q g = rw q refl
 
@@ -111,30 +111,30 @@ sound_by p v c ws n =
 -- ---- may a record be dropped, test by test
 
 pub not_full : (v : Store) → full v ≡ false → false ≡ may_drop v
-unfolding may_drop ◌and◌
+unfolding may_drop both
 not_full v e = sym (rw e)
 
 pub event-begun : (v : Store) → full v ≡ true → v.begun ≡ 2 → false ≡ may_drop v
-unfolding may_drop ◌and◌
+unfolding may_drop both
 event-begun v e two = sym (rw (e, eq-eqb _ _ two))
 
 pub phase-asked : (v : Store) → full v ≡ true → v.begun ≢ 2 → not (eqb v.phase 2) ≡ may_drop v
-unfolding may_drop ◌and◌
+unfolding may_drop both
 phase-asked v e ne = sym (rw (e, ne_eqb _ _ ne))
 
 -- ---- does the queue take so many records, and what is set to work on them
 
 module _ (v : Store) (n : ℕ) where
   pub takes-fits : n ≤ room v → true ≡ takes v n
-  unfolding takes fits ◌or◌
+  unfolding takes fits either
   takes-fits l = sym (rw (le-leb _ _ l))
 
   pub takes-many : room v < n → n ≢ 1 → false ≡ takes v n
-  unfolding takes fits ◌or◌ ◌and◌
+  unfolding takes fits either both
   takes-many l ne = sym (rw (lt-leb _ _ l, ne_eqb _ _ ne))
 
   pub takes_one : room v < n → n ≡ 1 → may_drop v ≡ takes v n
-  unfolding takes fits ◌or◌ ◌and◌
+  unfolding takes fits either both
   takes_one l one = sym (rw (lt-leb _ _ l, eq-eqb _ _ one))
 
   pub works_storing : n ≤ room v → Storing n 0 ≡ set_to_work v n
@@ -154,14 +154,14 @@ burst_by ws n = rw (carried-length ws 0 n)
 pub takes_by : (v : Store) (ws : List ℕ) (n : ℕ) → takes v (length (carried ws n)) ≡ takes v n
 takes_by v ws n = ap (takes v) (carried-length ws 0 n)
 
-pub posted_few : (p s : List ℕ) (d : Device) (ws : List ℕ) (n : ℕ) → post_check p s d (carried ws n) ≡ Checked.Accepted → n ≤ 4
+pub posted_few : (p s : List ℕ) (d : Device) (ws : List ℕ) (n : ℕ) → post_check p s d (carried ws n) ≡ Ok tt → n ≤ 4
 unfolding post_check
 posted_few p s d ws n e =
     let few = (burst-passed (carried ws n) (must-passed _ _ (then_first _ _ (then_rest _ _ e)))).1 in
     omega (arith, few, carried-length ws 0 n)
 
 -- and what they give bounds the reads behind them
-pub posted_ring : (p s : List ℕ) (d : Device) (rs : List Record) → post_check p s d rs ≡ Checked.Accepted
+pub posted_ring : (p s : List ℕ) (d : Device) (rs : List Record) → post_check p s d rs ≡ Ok tt
     → Shaped s × ((word s 14 ≤ word s 3) × (word s 15 ≤ word s 3))
 unfolding post_check
 posted_ring p s d rs e =

@@ -7,7 +7,7 @@ ghost use Rattle.model.specs.Test.{pick};
 use model::{Checked, Refusal};
 
 // "8 at its first bad event (place: position from 0)", of so many records.
-pub fn events(program: &[u16], burst: &[u16; 8], length: u16) -> Checked
+pub fn events(program: &[u16], burst: &[u16; 8], length: u16) -> Result<(), Refusal>
     requires contents { Contents program.now }
     requires length_len_bound { length ≤ 4 }
     ensures { result ≡ events_rule program.now 0 (carried burst.now length) }
@@ -16,11 +16,11 @@ pub fn events(program: &[u16], burst: &[u16; 8], length: u16) -> Checked
     while position < length {
         let event = burst[2 * (position as usize)];
         if event >= program[2] {
-            return Checked::Refused(Refusal::NoEvent(position));
+            return Err(Refusal::NoEvent(position));
         }
         position += 1;
     }
-    Checked::Accepted
+    Ok(())
 }
 
 // A word of a record, or 0 behind the last one.

@@ -21,44 +21,35 @@ fn turned_on() -> Device
 }
 
 // A call that stores nothing: once it is checked the device is `next`, and a refusal leaves it as it was.
-fn judge(found: Checked, device: Device, next: Device) -> CallResult
+fn judge(found: Result<(), Refusal>, device: Device, next: Device) -> CallResult
     ensures { OnAnyStore (of_call result) (judged found device (out none next Answer.Done)) }
 {
     match found {
-        Checked::Accepted => CallResult {
+        Ok(()) => CallResult {
             answer: Answer::Done,
-            stored: Stored::Nothing,
+            stored: None,
             device: next,
         },
-        Checked::Refused(why) => CallResult {
+        Err(why) => CallResult {
             answer: Answer::Refused(why),
-            stored: Stored::Nothing,
+            stored: None,
             device,
         },
     }
 }
 
 // "boot 1 to 7, 26"
-fn boot_check(program: &[u16], store: &[u16], device: Device) -> Checked
+fn boot_check(program: &[u16], store: &[u16], device: Device) -> Result<(), Refusal>
     ensures value { result ≡ boot_check program.now store.now device }
-    ensures given { result ≡ Checked.Accepted → Bootable program.now store.now }
+    ensures given { result ≡ Ok tt → Bootable program.now store.now }
 {
-    let found = program::check(program);
-    let Checked::Accepted = found else {
-        return found;
-    };
-    let found = contents::store_rule(program, store);
-    let Checked::Accepted = found else {
-        return found;
-    };
-    let found = control::whole(program, store);
-    let Checked::Accepted = found else {
-        return found;
-    };
+    program::check(program)?;
+    contents::store_rule(program, store)?;
+    control::whole(program, store)?;
     if device.on {
-        return Checked::Refused(Refusal::PowerOn);
+        return Err(Refusal::PowerOn);
     }
-    Checked::Accepted
+    Ok(())
 }
 
 // A device turned on that runs a body at its first instruction, "registers as at choosing".
@@ -99,7 +90,7 @@ pub fn boot(program: &[u16], store: &[u16], device: Device) -> CallResult
     ensures { BootPerforms program.now store.now device result }
 {
     let found = boot_check(program, store, device);
-    let Checked::Accepted = found else {
+    let Ok(()) = found else {
         return judge(found, device, device);
     };
     judge(found, device, taken_up(store))
@@ -112,31 +103,25 @@ pub fn post_check(
     device: Device,
     length: u16,
     words: &[u16; 8],
-) -> Checked
+) -> Result<(), Refusal>
     ensures { result ≡ post_check program.now store.now device (carried words.now length) }
 {
-    let found = look::look_whole(program, store, device);
-    let Checked::Accepted = found else {
-        return found;
-    };
+    look::look_whole(program, store, device)?;
     if length < 1 {
-        return Checked::Refused(Refusal::BurstLength);
+        return Err(Refusal::BurstLength);
     }
     if length > 4 {
-        return Checked::Refused(Refusal::BurstLength);
+        return Err(Refusal::BurstLength);
     }
-    let found = burst::events(program, words, length);
-    let Checked::Accepted = found else {
-        return found;
-    };
+    burst::events(program, words, length)?;
     let handler = device.handler;
     if !look::at_rest(handler) {
-        return Checked::Refused(Refusal::HandlerBusy);
+        return Err(Refusal::HandlerBusy);
     }
     if !takes(store, length) {
-        return Checked::Refused(Refusal::QueueFull);
+        return Err(Refusal::QueueFull);
     }
-    Checked::Accepted
+    Ok(())
 }
 
 // Does the queue take so many records: is there room for them, or may a single one drop the oldest?
@@ -193,7 +178,7 @@ pub fn burst(
     ensures { PostPerforms program.now store.now device (carried words.now length) result }
 {
     let found = post_check(program, store, device, length, words);
-    let Checked::Accepted = found else {
+    let Ok(()) = found else {
         return judge(found, device, device);
     };
     let kept = burst::words(words, length);
@@ -218,7 +203,7 @@ pub fn cut() -> CallResult
 {
     CallResult {
         answer: Answer::Done,
-        stored: Stored::Nothing,
+        stored: None,
         device: Device::OFF,
     }
 }

@@ -28,7 +28,7 @@ pub struct Core {
 #[derive(Clone, Copy)]
 pub struct CoreResult {
     pub answer: Answer,
-    pub stored: Stored,
+    pub stored: Option<u16>,
     pub core: Core,
 }
 
@@ -36,7 +36,7 @@ pub struct CoreResult {
 #[derive(Clone, Copy)]
 pub struct StepResult {
     pub answer: Answer,
-    pub stored: Stored,
+    pub stored: Option<u16>,
     pub handler: Handler,
     pub core: Core,
 }
@@ -45,7 +45,7 @@ pub struct StepResult {
 #[derive(Clone, Copy)]
 pub struct CallResult {
     pub answer: Answer,
-    pub stored: Stored,
+    pub stored: Option<u16>,
     pub device: Device,
 }
 

@@ -111,7 +111,7 @@ fn records_sound(program: &[u16], store: &[u16], burst: &[u16; 8], length: u16, 
         return false;
     }
     let found = burst::events(program, burst, length);
-    if let Checked::Refused(_) = found {
+    if let Err(_) = found {
         return false;
     }
     if queue::room(store) < length {
@@ -241,37 +241,28 @@ pub fn look(
     burst: &[u16; 8],
     handler: Handler,
     core: Core,
-) -> Checked
+) -> Result<(), Refusal>
     ensures value { result ≡ look program.now store.now
         (device_with core registers.now handler burst.now) }
-    ensures given { result ≡ Checked.Accepted
+    ensures given { result ≡ Ok tt
         → Looked program.now store.now (device_with core registers.now handler burst.now) }
 {
-    let found = program::contents(program);
-    let Checked::Accepted = found else {
-        return found;
-    };
-    let found = contents::store_rule(program, store);
-    let Checked::Accepted = found else {
-        return found;
-    };
-    let found = control::early(program, store);
-    let Checked::Accepted = found else {
-        return found;
-    };
+    program::contents(program)?;
+    contents::store_rule(program, store)?;
+    control::early(program, store)?;
     if !device_sound(program, store, registers, burst, handler, core) {
-        return Checked::Refused(Refusal::State);
+        return Err(Refusal::State);
     }
     if !core.on {
-        return Checked::Refused(Refusal::PowerOff);
+        return Err(Refusal::PowerOff);
     }
-    Checked::Accepted
+    Ok(())
 }
 
 // The same of a whole device.
-pub fn look_whole(program: &[u16], store: &[u16], device: Device) -> Checked
+pub fn look_whole(program: &[u16], store: &[u16], device: Device) -> Result<(), Refusal>
     ensures value { result ≡ look program.now store.now device }
-    ensures given { result ≡ Checked.Accepted → Looked program.now store.now device }
+    ensures given { result ≡ Ok tt → Looked program.now store.now device }
 {
     let registers = device.registers;
     let burst = device.burst;

@@ -20,29 +20,29 @@ pub fn at_place(core: Core, place: Place, log_count: u16) -> Core
 
 // A refusal: the device stays as it is.
 pub fn refused(core: Core, why: Refusal) -> CoreResult
-    ensures { result ≡ core_result (Answer.Refused why) Stored.Nothing core }
+    ensures { result ≡ core_result (Answer.Refused why) None core }
 {
     CoreResult {
         answer: Answer::Refused(why),
-        stored: Stored::Nothing,
+        stored: None,
         core,
     }
 }
 
 // The body goes on at this instruction.
 pub fn worked(core: Core, body: Body, instruction: u16) -> CoreResult
-    ensures { result ≡ core_result Answer.Worked Stored.Nothing (core_at core (Place.Run body instruction 0) core.count) }
+    ensures { result ≡ core_result Answer.Worked None (core_at core (Place.Run body instruction 0) core.count) }
 {
     let core = at_place(core, Place::Run(body, instruction, 0), core.count);
     CoreResult {
         answer: Answer::Worked,
-        stored: Stored::Nothing,
+        stored: None,
         core,
     }
 }
 
 // A store was made, to this word.
-pub fn stored(core: Core, place: Place, log_count: u16, stored: Stored) -> CoreResult
+pub fn stored(core: Core, place: Place, log_count: u16, stored: Option<u16>) -> CoreResult
     ensures { result ≡ core_result Answer.Stored stored (core_at core place log_count) }
 {
     let core = at_place(core, place, log_count);
@@ -55,14 +55,14 @@ pub fn stored(core: Core, place: Place, log_count: u16, stored: Stored) -> CoreR
 
 // "Registers become 0, except that register 0 gets an event's data. The log count becomes 0." Choosing has stored word 16.
 pub fn begin(registers: &mut [u16; 8], core: Core, body: Body, datum: u16) -> CoreResult
-    ensures { (result ≡ core_result (Answer.Chosen body) (Stored.Word 16) (core_at core (Place.Run body 0 0) 0))
+    ensures { (result ≡ core_result (Answer.Chosen body) (Some 16) (core_at core (Place.Run body 0 0) 0))
         × (registers.new ≡ first_registers datum) }
 {
     *registers = [datum, 0, 0, 0, 0, 0, 0, 0];
     let core = at_place(core, Place::Run(body, 0, 0), 0);
     CoreResult {
         answer: Answer::Chosen(body),
-        stored: Stored::Word(16),
+        stored: Some(16),
         core,
     }
 }
@@ -70,7 +70,7 @@ pub fn begin(registers: &mut [u16; 8], core: Core, body: Body, datum: u16) -> Co
 // "At the commit store and at a commit's last store the device becomes the off value turned on."
 // Both store the phase.
 pub fn turned_on(registers: &mut [u16; 8], answer: Answer) -> CoreResult
-    ensures { (result ≡ core_result answer (Stored.Word 8) on_core) × (registers.new ≡ replicate 8 0) }
+    ensures { (result ≡ core_result answer (Some 8) on_core) × (registers.new ≡ replicate 8 0) }
 {
     *registers = [0; 8];
     let core = Core {
@@ -80,7 +80,7 @@ pub fn turned_on(registers: &mut [u16; 8], answer: Answer) -> CoreResult
     };
     CoreResult {
         answer,
-        stored: Stored::Word(8),
+        stored: Some(8),
         core,
     }
 }

@@ -18,7 +18,7 @@ fn print_number(rt: &HostRuntime, number: u16) -> io::Result<()> {
 }
 
 // A refusal with its number and place.
-fn tell(rt: &HostRuntime, checked: Checked) -> io::Result<()> {
+fn tell(rt: &HostRuntime, checked: Result<(), Refusal>) -> io::Result<()> {
     let mut told = [0u16; 5];
     words::write_checked(&mut told, checked);
     eprint!(rt; "refused")?;
@@ -56,8 +56,8 @@ fn list(rt: &HostRuntime, command: Command, program: &[u16]) -> io::Result<()> {
     let listed = listing::disassemble(program, &mut text);
     let checked = listed.checked;
     match checked {
-        Checked::Accepted => write_listed(rt, command, &text, listed.end, program.len()),
-        Checked::Refused(why) => tell(rt, Checked::Refused(why)),
+        Ok(()) => write_listed(rt, command, &text, listed.end, program.len()),
+        Err(why) => tell(rt, Err(why)),
     }
 }
 
@@ -76,8 +76,8 @@ fn list_loaded(
 ) -> io::Result<()> {
     let checked = loaded.checked;
     match checked {
-        Checked::Accepted => list_words(rt, command, words, loaded.length),
-        Checked::Refused(why) => tell(rt, Checked::Refused(why)),
+        Ok(()) => list_words(rt, command, words, loaded.length),
+        Err(why) => tell(rt, Err(why)),
     }
 }
 

@@ -141,7 +141,7 @@ fn feed_all(
     now
 }
 
-fn print(rt: &HostRuntime, checked: Checked, program: &[u16], store: &mut [u16], copy: &mut [u16]) {
+fn print(rt: &HostRuntime, checked: Result<(), Refusal>, program: &[u16], store: &mut [u16], copy: &mut [u16]) {
     let mut text = [0u8; 65536];
     let begun = sheet::begin(checked, program, store, &mut text);
     if !write(rt, &text, begun.end) {
@@ -154,7 +154,7 @@ fn print(rt: &HostRuntime, checked: Checked, program: &[u16], store: &mut [u16],
 }
 
 // The sheet of the first words, as many as the library says.
-fn print_first(rt: &HostRuntime, checked: Checked, words: &[u16], length: usize) {
+fn print_first(rt: &HostRuntime, checked: Result<(), Refusal>, words: &[u16], length: usize) {
     if length <= words.len() {
         let program = &words[..length];
         let size = image::store_words(program);

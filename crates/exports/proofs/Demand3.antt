@@ -56,7 +56,7 @@ steps-words p ps (suc n) s d ss ds =
     let h = words_stay_words p s d Step ps ss ds tt in
     steps-words p ps n (settled s (call p s d Step).write) (call p s d Step).device h.store h.device
 
-module _ (p : List ℕ) (ps : TypedWords p) (l q : ℕ) (before : List ℕ) (e : format_check p l q before ≡ Checked.Accepted) where
+module _ (p : List ℕ) (ps : TypedWords p) (l q : ℕ) (before : List ℕ) (e : format_check p l q before ≡ Ok tt) where
   abbrev s : List ℕ
   s = format p l q before
 
@@ -249,10 +249,10 @@ module _ (p : List ℕ) (ps : TypedWords p) (l q : ℕ) (before : List ℕ) (e :
 
 -- ---- runtime_format told that it accepted
 
-accepted-told : (x : Checked) → checked_words x ≡ checked_words Checked.Accepted → x ≡ Checked.Accepted
+accepted-told : (x : Checked) → checked_words x ≡ checked_words (Ok tt) → x ≡ Ok tt
 unfolding checked_words refused_words
-accepted-told Checked.Accepted e = refl
-accepted-told (Checked.Refused r) e = let z : ◌≡◌ {A = ℕ} 0 6 = cc in absurd (omega arith)
+accepted-told (Ok _) e = refl
+accepted-told (Err r) e = let z : ◌≡◌ {A = ℕ} 0 6 = cc in absurd (omega arith)
 
 pub demand3_of_exports : Demand3OfExports
 demand3_of_exports p l q before answer s ps bs (told, stored) accepted xs g made =

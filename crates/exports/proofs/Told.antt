@@ -30,7 +30,7 @@ told c s o r e answer device =
 
 -- a post of the records rs to the device of the words w, by what its check found
 module _ (p s w : List ℕ) (rs : List Record) {d : Device} (is : d ≡ state_of w) {a x : List ℕ} where
-  pub told-posted : is_state w ≡ true → post_check p s d rs ≡ Checked.Accepted → a ≡ checked_words Checked.Accepted → x ≡ with_burst w (set_to_work (view s) (length rs)) (burst_words rs)
+  pub told-posted : is_state w ≡ true → post_check p s d rs ≡ Ok tt → a ≡ checked_words (Ok tt) → x ≡ with_burst w (set_to_work (view s) (length rs)) (burst_words rs)
       → TellsCall (Post rs) s (post p s d rs) a x s
   unfolding post judged settled stored_word checked_words answer_words
   told-posted state found answer device =
@@ -44,7 +44,7 @@ module _ (p s w : List ℕ) (rs : List Record) {d : Device} (is : d ≡ state_of
         store = refl;
       })
 
-  pub told-refused : {f : Refusal} → post_check p s d rs ≡ Checked.Refused f → a ≡ checked_words (Checked.Refused f) → x ≡ device_words d
+  pub told-refused : {f : Refusal} → post_check p s d rs ≡ Err f → a ≡ checked_words (Err f) → x ≡ device_words d
       → TellsCall (Post rs) s (post p s d rs) a x s
   unfolding post judged settled stored_word checked_words answer_words
   told-refused found answer device = rw found (record { answer = answer; device = device; store = refl })

@@ -104,4 +104,4 @@ at_first s = host_state s (replicate 26 0) (replicate 3 0)
 abbrev pub Demand3OfExports : Type 0
 Demand3OfExports =
     (p : List ℕ) (l q : ℕ) (before answer s : List ℕ) → TypedWords p → TypedWords before → Formats p l q before answer s
-    → answer ≡ checked_words Checked.Accepted → (xs : List Exchange) (g : HostState) → MakesAll p (at_first s) xs g → ExportsObserved p l q s xs g
+    → answer ≡ checked_words (Ok tt) → (xs : List Exchange) (g : HostState) → MakesAll p (at_first s) xs g → ExportsObserved p l q s xs g

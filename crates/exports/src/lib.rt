@@ -99,12 +99,12 @@ pub fn runtime_burst(
     let found = calls::post_check(program, store, state, count, burst);
     words::write_checked(answer, found);
     match found {
-        Checked::Accepted => {
+        Ok(()) => {
             let kept = burst::words(burst, count);
             let handler = calls::set_to_work(store, count);
             *device = words::with_burst(device, handler, kept);
         }
-        Checked::Refused(_) => words::write_device(device, state),
+        Err(_) => words::write_device(device, state),
     }
 }
 
@@ -207,7 +207,7 @@ pub fn runtime_raise(
 {
     let posting = lines::posting_of(table, line, level);
     match posting {
-        Posting::Refused(why) => words::write_checked(answer, Checked::Refused(why)),
+        Posting::Refused(why) => words::write_checked(answer, Err(why)),
         Posting::Nothing => words::write_nothing_posted(answer),
         Posting::Event(event) => runtime_post(program, store, device, event, level, answer),
     }

@@ -10,7 +10,7 @@ use lib.Seq.{get_or_at}
 use Rattle.model.proofs.TestLaws.{same_or, must_stop, must_go, then_rest}
 use Rattle.model.specs.Check.{contents_rule, check}
 use Rattle.model.specs.Program.{word, total}
-use Rattle.model.specs.Test.{must, ◌then◌}
+use Rattle.model.specs.Test.{must, in_turn}
 use Rattle.model.specs.declared.Checked.{Checked}
 use Rattle.model.specs.declared.Refusal.{Refusal}
 use Rattle.image.specs.Image.{low_first, first_words, program_of, image_check, LongIsRefused}
@@ -31,16 +31,16 @@ word_is image (suc n) i l =
     get_or-append (first_words image n) (low_first image n ∷ []) 0 i inside ∙ word_is image n i (omega arith))
 
 -- a program of fewer than 6 words, or whose count isn't its word 5, is refused as 1
-pub too_short : (p : List ℕ) → length p < 6 → Checked.Refused Refusal.ProgramLength ≡ check p
-unfolding check contents_rule must ◌then◌
+pub too_short : (p : List ℕ) → length p < 6 → Err Refusal.ProgramLength ≡ check p
+unfolding check contents_rule must in_turn
 too_short p l = rw (lt-leb 6 (length p) l)
 
-pub other_length : (p : List ℕ) → 6 ≤ length p → length p ≢ total p → Checked.Refused Refusal.ProgramLength ≡ check p
-unfolding check contents_rule must ◌then◌
+pub other_length : (p : List ℕ) → 6 ≤ length p → length p ≢ total p → Err Refusal.ProgramLength ≡ check p
+unfolding check contents_rule must in_turn
 other_length p six l = rw (le-leb 6 (length p) six, ne_eqb (length p) (total p) l)
 
 module _ (image : List ℕ) where
-  pub odd_is_1 : length image % 2 ≢ 0 → Checked.Refused Refusal.ProgramLength ≡ image_check image
+  pub odd_is_1 : length image % 2 ≢ 0 → Err Refusal.ProgramLength ≡ image_check image
   unfolding image_check
   odd_is_1 h = must_stop Refusal.ProgramLength (check (program_of image)) (ne_eqb (length image % 2) 0 h)
 
@@ -49,11 +49,11 @@ module _ (image : List ℕ) where
   unfolding image_check
   even_is_checked h = must_go Refusal.ProgramLength (check (program_of image)) (eq-eqb (length image % 2) 0 h)
 
-  pub few_is_1 : length image % 2 ≡ 0 → length image < 12 → Checked.Refused Refusal.ProgramLength ≡ image_check image
+  pub few_is_1 : length image % 2 ≡ 0 → length image < 12 → Err Refusal.ProgramLength ≡ image_check image
   unfolding program_of
   few_is_1 h l = too_short (program_of image) (omega (arith, words-length image (length image / 2))) ∙ even_is_checked h
 
-  pub unequal_is_1 : length image % 2 ≡ 0 → 12 ≤ length image → length image / 2 ≢ low_first image 5 → Checked.Refused Refusal.ProgramLength ≡ image_check image
+  pub unequal_is_1 : length image % 2 ≡ 0 → 12 ≤ length image → length image / 2 ≢ low_first image 5 → Err Refusal.ProgramLength ≡ image_check image
   unfolding program_of
   unequal_is_1 h l u =
       let count = words-length image (length image / 2) in
@@ -61,7 +61,7 @@ module _ (image : List ℕ) where
       let five : total (program_of image) ≡ low_first image 5 = word_is image (length image / 2) 5 (omega arith) in
       other_length (program_of image) six (λ e. u (sym count ∙ e ∙ five)) ∙ even_is_checked h
 
-  pub image_accepted : image_check image ≡ Checked.Accepted → check (program_of image) ≡ Checked.Accepted
+  pub image_accepted : image_check image ≡ Ok tt → check (program_of image) ≡ Ok tt
   unfolding image_check
   image_accepted e = then_rest _ _ e
 

@@ -30,7 +30,7 @@ image_check image = must (eqb (length image % 2) 0) Refusal.ProgramLength then c
 pub record Loads (image words : List ℕ) (r : Loaded) : Type 0 where
   pub inside : r.length ≤ 65535
   pub checked : r.checked ≡ image_check image
-  pub program : r.checked ≡ Checked.Accepted → take r.length words ≡ program_of image
+  pub program : r.checked ≡ Ok tt → take r.length words ≡ program_of image
 
 -- read: the image's first words, all of them where they fit into those that were lent
 pub record Reads (image words : List ℕ) (n : ℕ) : Type 0 where
@@ -41,9 +41,9 @@ pub record Reads (image words : List ℕ) (n : ℕ) : Type 0 where
 -- store_words, for a program that the check accepts as many as formatting asks for
 pub record StoreWords (p : List ℕ) (n : ℕ) : Type 0 where
   pub most : n ≤ 1047
-  pub enough : check p ≡ Checked.Accepted → n ≡ store_length (memory_words p) 1 1
+  pub enough : check p ≡ Ok tt → n ≡ store_length (memory_words p) 1 1
 
 -- More words than word 5 can say are 1: what lies past 131,072 bytes decides nothing.
 abbrev pub LongIsRefused : Type 0
 LongIsRefused =
-    (image : List ℕ) → ((i : ℕ) → word image i < 256) → 131072 ≤ length image → image_check image ≡ Checked.Refused Refusal.ProgramLength
+    (image : List ℕ) → ((i : ℕ) → word image i < 256) → 131072 ≤ length image → image_check image ≡ Err Refusal.ProgramLength

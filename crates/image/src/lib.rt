@@ -12,7 +12,7 @@ use model::{Checked, Refusal};
 // What the check says of an image, and how many words it has where the check accepts it.
 #[derive(Clone, Copy)]
 pub struct Loaded {
-    pub checked: Checked,
+    pub checked: Result<(), Refusal>,
     pub length: usize,
 }
 
@@ -49,7 +49,7 @@ pub fn read(image: &[u8], words: &mut [u16]) -> usize
 }
 
 // The check of these words, so many.
-fn check(words: &[u16], count: usize) -> Checked
+fn check(words: &[u16], count: usize) -> Result<(), Refusal>
     requires { count ≤ length words.now }
     ensures { result ≡ checkOf (take count words.now) }
 {
@@ -61,7 +61,7 @@ pub fn load(image: &[u8], words: &mut [u16; 65535]) -> Loaded
     ensures { Loads image.now words.new result }
 {
     let refused = Loaded {
-        checked: Checked::Refused(Refusal::ProgramLength),
+        checked: Err(Refusal::ProgramLength),
         length: 0,
     };
     if image.len() % 2 != 0 {

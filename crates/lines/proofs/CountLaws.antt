@@ -7,7 +7,7 @@ use native.Mathlib.Nat.{add-zero, zero-add}
 use native.Mathlib.Numerals.{add-one}
 use native.Mathlib.Omega.{arith}
 use Rattle.model.proofs.TestLaws.{pick_true, pick-false, impossible, then_skip, then_passed, each-passed, same_or}
-use Rattle.model.specs.Test.{pick, ◌then◌, each}
+use Rattle.model.specs.Test.{pick, ◌then◌, each, in_turn}
 use Rattle.model.specs.declared.Checked.{Checked}
 use Rattle.model.specs.declared.Refusal.{Refusal}
 use Rattle.lines.specs.Lines.{count, first}
@@ -113,55 +113,55 @@ module _ (f : ℕ → Bool) where
 -- ---- checks in a row
 
 module _ (f : ℕ → Checked) where
-  accepts_from : (i k : ℕ) → ((j : ℕ) → j < k → f (i + j) ≡ Checked.Accepted) → each f i k ≡ Checked.Accepted
+  accepts_from : (i k : ℕ) → ((j : ℕ) → j < k → f (i + j) ≡ Ok tt) → each f i k ≡ Ok tt
   unfolding each
   accepts_from i zero all = refl
   accepts_from i (suc k) all =
-      let here : f i ≡ Checked.Accepted = subst (λ (h : ℕ). f h ≡ Checked.Accepted) (add-zero i) (all 0 (omega arith)) in
+      let here : f i ≡ (Ok tt) = subst (λ (h : ℕ). f h ≡ Ok tt) (add-zero i) (all 0 (omega arith)) in
       then_passed here
       (accepts_from (suc i) k
-      (λ j l. let at : i + suc j ≡ suc i + j = omega arith in subst (λ (h : ℕ). f h ≡ Checked.Accepted) at (all (suc j) (omega arith))))
+      (λ j l. let at : i + suc j ≡ suc i + j = omega arith in subst (λ (h : ℕ). f h ≡ Ok tt) at (all (suc j) (omega arith))))
 
-  refuses_from : (i k j : ℕ) (r : Refusal) → j < k → ((m : ℕ) → m < j → f (i + m) ≡ Checked.Accepted) → f (i + j) ≡ Checked.Refused r
-      → each f i k ≡ Checked.Refused r
-  unfolding each ◌then◌
+  refuses_from : (i k j : ℕ) (r : Refusal) → j < k → ((m : ℕ) → m < j → f (i + m) ≡ Ok tt) → f (i + j) ≡ Err r
+      → each f i k ≡ Err r
+  unfolding each in_turn
   refuses_from i zero j r l before e = absurd (omega arith)
   refuses_from i (suc k) zero r l before e =
-      let here : f i ≡ Checked.Refused r = subst (λ (h : ℕ). f h ≡ Checked.Refused r) (add-zero i) e in
+      let here : f i ≡ Err r = subst (λ (h : ℕ). f h ≡ Err r) (add-zero i) e in
       rw here
   refuses_from i (suc k) (suc j) r l before e =
-      let here : f i ≡ Checked.Accepted = subst (λ (h : ℕ). f h ≡ Checked.Accepted) (add-zero i) (before 0 (omega arith)) in
+      let here : f i ≡ (Ok tt) = subst (λ (h : ℕ). f h ≡ Ok tt) (add-zero i) (before 0 (omega arith)) in
       let there : i + suc j ≡ suc i + j = omega arith in
       then_skip _ here
       ∙ refuses_from (suc i) k j r (omega arith)
-      (λ m h. let at : i + suc m ≡ suc i + m = omega arith in subst (λ (h : ℕ). f h ≡ Checked.Accepted) at (before (suc m) (omega arith)))
-      (subst (λ (h : ℕ). f h ≡ Checked.Refused r) there e)
+      (λ m h. let at : i + suc m ≡ suc i + m = omega arith in subst (λ (h : ℕ). f h ≡ Ok tt) at (before (suc m) (omega arith)))
+      (subst (λ (h : ℕ). f h ≡ Err r) there e)
 
   -- all of the first k accept
-  pub all-accept : (k : ℕ) → ((j : ℕ) → j < k → f j ≡ Checked.Accepted) → each f 0 k ≡ Checked.Accepted
+  pub all-accept : (k : ℕ) → ((j : ℕ) → j < k → f j ≡ Ok tt) → each f 0 k ≡ Ok tt
   all-accept k all = accepts_from 0 k (λ j l. rw zero-add (all j l))
 
-  pub accepted-all : (k j : ℕ) → each f 0 k ≡ Checked.Accepted → j < k → f j ≡ Checked.Accepted
+  pub accepted-all : (k j : ℕ) → each f 0 k ≡ Ok tt → j < k → f j ≡ Ok tt
   accepted-all k j e l = rw zero-add at (each-passed f 0 k j e l)
 
 -- check j refuses and those before it accept
 pub record FirstRefuses (f : ℕ → Checked) (k j : ℕ) (r : Refusal) : Type 0 where
   pub there : j < k
-  pub refuses : f j ≡ Checked.Refused r
-  pub before : (m : ℕ) → m < j → f m ≡ Checked.Accepted
+  pub refuses : f j ≡ Err r
+  pub before : (m : ℕ) → m < j → f m ≡ Ok tt
 
 module _ (f : ℕ → Checked) (k : ℕ) (r : Refusal) where
-  pub first_refuses : (j : ℕ) → FirstRefuses f k j r → each f 0 k ≡ Checked.Refused r
+  pub first_refuses : (j : ℕ) → FirstRefuses f k j r → each f 0 k ≡ Err r
   first_refuses j h = refuses_from f 0 k j r h.there (λ m l. rw zero-add (h.before m l)) (rw zero-add h.refuses)
 
 -- a refusal of two checks in a row is the first's, or the second's where the first accepts
-pub then_refused {ℓ} : {X : Type ℓ} (a b : Checked) (r : Refusal) → (a then b) ≡ Checked.Refused r → (a ≡ Checked.Refused r → X)
-    → (a ≡ Checked.Accepted → b ≡ Checked.Refused r → X) → X
-unfolding ◌then◌
-then_refused Checked.Accepted b r e f g = g refl e
-then_refused (Checked.Refused q) b r e f g = f e
+pub then_refused {ℓ} : {X : Type ℓ} (a b : Checked) (r : Refusal) → (a then b) ≡ Err r → (a ≡ Err r → X)
+    → (a ≡ Ok tt → b ≡ Err r → X) → X
+unfolding in_turn
+then_refused (Ok _) b r e f g = g refl e
+then_refused (Err q) b r e f g = f e
 
-refused_from : (f : ℕ → Checked) (i k : ℕ) (r : Refusal) → each f i k ≡ Checked.Refused r
+refused_from : (f : ℕ → Checked) (i k : ℕ) (r : Refusal) → each f i k ≡ Err r
     → (j : ℕ) × FirstRefuses (λ m. f (i + m)) k j r
 unfolding each
 refused_from f i zero r e = impossible (cc)
@@ -174,17 +174,17 @@ refused_from f i (suc k) r e =
       suc j,
       record {
         there = let l = h.there in omega arith;
-        refuses = subst (λ (m : ℕ). f m ≡ Checked.Refused r) (moved j) h.refuses;
+        refuses = subst (λ (m : ℕ). f m ≡ Err r) (moved j) h.refuses;
         before = λ m l.
             same_or m 0
-            (λ same. subst (λ (q : ℕ). f (i + q) ≡ Checked.Accepted) (sym same) (rw add-zero here))
+            (λ same. subst (λ (q : ℕ). f (i + q) ≡ Ok tt) (sym same) (rw add-zero here))
             (λ differ.
             let at : suc i + (m - 1) ≡ i + m = omega arith in
-            subst (λ (q : ℕ). f q ≡ Checked.Accepted) at (h.before (m - 1) (omega arith)));
+            subst (λ (q : ℕ). f q ≡ Ok tt) at (h.before (m - 1) (omega arith)));
       },
     ))
 
-pub refused_first : (f : ℕ → Checked) (k : ℕ) (r : Refusal) → each f 0 k ≡ Checked.Refused r → (j : ℕ) × FirstRefuses f k j r
+pub refused_first : (f : ℕ → Checked) (k : ℕ) (r : Refusal) → each f 0 k ≡ Err r → (j : ℕ) × FirstRefuses f k j r
 refused_first f k r e =
     let (j, h) = refused_from f 0 k r e in
     (j, record { there = h.there; refuses = rw zero-add at h.refuses; before = λ m l. rw zero-add at (h.before m l) })

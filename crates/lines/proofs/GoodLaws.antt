@@ -15,10 +15,10 @@ use Rattle.lines.proofs.RowLaws.{accepted-row, good_row_accepted, accepted-rows,
 use Rattle.lines.specs.Claims.{Named, Covered, CoveredTwice, InOneRow, AcceptedIsGood, GoodIsAccepted, Blames, row, gap, overlap, RefusedIsBlamed}
 use Rattle.lines.specs.Lines.{rows, row_rule, row_rules, named, coverage, gap_rule, overlap_rule, lines, levels, line_rule, line_rules, check}
 
-accepted-refused {ℓ} : {X : Type ℓ} {c : Checked} {r : Refusal} → c ≡ Checked.Accepted → c ≡ Checked.Refused r → X
+accepted-refused {ℓ} : {X : Type ℓ} {c : Checked} {r : Refusal} → c ≡ Ok tt → c ≡ Err r → X
 accepted-refused e f = impossible (cc)
 
-must-refused : (b : Bool) (q r : Refusal) → must b q ≡ Checked.Refused r → (b ≡ false) × (q ≡ r)
+must-refused : (b : Bool) (q r : Refusal) → must b q ≡ Err r → (b ≡ false) × (q ≡ r)
 unfolding must
 must-refused true q r e = impossible (cc)
 must-refused false q r e = (refl, cc)
@@ -26,12 +26,12 @@ must-refused false q r e = (refl, cc)
 -- ---- a rule of every level of every named line
 
 module _ (t : List ℕ) (rule : ℕ → ℕ → Checked) where
-  pub rules-accepted : line_rules t rule ≡ Checked.Accepted → (n x : ℕ) → n < lines → Named t n → x < levels → rule n x ≡ Checked.Accepted
+  pub rules-accepted : line_rules t rule ≡ Ok tt → (n x : ℕ) → n < lines → Named t n → x < levels → rule n x ≡ Ok tt
   unfolding line_rules
   rules-accepted e n x l named inside =
       accepted-all (rule n) levels x (sym (named-each t rule n (named-true t n named)) ∙ accepted-all (line_rule t rule) lines n e l) inside
 
-  pub rules-accept : ((n x : ℕ) → Named t n → x < levels → rule n x ≡ Checked.Accepted) → line_rules t rule ≡ Checked.Accepted
+  pub rules-accept : ((n x : ℕ) → Named t n → x < levels → rule n x ≡ Ok tt) → line_rules t rule ≡ Ok tt
   unfolding line_rules
   rules-accept all = all-accept (line_rule t rule) lines (λ n _. line-accepts t rule n (all n))
 
@@ -39,17 +39,17 @@ module _ (t : List ℕ) (rule : ℕ → ℕ → Checked) where
   record FirstPlace (r : Refusal) (n x : ℕ) : Type 0 where
     named : Named t n
     level : x < levels
-    refuses : rule n x ≡ Checked.Refused r
-    below : (y : ℕ) → y < x → rule n y ≡ Checked.Accepted
-    lines_before : (m y : ℕ) → m < n → Named t m → y < levels → rule m y ≡ Checked.Accepted
+    refuses : rule n x ≡ Err r
+    below : (y : ℕ) → y < x → rule n y ≡ Ok tt
+    lines_before : (m y : ℕ) → m < n → Named t m → y < levels → rule m y ≡ Ok tt
 
-  line_refused : (n : ℕ) (r : Refusal) → line_rule t rule n ≡ Checked.Refused r → Named t n × ((x : ℕ) × FirstRefuses (rule n) levels x r)
+  line_refused : (n : ℕ) (r : Refusal) → line_rule t rule n ≡ Err r → Named t n × ((x : ℕ) × FirstRefuses (rule n) levels x r)
   line_refused n r e =
       by_test (named t n)
       (λ yes. (named_is t n yes, refused_first (rule n) levels r (sym (named-each t rule n yes) ∙ e)))
       (λ no. accepted-refused (unnamed_accepts t rule n no) e)
 
-  first-place : (r : Refusal) → line_rules t rule ≡ Checked.Refused r → (n : ℕ) × (x : ℕ) × FirstPlace r n x
+  first-place : (r : Refusal) → line_rules t rule ≡ Err r → (n : ℕ) × (x : ℕ) × FirstPlace r n x
   unfolding line_rules
   first-place r e =
       let (n, h) = refused_first (line_rule t rule) lines r e in
@@ -69,21 +69,21 @@ module _ (t : List ℕ) (rule : ℕ → ℕ → Checked) where
 -- ---- what a level's rule says
 
 module _ (t : List ℕ) (n x : ℕ) where
-  gap-passed : gap_rule t n x ≡ Checked.Accepted → Covered t n x
+  gap-passed : gap_rule t n x ≡ Ok tt → Covered t n x
   unfolding gap_rule
   gap-passed e = counted_covered t n x (leb-true 1 (coverage t n x) (must-passed _ _ e))
 
-  gap_blamed : (r : Refusal) → gap_rule t n x ≡ Checked.Refused r → (Covered t n x → ⊥) × (Refusal.LinesGap n x ≡ r)
+  gap_blamed : (r : Refusal) → gap_rule t n x ≡ Err r → (Covered t n x → ⊥) × (Refusal.LinesGap n x ≡ r)
   unfolding gap_rule
   gap_blamed r e =
       let (few, is) = must-refused _ _ r e in
       (λ h. let l = covered_counts t n x h in let k = leb-false 1 (coverage t n x) few in omega arith, is)
 
-  overlap-passed : overlap_rule t n x ≡ Checked.Accepted → CoveredTwice t n x → ⊥
+  overlap-passed : overlap_rule t n x ≡ Ok tt → CoveredTwice t n x → ⊥
   unfolding overlap_rule
   overlap-passed e h = let l = twice_counts t n x h in let k = leb-true (coverage t n x) 1 (must-passed _ _ e) in omega arith
 
-  overlap_blamed : (r : Refusal) → overlap_rule t n x ≡ Checked.Refused r → CoveredTwice t n x × (Refusal.LinesOverlap n x ≡ r)
+  overlap_blamed : (r : Refusal) → overlap_rule t n x ≡ Err r → CoveredTwice t n x × (Refusal.LinesOverlap n x ≡ r)
   unfolding overlap_rule
   overlap_blamed r e =
       let (many, is) = must-refused _ _ r e in
@@ -131,7 +131,7 @@ good_is_accepted t good =
 
 -- ---- what a refusal names
 
-row_blamed : (t : List ℕ) (i : ℕ) (r : Refusal) → row_rule t i ≡ Checked.Refused r → Refusal.LinesRow i ≡ r
+row_blamed : (t : List ℕ) (i : ℕ) (r : Refusal) → row_rule t i ≡ Err r → Refusal.LinesRow i ≡ r
 unfolding row_rule
 row_blamed t i r e =
     then_refused _ _ r e (λ h. (must-refused _ _ r h).1)
@@ -139,7 +139,7 @@ row_blamed t i r e =
     then_refused _ _ r e1 (λ h. (must-refused _ _ r h).1)
     (λ _ e2. then_refused _ _ r e2 (λ h. (must-refused _ _ r h).1) (λ _ e3. (must-refused _ _ r e3).1)))
 
-rows_blamed : (t : List ℕ) (r : Refusal) → row_rules t ≡ Checked.Refused r → Blames t r
+rows_blamed : (t : List ℕ) (r : Refusal) → row_rules t ≡ Err r → Blames t r
 unfolding row_rules
 rows_blamed t r e =
     let (i, h) = refused_first (row_rule t) (rows t) r e in
@@ -151,7 +151,7 @@ rows_blamed t r e =
       before = λ j l. accepted-row t j (h.before j l);
     }))
 
-gaps_blamed : (t : List ℕ) (r : Refusal) → row_rules t ≡ Checked.Accepted → line_rules t (gap_rule t) ≡ Checked.Refused r → Blames t r
+gaps_blamed : (t : List ℕ) (r : Refusal) → row_rules t ≡ Ok tt → line_rules t (gap_rule t) ≡ Err r → Blames t r
 gaps_blamed t r good e =
     let (n, x, h) = first-place t (gap_rule t) r e in
     let (uncovered, is) = gap_blamed t n x r h.refuses in
@@ -166,8 +166,8 @@ gaps_blamed t r good e =
       lines_before = λ m y l named inside. gap-passed t m y (h.lines_before m y l named inside);
     }))
 
-overlaps_blamed : (t : List ℕ) (r : Refusal) → row_rules t ≡ Checked.Accepted → line_rules t (gap_rule t) ≡ Checked.Accepted
-    → line_rules t (overlap_rule t) ≡ Checked.Refused r → Blames t r
+overlaps_blamed : (t : List ℕ) (r : Refusal) → row_rules t ≡ Ok tt → line_rules t (gap_rule t) ≡ Ok tt
+    → line_rules t (overlap_rule t) ≡ Err r → Blames t r
 unfolding lines
 overlaps_blamed t r good covered e =
     let (n, x, h) = first-place t (overlap_rule t) r e in

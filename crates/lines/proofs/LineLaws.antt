@@ -84,28 +84,28 @@ module _ (t : List ℕ) (n : ℕ) where
 
   -- ---- a line's rules
 
-  pub no_gap : (x : ℕ) → Covered t n x → gap_rule t n x ≡ Checked.Accepted
+  pub no_gap : (x : ℕ) → Covered t n x → gap_rule t n x ≡ Ok tt
   unfolding gap_rule
   no_gap x h = must-true (Refusal.LinesGap n x) (le-leb 1 (coverage t n x) (covered_counts x h))
 
-  pub a-gap : (x : ℕ) → Gap t n x → gap_rule t n x ≡ Checked.Refused (Refusal.LinesGap n x)
+  pub a-gap : (x : ℕ) → Gap t n x → gap_rule t n x ≡ Err (Refusal.LinesGap n x)
   unfolding gap_rule
   a-gap x h = sym (must_refuses (Refusal.LinesGap n x) (lt-leb 1 (coverage t n x) (omega (arith, h))))
 
-  pub no_overlap : (x : ℕ) → (CoveredTwice t n x → ⊥) → overlap_rule t n x ≡ Checked.Accepted
+  pub no_overlap : (x : ℕ) → (CoveredTwice t n x → ⊥) → overlap_rule t n x ≡ Ok tt
   unfolding overlap_rule
   no_overlap x h =
       must-true (Refusal.LinesOverlap n x)
       (by_test (leb (coverage t n x) 1) (λ e. e) (λ e. absurd (h (counted_twice x (let l = leb-false (coverage t n x) 1 e in omega arith)))))
 
-  pub an_overlap : (x : ℕ) → CoveredTwice t n x → overlap_rule t n x ≡ Checked.Refused (Refusal.LinesOverlap n x)
+  pub an_overlap : (x : ℕ) → CoveredTwice t n x → overlap_rule t n x ≡ Err (Refusal.LinesOverlap n x)
   unfolding overlap_rule
   an_overlap x h =
       let l = twice_counts x h in
       sym (must_refuses (Refusal.LinesOverlap n x) (lt-leb (coverage t n x) 1 (omega arith)))
 
 module _ (t : List ℕ) (rule : ℕ → ℕ → Checked) (n : ℕ) where
-  pub unnamed_accepts : named t n ≡ false → line_rule t rule n ≡ Checked.Accepted
+  pub unnamed_accepts : named t n ≡ false → line_rule t rule n ≡ Ok tt
   unfolding line_rule
   unnamed_accepts e = pick-false _ _ e
 
@@ -113,7 +113,7 @@ module _ (t : List ℕ) (rule : ℕ → ℕ → Checked) (n : ℕ) where
   unfolding line_rule
   named-each e = pick_true _ _ e
 
-  pub line-accepts : ((x : ℕ) → Named t n → x < levels → rule n x ≡ Checked.Accepted) → line_rule t rule n ≡ Checked.Accepted
+  pub line-accepts : ((x : ℕ) → Named t n → x < levels → rule n x ≡ Ok tt) → line_rule t rule n ≡ Ok tt
   line-accepts all =
       by_test (named t n)
       (λ e. named-each e ∙ all-accept (rule n) levels (λ x l. all x (named_is t n e) l))
@@ -137,14 +137,14 @@ module _ (t : List ℕ) (n r : ℕ) (h : Least (Gap t n) levels r) where
       (λ e. leb-true 1 (coverage t n x) e)
       (λ e. let k = leb-false 1 (coverage t n x) e in let g : Gap t n x = omega arith in let m = h.least x g in absurd (omega arith)))
 
-  pub gap_refuses : named t n ≡ true → r < levels → Checked.Refused (Refusal.LinesGap n r) ≡ line_rule t (gap_rule t) n
+  pub gap_refuses : named t n ≡ true → r < levels → Err (Refusal.LinesGap n r) ≡ line_rule t (gap_rule t) n
   gap_refuses e l =
       sym
       (named-each t (gap_rule t) n e
       ∙ first_refuses (gap_rule t n) levels (Refusal.LinesGap n r) r
       (record { there = l; refuses = a-gap t n r (h.found l); before = λ x k. no_gap t n x (below_covered x k) }))
 
-  pub gap-accepts : levels ≤ r → Checked.Accepted ≡ line_rule t (gap_rule t) n
+  pub gap-accepts : levels ≤ r → (Ok tt) ≡ line_rule t (gap_rule t) n
   gap-accepts l = sym (line-accepts t (gap_rule t) n (λ x _ k. no_gap t n x (below_covered x (omega arith))))
 
 -- ---- 32, of the lowest place that rows share
@@ -174,11 +174,11 @@ share_twice t i j n x l before h = (
 
 module _ (t : List ℕ) (r : ℕ) (h : Least (SharedAmong t (rows t)) 1048576 r) where
   -- a level of a place below r is covered once at most
-  once : (n x : ℕ) → x < 65536 → 65536 * n + x < r → overlap_rule t n x ≡ Checked.Accepted
+  once : (n x : ℕ) → x < 65536 → 65536 * n + x < r → overlap_rule t n x ≡ Ok tt
   once n x l k = no_overlap t n x (λ twice. let m = h.least (65536 * n + x) (twice_shared t n x l twice) in absurd (omega arith))
 
   pub overlap_refuses : ((i : ℕ) → i < rows t → line t i ≤ 15) → r < 1048576
-      → (n : ℕ) × (x : ℕ) × (r ≡ 65536 * n + x) × (x < 65536) × (Checked.Refused (Refusal.LinesOverlap n x) ≡ line_rules t (overlap_rule t))
+      → (n : ℕ) × (x : ℕ) × (r ≡ 65536 * n + x) × (x < 65536) × (Err (Refusal.LinesOverlap n x) ≡ line_rules t (overlap_rule t))
   unfolding line_rules lines levels
   overlap_refuses to-15 l =
       let (i, there, (j, before, (n, x, share, e))) = h.found l in
@@ -208,7 +208,7 @@ module _ (t : List ℕ) (r : ℕ) (h : Least (SharedAmong t (rows t)) 1048576 r)
             })),
       )
 
-  pub overlap-accepts : 1048576 ≤ r → Checked.Accepted ≡ line_rules t (overlap_rule t)
+  pub overlap-accepts : 1048576 ≤ r → (Ok tt) ≡ line_rules t (overlap_rule t)
   unfolding line_rules lines levels
   overlap-accepts l =
       sym

@@ -1,11 +1,11 @@
 -- The worked rows: one theorem, whose rows the checker computes from the definitions. Assumes nothing.
 use mathlib.Core.Path.{refl}
-use Rattle.model.specs.Test.{pick, ◌and◌, must, ◌then◌, each}
+use Rattle.model.specs.Test.{pick, must, each, in_turn, both}
 use Rattle.lines.specs.Lines.{no_event, row_rule, row_rules, count, is_of, named, covers, coverage, gap_rule, overlap_rule, lines, levels, line_rule, line_rules, check, first, row_of, event_of, posting_of, posting}
 use Rattle.lines.specs.LinesRows.{LinesRows, whole_rows, probe}
 
 pub lines_rows : LinesRows
-unfolding pick ◌and◌ must ◌then◌ each no_event row_rule row_rules count is_of named covers coverage gap_rule overlap_rule lines levels line_rule line_rules check first row_of event_of posting_of posting whole_rows probe
+unfolding pick both must in_turn each no_event row_rule row_rules count is_of named covers coverage gap_rule overlap_rule lines levels line_rule line_rules check first row_of event_of posting_of posting whole_rows probe
 lines_rows =
     record {
       low_end = refl;

@@ -26,7 +26,7 @@ use Rattle.lines.specs.declared.Posting.{Posting}
 
 module _ (t : List ℕ) (n x : ℕ) where
   -- a row that covers the level is the one that is found
-  event_is : (i : ℕ) → check t ≡ Checked.Accepted → Covers t n x i → x < levels → event_of t n x ≡ event t i
+  event_is : (i : ℕ) → check t ≡ Ok tt → Covers t n x i → x < levels → event_of t n x ≡ event t i
   unfolding event_of
   event_is i e c inside =
       below_or (row_of t n x) (rows t)
@@ -43,15 +43,15 @@ module _ (t : List ℕ) (n x : ℕ) where
       (λ l. let c = row-found t n x _ refl l in absurd (unnamed (row_of t n x, l, c.line_is)))
       (λ l. pick-false _ _ (le-ltb (row_of t n x) (rows t) l))
 
-  posts : (e : ℕ) → check t ≡ Checked.Accepted → event_of t n x ≡ e → e ≢ no_event → posting t n x ≡ Posting.Event e
+  posts : (e : ℕ) → check t ≡ Ok tt → event_of t n x ≡ e → e ≢ no_event → posting t n x ≡ Posting.Event e
   unfolding posting posting_of
   posts e accepted is some = rw (accepted, is) (pick-false _ _ (ne_eqb e no_event some))
 
-  posts_nothing : check t ≡ Checked.Accepted → event_of t n x ≡ no_event → posting t n x ≡ Posting.Nothing
+  posts_nothing : check t ≡ Ok tt → event_of t n x ≡ no_event → posting t n x ≡ Posting.Nothing
   unfolding posting posting_of
   posts_nothing accepted is = rw (accepted, is) (pick_true _ _ (eq-eqb no_event no_event refl))
 
-  posts-refused : (r : Refusal) → check t ≡ Checked.Refused r → posting t n x ≡ Posting.Refused r
+  posts-refused : (r : Refusal) → check t ≡ Err r → posting t n x ≡ Posting.Refused r
   unfolding posting posting_of
   posts-refused r refused = rw refused
 
@@ -73,8 +73,8 @@ raise_checks_first p s d t n x r refused = rw (posts-refused t n x r refused)
 
 judged_stores_nothing : (c : Checked) (d e : Device) (a : Answer) (s : List ℕ) → settled s (judged c d (out none e a)).write ≡ s
 unfolding judged settled
-judged_stores_nothing Checked.Accepted d e a s = refl
-judged_stores_nothing (Checked.Refused r) d e a s = refl
+judged_stores_nothing (Ok _) d e a s = refl
+judged_stores_nothing (Err r) d e a s = refl
 
 post_stores_nothing : (p s : List ℕ) (d : Device) (e x : ℕ) → settled s (post p s d (single e x)).write ≡ s
 unfolding post
@@ -105,8 +105,8 @@ event_typed t n x ws = pick_case (λ (e : ℕ). e < 2 ^ 16) (λ _. ws _) (λ _. 
 
 typed : (c : Checked) (e : ℕ) → e < 2 ^ 16 → TypedPosting (posting_of c e)
 unfolding posting_of
-typed (Checked.Refused r) e l = tt
-typed Checked.Accepted e l = pick_case TypedPosting (λ _. tt) (λ _. l)
+typed (Err r) e l = tt
+typed (Ok _) e l = pick_case TypedPosting (λ _. tt) (λ _. l)
 
 pub posting_typed : (t : List ℕ) (n x : ℕ) → TypedWords t → TypedPosting (posting t n x)
 unfolding posting

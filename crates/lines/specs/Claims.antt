@@ -48,10 +48,10 @@ pub record Good (t : List ℕ) : Type 0 where
   pub in_one_row : (n x : ℕ) → Named t n → x < levels → InOneRow t n x
 
 abbrev pub AcceptedIsGood : Type 0
-AcceptedIsGood = (t : List ℕ) → check t ≡ Checked.Accepted → Good t
+AcceptedIsGood = (t : List ℕ) → check t ≡ Ok tt → Good t
 
 abbrev pub GoodIsAccepted : Type 0
-GoodIsAccepted = (t : List ℕ) → Good t → check t ≡ Checked.Accepted
+GoodIsAccepted = (t : List ℕ) → Good t → check t ≡ Ok tt
 
 -- ---- Refused tables
 
@@ -85,7 +85,7 @@ pub data Blames (t : List ℕ) : Refusal → Type 0 where
   overlap : (n x : ℕ) → LowestOverlap t n x → Blames t (Refusal.LinesOverlap n x)
 
 abbrev pub RefusedIsBlamed : Type 0
-RefusedIsBlamed = (t : List ℕ) (r : Refusal) → check t ≡ Checked.Refused r → Blames t r
+RefusedIsBlamed = (t : List ℕ) (r : Refusal) → check t ≡ Err r → Blames t r
 
 -- ---- Raising line n of table t at level x, on program p, store s and device d
 
@@ -93,19 +93,19 @@ RefusedIsBlamed = (t : List ℕ) (r : Refusal) → check t ≡ Checked.Refused r
 -- the store by RaiseIsItsCalls
 abbrev pub RaisePosts : Type 0
 RaisePosts =
-    (p s : List ℕ) (d : Device) (t : List ℕ) (n x i : ℕ) → check t ≡ Checked.Accepted → x < levels → Covers t n x i → event t i ≢ no_event
+    (p s : List ℕ) (d : Device) (t : List ℕ) (n x i : ℕ) → check t ≡ Ok tt → x < levels → Covers t n x i → event t i ≢ no_event
     → raise p s d t n x ≡ raise_result (RaiseAnswer.Answered (post p s d (single (event t i) x)).answer) (post p s d (single (event t i) x)).device
 
 -- "a line without rows, or event 65535, posts nothing and says so"
 abbrev pub RaisePostsNothing : Type 0
 RaisePostsNothing =
-    (p s : List ℕ) (d : Device) (t : List ℕ) (n x : ℕ) → check t ≡ Checked.Accepted → x < levels
+    (p s : List ℕ) (d : Device) (t : List ℕ) (n x : ℕ) → check t ≡ Ok tt → x < levels
     → (Named t n → ⊥) ⊎ ((i : ℕ) × Covers t n x i × (event t i ≡ no_event)) → raise p s d t n x ≡ raise_result RaiseAnswer.Nothing d
 
 -- "checked .. before any post"
 abbrev pub RaiseChecksFirst : Type 0
 RaiseChecksFirst =
-    (p s : List ℕ) (d : Device) (t : List ℕ) (n x : ℕ) (r : Refusal) → check t ≡ Checked.Refused r
+    (p s : List ℕ) (d : Device) (t : List ℕ) (n x : ℕ) (r : Refusal) → check t ≡ Err r
     → raise p s d t n x ≡ raise_result (RaiseAnswer.Answered (Answer.Refused r)) d
 
 -- In demand 3's list a raise is its `raise_calls`: the post, if it posts, and otherwise no call. Store and device are then as these leave them.

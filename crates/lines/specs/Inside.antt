@@ -19,8 +19,8 @@ follows t i n x = pick (eqb x 65536) (leb n (line t i) and eqb (low t i) 0) (eqb
 
 -- neither 31 nor 32
 pub record Partitioned (t : List ℕ) : Type 0 where
-  pub no_gaps : line_rules t (gap_rule t) ≡ Checked.Accepted
-  pub no_overlaps : line_rules t (overlap_rule t) ≡ Checked.Accepted
+  pub no_gaps : line_rules t (gap_rule t) ≡ Ok tt
+  pub no_overlaps : line_rules t (overlap_rule t) ≡ Ok tt
 
 -- r is the least number of which P holds, if one is below b; else it is b
 pub record Least (P : ℕ → Type 0) (b r : ℕ) : Type 0 where

@@ -83,7 +83,7 @@ levels = 65536
 
 -- a rule at every level of line n, if it is named
 unfoldable pub line_rule : List ℕ → (ℕ → ℕ → Checked) → ℕ → Checked
-line_rule t rule n = pick (named t n) (each (rule n) 0 levels) Checked.Accepted
+line_rule t rule n = pick (named t n) (each (rule n) 0 levels) (Ok tt)
 
 -- "over all lines in rising order"
 unfoldable pub line_rules : List ℕ → (ℕ → ℕ → Checked) → Checked
@@ -110,8 +110,8 @@ event_of t n x = pick (ltb (row_of t n x) (rows t)) (event t (row_of t n x)) no_
 
 -- what raising line n at level x posts: "checked .. before any post"; the table alone decides it
 unfoldable pub posting_of : Checked → ℕ → Posting
-posting_of (Checked.Refused r) e = Posting.Refused r
-posting_of Checked.Accepted e = pick (eqb e no_event) Posting.Nothing (Posting.Event e)
+posting_of (Err r) e = Posting.Refused r
+posting_of (Ok _) e = pick (eqb e no_event) Posting.Nothing (Posting.Event e)
 
 unfoldable pub posting : List ℕ → ℕ → ℕ → Posting
 posting t n x = posting_of (check t) (event_of t n x)

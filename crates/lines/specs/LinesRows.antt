@@ -11,11 +11,11 @@ abbrev pub band : ℕ → ℕ → ℕ → ℕ → List ℕ
 band n low high e = n ∷ low ∷ high ∷ e ∷ []
 
 abbrev pub RefusesWith : List ℕ → Refusal → Type 0
-RefusesWith t r = check t ≡ Checked.Refused r
+RefusesWith t r = check t ≡ Err r
 
 -- of rows that 30 accepts
 abbrev pub GapIs : List ℕ → ℕ → ℕ → Type 0
-GapIs t n x = line_rules t (gap_rule t) ≡ Checked.Refused (Refusal.LinesGap n x)
+GapIs t n x = line_rules t (gap_rule t) ≡ Err (Refusal.LinesGap n x)
 
 -- k rows of line 0, each of every level
 unfoldable pub whole_rows : ℕ → List ℕ
@@ -32,24 +32,24 @@ pub record LinesRows : Type 0 where
   pub high_end : coverage probe 0 29999 ≡ 1
   pub other_lines_apart : coverage probe 1 30000 ≡ 1
   pub border_twice : coverage (band 6 0 9 0 ++ band 6 9 65535 0) 6 9 ≡ 2
-  pub no_row : check [] ≡ Checked.Accepted
+  pub no_row : check [] ≡ Ok tt
   -- "a 65th or incomplete row": rows are looked at in order, whatever is wrong with them; a 65th that is incomplete is row 64
   pub row_64 : RefusesWith (whole_rows 65) (Refusal.LinesRow 64)
   pub incomplete_64 : RefusesWith (whole_rows 64 ++ (7 ∷ [])) (Refusal.LinesRow 64)
-  pub rows_64 : row_rules (whole_rows 64) ≡ Checked.Accepted
+  pub rows_64 : row_rules (whole_rows 64) ≡ Ok tt
   pub one_word : RefusesWith (3 ∷ []) (Refusal.LinesRow 0)
   pub three_words : RefusesWith (band 0 0 65535 0 ++ (1 ∷ 0 ∷ 65535 ∷ [])) (Refusal.LinesRow 1)
   -- "a line past 15 or low above high": the first such row, and before any gap
-  pub line_15 : row_rules (band 15 0 65535 0) ≡ Checked.Accepted
+  pub line_15 : row_rules (band 15 0 65535 0) ≡ Ok tt
   pub line_16 : RefusesWith (band 0 5 65535 0 ++ band 16 0 65535 0) (Refusal.LinesRow 1)
-  pub low_is_high : row_rules (band 2 7 7 0) ≡ Checked.Accepted
+  pub low_is_high : row_rules (band 2 7 7 0) ≡ Ok tt
   pub low_above : RefusesWith (band 2 8 7 0 ++ band 16 0 0 0) (Refusal.LinesRow 0)
   pub first_of_two : RefusesWith (band 16 0 0 0 ++ band 2 8 7 0) (Refusal.LinesRow 0)
   -- "31 .., then 32": a gap comes before an overlap below it
   pub gap_first : RefusesWith (band 1 0 6 0 ++ band 1 3 8 0) (Refusal.LinesGap 1 9)
   -- "31 an uncovered level .. (place: line, lowest level)", of "levels 0 to 65535": at the start, in the middle, the last one
   pub levels_are : levels ≡ 65536
-  pub gap_at_65535 : gap_rule (band 4 0 65534 0) 4 65535 ≡ Checked.Refused (Refusal.LinesGap 4 65535)
+  pub gap_at_65535 : gap_rule (band 4 0 65534 0) 4 65535 ≡ Err (Refusal.LinesGap 4 65535)
   pub gap_at_0 : GapIs (band 3 1 65535 0) 3 0
   pub gap_of_one : GapIs (band 3 0 9 0 ++ band 3 11 65535 0) 3 10
   -- "over all lines in rising order", not the table's; a silent row covers as any other
@@ -62,6 +62,6 @@ pub record LinesRows : Type 0 where
   pub other_line_lem : event_of probe 1 65535 ≡ 1
   pub no_rows : event_of probe 2 7 ≡ 65535
   pub past_15 : event_of probe 16 7 ≡ 65535
-  pub event_posted : posting_of Checked.Accepted 65534 ≡ Posting.Event 65534
-  pub none_posted : posting_of Checked.Accepted 65535 ≡ Posting.Nothing
+  pub event_posted : posting_of (Ok tt) 65534 ≡ Posting.Event 65534
+  pub none_posted : posting_of (Ok tt) 65535 ≡ Posting.Nothing
   pub refused_first : posting (band 3 1 65535 0) 7 7 ≡ Posting.Refused (Refusal.LinesGap 3 0)

@@ -115,34 +115,31 @@ fn lowest_gap(table: &[u16], line: u16) -> u32
 }
 
 // 31 of one line.
-fn gap(table: &[u16], line: u16) -> Checked
+fn gap(table: &[u16], line: u16) -> Result<(), Refusal>
     requires { Whole table.now }
     ensures { result ≡ line_rule table.now (gap_rule table.now) line }
 {
     if !named(table, line) {
-        return Checked::Accepted;
+        return Ok(());
     }
     let level = lowest_gap(table, line);
     if level < 65536 {
-        return Checked::Refused(Refusal::LinesGap(line, level as u16));
+        return Err(Refusal::LinesGap(line, level as u16));
     }
-    Checked::Accepted
+    Ok(())
 }
 
 // 31 "over all lines in rising order".
-pub(crate) fn gaps(table: &[u16]) -> Checked
+pub(crate) fn gaps(table: &[u16]) -> Result<(), Refusal>
     requires { Whole table.now }
     ensures { result ≡ line_rules table.now (gap_rule table.now) }
 {
     let mut line = 0;
     while line < 16 {
-        let found = gap(table, line);
-        let Checked::Accepted = found else {
-            return found;
-        };
+        gap(table, line)?;
         line += 1;
     }
-    Checked::Accepted
+    Ok(())
 }
 
 // The lesser of two places.
@@ -204,7 +201,7 @@ fn lowest_shared(table: &[u16], row: usize, lowest: u32) -> u32
 }
 
 // 32: the lowest line, with its lowest level.
-pub(crate) fn overlaps(table: &[u16]) -> Checked
+pub(crate) fn overlaps(table: &[u16]) -> Result<(), Refusal>
     requires { Whole table.now }
     ensures { result ≡ line_rules table.now (overlap_rule table.now) }
 {
@@ -216,10 +213,10 @@ pub(crate) fn overlaps(table: &[u16]) -> Checked
         row += 1;
     }
     if lowest < 1048576 {
-        return Checked::Refused(Refusal::LinesOverlap(
+        return Err(Refusal::LinesOverlap(
             (lowest / 65536) as u16,
             (lowest % 65536) as u16,
         ));
     }
-    Checked::Accepted
+    Ok(())
 }

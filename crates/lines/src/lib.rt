@@ -37,21 +37,15 @@ pub struct RaiseResult {
 }
 
 // The check of a table: 30, then 31 over all lines, then 32.
-pub fn check(table: &[u16]) -> Checked
+pub fn check(table: &[u16]) -> Result<(), Refusal>
     ensures value { result ≡ check table.now }
-    ensures given { result ≡ Checked.Accepted → Whole table.now }
+    ensures given { result ≡ Ok tt → Whole table.now }
 {
-    let found = rows::rules(table);
-    let Checked::Accepted = found else {
-        return found;
-    };
+    rows::rules(table)?;
     if levels::in_order(table) {
-        return Checked::Accepted;
+        return Ok(());
     }
-    let found = levels::gaps(table);
-    let Checked::Accepted = found else {
-        return found;
-    };
+    levels::gaps(table)?;
     levels::overlaps(table)
 }
 
@@ -73,8 +67,8 @@ pub fn posting_of(table: &[u16], line: u16, level: u16) -> Posting
 {
     let found = check(table);
     match found {
-        Checked::Refused(why) => Posting::Refused(why),
-        Checked::Accepted => {
+        Err(why) => Posting::Refused(why),
+        Ok(()) => {
             let event = event_of(table, line, level);
             if event == 65535 {
                 return Posting::Nothing;

@@ -6,38 +6,35 @@ ghost use Rattle.lines.specs.Lines.{row_rule, row_rules};
 use model::{Checked, Refusal};
 
 // A row that is there, whole or not: "a 65th or incomplete row, a line past 15 or low above high".
-fn rule(table: &[u16], row: u16) -> Checked
+fn rule(table: &[u16], row: u16) -> Result<(), Refusal>
     requires { 4 * row < length table.now }
     ensures { result ≡ row_rule table.now row }
 {
     if row >= 64 {
-        return Checked::Refused(Refusal::LinesRow(row));
+        return Err(Refusal::LinesRow(row));
     }
     let at = 4 * (row as usize);
     if table.len() < at + 4 {
-        return Checked::Refused(Refusal::LinesRow(row));
+        return Err(Refusal::LinesRow(row));
     }
     if table[at] > 15 {
-        return Checked::Refused(Refusal::LinesRow(row));
+        return Err(Refusal::LinesRow(row));
     }
     if table[at + 1] > table[at + 2] {
-        return Checked::Refused(Refusal::LinesRow(row));
+        return Err(Refusal::LinesRow(row));
     }
-    Checked::Accepted
+    Ok(())
 }
 
 // "first such row"
-pub(crate) fn rules(table: &[u16]) -> Checked
+pub(crate) fn rules(table: &[u16]) -> Result<(), Refusal>
     ensures value { result ≡ row_rules table.now }
-    ensures given { result ≡ Checked.Accepted → Whole table.now }
+    ensures given { result ≡ Ok tt → Whole table.now }
 {
     let mut row = 0;
     while 4 * (row as usize) < table.len() {
-        let found = rule(table, row);
-        let Checked::Accepted = found else {
-            return found;
-        };
+        rule(table, row)?;
         row += 1;
     }
-    Checked::Accepted
+    Ok(())
 }

@@ -14,7 +14,7 @@ use Rattle.model.proofs.Range.{within}
 use Rattle.model.proofs.TestLaws.{same_or, below_or, or_true_left, or_true_right}
 use Rattle.model.specs.Accepted.{LegalEffect, Sound}
 use Rattle.model.specs.Program.{transaction, instructions, opcode, field_a, field_b, code, operand, instruction_table, decode, effect, effect_at}
-use Rattle.model.specs.Test.{◌and◌, ◌or◌}
+use Rattle.model.specs.Test.{◌and◌, either}
 use Rattle.model.specs.declared.Instruction.{Instruction}
 use Rattle.tokens.specs.Tokens.{statement_names}
 use Rattle.tokens.specs.Uses.{is_jump}
@@ -30,7 +30,7 @@ number-found p n t (suc m) h e =
     (λ other. or_true_right (eqb (transaction p m) n) _ (number-found p n t m (omega (arith, other)) e))
 
 pub number_missed : (p : List ℕ) (n t : ℕ) → eqb (transaction p t) n ≡ false → has_number p n t ≡ false → has_number p n (suc t) ≡ false
-unfolding has_number ◌or◌
+unfolding has_number either
 number_missed p n t e h = rw (e, h)
 
 abbrev jumps_to : List ℕ → ℕ → ℕ → ℕ → Bool
@@ -45,7 +45,7 @@ target_found p i j n (suc m) h e =
     (λ other. or_true_right (jumps_to p i j m) _ (target_found p i j n m (omega (arith, other)) e))
 
 pub target_missed : (p : List ℕ) (i j n : ℕ) → jumps_to p i j n ≡ false → is_target p i j n ≡ false → is_target p i j (suc n) ≡ false
-unfolding is_target ◌or◌
+unfolding is_target either
 target_missed p i j n e h = rw (e, h)
 
 -- ---- one line more

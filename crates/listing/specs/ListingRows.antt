@@ -27,7 +27,7 @@ pub record ListingRows : Type 0 where
   pub counting_listed :
       listing counting
       ≡ ascii "memory 2\nentry task0\n\ntask task0\n        LOAD 0 0\n        SET 1 1\n        ADD 0 1\n        SAVE 0 0\n        GO task0\n\nevent event0\n        SAVE 0 1\n        DONE\n"
-  pub branching_accepted : check branching ≡ Checked.Accepted
+  pub branching_accepted : check branching ≡ Ok tt
   pub branching_listed :
       listing branching
       ≡ ascii "memory 4\nentry task1\ntransaction trans7 7\n\ntask task0 trans7\nat0:    JLT 1 2 at2\n        JUMP at0\nat2:    LOADX 3 4 1\n        GO task1\n\ntask task1\n        SHR 5 15\n        GO task0\n\nevent event0\n        JZ 0 at1\nat1:    DONE\n"

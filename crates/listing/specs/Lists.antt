@@ -10,8 +10,8 @@ use Rattle.model.specs.declared.Checked.{Checked}
 -- a program was checked, and printed into the text where the check accepts it
 pub record Lists (p text : List ℕ) (r : Listed) : Type 0 where
   pub checked : r.checked ≡ check p
-  pub refused : r.checked ≢ Checked.Accepted → r.end ≡ 0
-  pub listed : r.checked ≡ Checked.Accepted → take r.end text ≡ listing p
+  pub refused : r.checked ≢ (Ok tt) → r.end ≡ 0
+  pub listed : r.checked ≡ Ok tt → take r.end text ≡ listing p
   pub inside : r.end ≤ 524288
 
 -- body i is there, with opcodes that have names

@@ -20,7 +20,7 @@ mod lines;
 // What the check says of the words, and where the text ends: 0 where they are refused.
 #[derive(Clone, Copy)]
 pub struct Listed {
-    pub checked: Checked,
+    pub checked: Result<(), Refusal>,
     pub end: usize,
 }
 
@@ -143,7 +143,7 @@ pub fn disassemble(program: &[u16], text: &mut [u8; 524288]) -> Listed
     ensures { Lists program.now text.new result }
 {
     let checked = program::check(program);
-    let Checked::Accepted = checked else {
+    let Ok(()) = checked else {
         return Listed { checked, end: 0 };
     };
     let end = first_lines(text, program);

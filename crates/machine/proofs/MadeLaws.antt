@@ -12,7 +12,7 @@ use Rattle.lines.specs.declared.Posting.{Posting}
 use Rattle.model.proofs.TestLaws.{pick_case, pick_true, pick-false}
 use Rattle.model.specs.Program.{word}
 use Rattle.model.specs.Store.{Record}
-use Rattle.model.specs.Test.{pick, ◌or◌}
+use Rattle.model.specs.Test.{pick, either}
 use Rattle.model.specs.declared.Device.{Device}
 use Rattle.script.specs.Script.{check_call, format_call, boot_call, step_call, cut_call, post_call, burst_call, run_call, lines_check_call, least, least_numbers, most_numbers}
 use Rattle.trace.specs.Trace.{nothing_stored}
@@ -81,7 +81,7 @@ run-made p h g budget n a b =
 
 -- a burst has nine numbers
 pub nine : (kind : ℕ) (ns : List ℕ) → kind ≡ burst_call → Complete kind ns → length ns ≡ 9
-unfolding least least_numbers most_numbers pick ◌or◌
+unfolding least least_numbers most_numbers pick either
 nine kind ns is complete =
     let c = subst (λ (k : ℕ). Complete k ns) is complete in
     omega (arith, c.least (λ e. omega arith), c.most (λ e. omega arith))

@@ -13,7 +13,7 @@ use Rattle.model.specs.Burst.{is_burst, records_at, carried, record_words, no_bu
 use Rattle.model.specs.Device.{zeros, may_drop, takes, set_to_work, burst_length}
 use Rattle.model.specs.Program.{word, events}
 use Rattle.model.specs.Store.{slot, Store}
-use Rattle.model.specs.Test.{must, ◌then◌}
+use Rattle.model.specs.Test.{must, ◌then◌, in_turn}
 use Rattle.model.specs.Types.{Err, Handler, Ok, Record, Refusal}
 
 -- ---- one to four
@@ -43,7 +43,7 @@ pub data EventsFound (p : List ℕ) (i : ℕ) (rs : List Record) : Type 0 where
   bad_event : (j : ℕ) → events_rule p i rs ≡ Err (Refusal.NoEvent j) → EventsFound p i rs
 
 pub events-found : (p : List ℕ) (i : ℕ) (rs : List Record) → EventsFound p i rs
-unfolding events_rule must ◌then◌
+unfolding events_rule must in_turn
 events-found p i [] = all_known tt refl
 events-found p i (r ∷ rs) = by_first (ltb r.event (events p)) refl (events-found p (suc i) rs)
   where

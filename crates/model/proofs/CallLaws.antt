@@ -57,7 +57,7 @@ adds_nothing t h o c a w = simp (c, a, w, none_more)
 -- boot, cut and post
 counts_nothing : (t : Totals) (h : Handler) (d e : Device) (x : Checked) → counted t h (judged x d (out none e Answer.Done)) ≡ t
 unfolding judged is_commit is_accept is_store
-counts_nothing t h d e (Ok tt) = adds_nothing t h _ refl refl refl
+counts_nothing t h d e (Ok _) = adds_nothing t h _ refl refl refl
 counts_nothing t h d e (Err r) = adds_nothing t h _ refl refl refl
 
 pub boot_counts_nothing : (p s : List ℕ) (d : Device) (t : Totals) → counted t d.handler (boot p s d) ≡ t
@@ -263,7 +263,7 @@ unfolding boot judged
 boot_stores_nothing p s d = go (boot_check p s d)
   where
     go : (x : Checked) → (judged x d (out none (taken_up (view s) (begun_of (view s))) Answer.Done)).write ≡ none
-    go (Ok tt) = refl
+    go (Ok _) = refl
     go (Err r) = refl
 
 -- after a boot, whatever it answers

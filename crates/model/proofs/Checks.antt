@@ -23,7 +23,7 @@ use Rattle.model.specs.Device.{task_stores, event_stores, eligible, may_run, end
 use Rattle.model.specs.Program.{tasks, events, memory_words, instructions, transaction, body_number, effect_at}
 use Rattle.model.specs.Serial.{Serial}
 use Rattle.model.specs.Store.{Store, event, slot_after, first_waiting, distance, room, Write}
-use Rattle.model.specs.Test.{◌and◌, ◌or◌}
+use Rattle.model.specs.Test.{◌or◌, both, either}
 use Rattle.model.specs.Types.{Body, Device, Dropping, Effect, Free, Half, Handler, Ok, Option, Place, Record, Replacing, Resting, Run, Storing}
 
 -- ---- what the invariant says of the control words
@@ -78,7 +78,7 @@ module _ (p : List ℕ) (v : Store) where
   task_obeyed l = obey-kept (task_rule p v) (lt-ltb _ _ l)
 
   pub open_obeyed : Phases p v → obey (open_rule p v) ≡ Ok tt
-  unfolding open_rule ◌and◌
+  unfolding open_rule both
   open_obeyed (runs e o g) = obey-kept (open_rule p v) (open_test p v.open_number v.task o)
   open_obeyed (ends-task e c t o) = obey_unasked (open_rule p v) (rw (in_phase_lem 1 0 e refl))
   open_obeyed (ends-event e c o l h) = obey_unasked (open_rule p v) (rw (in_phase_lem 2 0 e refl))
@@ -90,7 +90,7 @@ module _ (p : List ℕ) (v : Store) where
   serving_obeyed (ends-event e c o l h) = obey-kept (open_serving v) (eq-eqb _ _ o)
 
   count_obeyed : Phases p v → obey (count_rule v) ≡ Ok tt
-  unfolding count_rule ◌or◌
+  unfolding count_rule either
   count_obeyed (runs e o g) = obey_unasked (count_rule v) (rw (in_phase_lem 0 1 e refl, in_phase_lem 0 2 e refl))
   count_obeyed (ends-task e c t o) = obey-kept (count_rule v) (le-leb _ _ c.count_in)
   count_obeyed (ends-event e c o l h) = obey-kept (count_rule v) (le-leb _ _ c.count_in)
@@ -102,7 +102,7 @@ module _ (p : List ℕ) (v : Store) where
   pending_obeyed (ends-event e c o l h) = obey_unasked (pending_task_rule p v) (in_phase_lem 2 1 e refl)
 
   pending_open_obeyed : Phases p v → obey (pending_open_rule p v) ≡ Ok tt
-  unfolding pending_open_rule ◌and◌
+  unfolding pending_open_rule both
   pending_open_obeyed (runs e o g) = obey_unasked (pending_open_rule p v) (rw (in_phase_lem 0 1 e refl))
   pending_open_obeyed (ends-task e c t o) = obey-kept (pending_open_rule p v) (open_test p v.pending_open v.pending o)
   pending_open_obeyed (ends-event e c o l h) = obey_unasked (pending_open_rule p v) (rw (in_phase_lem 2 1 e refl))
@@ -116,13 +116,13 @@ module _ (p : List ℕ) (v : Store) where
   tail_obeyed l = obey-kept (tail_rule v) (le-leb _ _ l)
 
   pending_head_obeyed : Phases p v → obey (pending_head_rule v) ≡ Ok tt
-  unfolding pending_head_rule ◌and◌
+  unfolding pending_head_rule both
   pending_head_obeyed (runs e o g) = obey_unasked (pending_head_rule v) (rw (in_phase_lem 0 2 e refl))
   pending_head_obeyed (ends-task e c t o) = obey_unasked (pending_head_rule v) (rw (in_phase_lem 1 2 e refl))
   pending_head_obeyed (ends-event e c o l h) = obey-kept (pending_head_rule v) (le-leb _ _ l)
 
   pending_move_obeyed : Phases p v → obey (pending_move_rule v) ≡ Ok tt
-  unfolding pending_move_rule ◌and◌
+  unfolding pending_move_rule both
   pending_move_obeyed (runs e o g) = obey_unasked (pending_move_rule v) (rw (in_phase_lem 0 2 e refl))
   pending_move_obeyed (ends-task e c t o) = obey_unasked (pending_move_rule v) (rw (in_phase_lem 1 2 e refl))
   pending_move_obeyed (ends-event e c o l (inl h)) = obey-kept (pending_move_rule v) (or_true_left _ _ (eq-eqb _ _ h))
@@ -134,7 +134,7 @@ module _ (p : List ℕ) (v : Store) where
   begun_obeyed l = obey-kept (begun_rule v) (le-leb _ _ l)
 
   begun_event_obeyed : Phases p v → obey (begun_event_rule v) ≡ Ok tt
-  unfolding begun_event_rule ◌and◌
+  unfolding begun_event_rule both
   begun_event_obeyed (runs e o (inl g)) = obey-kept (begun_event_rule v) (or_true_left _ _ (ap (λ (n : ℕ). not (eqb n 2)) g))
   begun_event_obeyed (runs e o (inr (inl g))) = obey-kept (begun_event_rule v) (or_true_left _ _ (ap (λ (n : ℕ). not (eqb n 2)) g))
   begun_event_obeyed (runs e o (inr (inr (g, (open', ne))))) =
@@ -149,7 +149,7 @@ module _ (p : List ℕ) (v : Store) where
       (λ l. obey_unasked (address_rule p v j) (and_false _ _ (and_false _ _ (le-ltb _ _ l))))
 
   address_obeyed : Phases p v → (j : ℕ) → obey (address_rule p v j) ≡ Ok tt
-  unfolding address_rule ◌and◌ ◌or◌
+  unfolding address_rule both either
   address_obeyed (runs e o g) j = obey_unasked (address_rule p v j) (rw (in_phase_lem 0 1 e refl, in_phase_lem 0 2 e refl))
   address_obeyed (ends-task e c t o) j = address_in c j
   address_obeyed (ends-event e c o l h) j = address_in c j
@@ -275,7 +275,7 @@ module _ (p : List ℕ) (v : Store) (d : Device) (z : Serial) (k : ℕ) (i : On 
       and_true (burst_passes _ a.least a.most) (and_true (known_passes p _ a.known) (and_true (le-leb _ _ fits) (lt-ltb _ _ a.inside)))
 
   handler-sound : (h : Handler) → HandlesAt p v z d.burst h → handler_sound p v d.burst h ≡ true
-  unfolding handler_sound zeros ◌and◌
+  unfolding handler_sound zeros both
   handler-sound Resting a = ap (λ (ws : List ℕ). zeros ws 8) a
   handler-sound (Storing n c) a = records-sound c (carried d.burst n) _ a
   handler-sound Dropping (m, ne, posted_is) = and_true (known_passes p _ m.known) (may_drop_lem p v (carried d.burst 1) m)

@@ -21,7 +21,7 @@ use Rattle.model.specs.Calls.{unless_refused, is_refusal}
 use Rattle.model.specs.Device.{Outcome, out, refuse, judged, turned_on, with_place, with_handler, resting, storing, record_stores, task_stores, event_stores, task_last_stores, event_last_stores, last_stores, current_task, oldest_event, end_stores, look, boot_check, boot, post_check, post, handler_step, pair_sound, copy_step, record_sound, event_next, choosing, choose_step, saves, place_fits, body_sound, shown, save_step, act, save_rest, place_step, next_step, step, drop_step, dropped_record}
 use Rattle.model.specs.Program.{events, memory_words, transaction, body_number, effect_at, new_open}
 use Rattle.model.specs.Store.{Store, view, address, value, event, empty, slot_after, forward, find, log_at, queue_at, Phase, Task, Open, Count, Pending, PendingOpen, Head, Tail, Begun, Memory, Address, Value, Write, none, to}
-use Rattle.model.specs.Test.{pick, ◌and◌, must}
+use Rattle.model.specs.Test.{pick, must, both}
 use Rattle.model.specs.Types.{Answer, Body, Checked, Device, Dropping, Effect, Err, Free, Half, Handler, None, Ok, Option, Place, Record, Refusal, Replacing, Resting, Run, Some, Storing}
 
 -- ---- checks before an outcome
@@ -29,7 +29,7 @@ use Rattle.model.specs.Types.{Answer, Body, Checked, Device, Dropping, Effect, E
 pub judged_case : (P : Outcome → Type 0) (x : Checked) {d : Device} {o : Outcome} → ((r : Refusal) → x ≡ Err r → P (refuse d r))
     → (x ≡ Ok tt → P o) → P (judged x d o)
 unfolding judged
-judged_case P (Ok tt) f g = g refl
+judged_case P (Ok _) f g = g refl
 judged_case P (Err r) f g = f r refl
 
 pub judged-refused : {x : Checked} (d : Device) (o : Outcome) {r : Refusal} → x ≡ Err r → judged x d o ≡ refuse d r
@@ -42,7 +42,7 @@ judged-accepted d o e = rw e
 
 judged_done : (x : Checked) (d e : Device) (r : Refusal) → (judged x d (out none e Answer.Done)).answer ≡ Answer.Refused r → x ≡ Err r
 unfolding judged
-judged_done (Ok tt) d e r q = cc
+judged_done (Ok _) d e r q = cc
 judged_done (Err f) d e r q = cc
 
 -- why boot and post are refused
@@ -85,21 +85,21 @@ module _ (p : List ℕ) (v : Store) (d : Device) (n : ℕ) where
 
 module _ (p : List ℕ) (v : Store) (d : Device) where
   pub choose_open : v.open_number ≢ 0 → choose_step p v d ≡ choosing v d (current_task v)
-  unfolding choose_step event_next ◌and◌
+  unfolding choose_step event_next both
   choose_open ne = rw (ne_eqb v.open_number 0 ne) (pick-false _ _ refl)
 
   pub choose_empty : v.open_number ≡ 0 → empty v ≡ true → choose_step p v d ≡ choosing v d (current_task v)
-  unfolding choose_step event_next ◌and◌
+  unfolding choose_step event_next both
   choose_empty e f = pick-false _ _ (rw (eq-eqb v.open_number 0 e, f))
 
   pub choose_refused : v.open_number ≡ 0 → empty v ≡ false → events p ≤ event v v.head
       → choose_step p v d ≡ refuse d (Refusal.Control (queue_at (memory_words p) v.log_pairs + 2 * v.head))
-  unfolding choose_step event_next judged record_sound must ◌and◌
+  unfolding choose_step event_next judged record_sound must both
   choose_refused e f l = pick_true _ _ (rw (eq-eqb v.open_number 0 e, f)) ∙ rw (le-ltb (event v v.head) (events p) l)
 
   pub choose_event : v.open_number ≡ 0 → empty v ≡ false → event v v.head < events p
       → choose_step p v d ≡ choosing v d (oldest_event v)
-  unfolding choose_step event_next judged record_sound must ◌and◌
+  unfolding choose_step event_next judged record_sound must both
   choose_event e f l = pick_true _ _ (rw (eq-eqb v.open_number 0 e, f)) ∙ rw (lt-ltb (event v v.head) (events p) l)
 
   pub drop-refused : events p ≤ event v v.head → drop_step p v d ≡ refuse d (Refusal.Control (queue_at (memory_words p) v.log_pairs + 2 * v.head))

@@ -18,14 +18,14 @@ use Rattle.model.specs.Control.{obey_all, phase_rule, task_rule, open_serving, c
 use Rattle.model.specs.Device.{with_handler, eligible, may_run, place_sound, records_sound, zeros, handler_sound, device_sound, look, fits}
 use Rattle.model.specs.Program.{tasks}
 use Rattle.model.specs.Store.{Store, view, room, store_rule}
-use Rattle.model.specs.Test.{◌or◌}
+use Rattle.model.specs.Test.{◌or◌, either}
 use Rattle.model.specs.Types.{Body, Device, Dropping, Free, Half, Handler, Ok, Place, Record, Replacing, Resting, Run, Storing}
 use Rattle.model.specs.Burst.{carried}
 
 -- ---- 7: the control words
 
 commits : (n : ℕ) → (eqb n 1 or eqb n 2) ≡ true → n ≢ 0
-unfolding ◌or◌
+unfolding either
 commits zero e z = clash e refl
 commits (suc n) e z = omega arith
 

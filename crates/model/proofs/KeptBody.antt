@@ -25,7 +25,7 @@ use Rattle.model.specs.Device.{Outcome, out, judged, fresh, with_place, storing,
 use Rattle.model.specs.Program.{first_registers, word, tasks, events, memory_words, instructions, transaction, body_number, effect_at, new_open}
 use Rattle.model.specs.Serial.{Serial, went, advance, walk, walk_body, after_task, after_event, serve_oldest, run_body, tell, no_post, after_stored}
 use Rattle.model.specs.Store.{Store, event, datum, slot_after, empty, first_waiting, slot, records_from, distance, find, Word, Phase, Count, Pending, PendingOpen, Address, Value, none, to}
-use Rattle.model.specs.Test.{pick, ◌and◌, ◌or◌}
+use Rattle.model.specs.Test.{pick, ◌and◌, both, either}
 use Rattle.model.specs.Turns.{begun_after, oldest_or, next_body}
 use Rattle.model.specs.Types.{Answer, Body, Device, Effect, Half, None, Ok, Option, Record, Refusal, Resting, Run, Some}
 
@@ -134,7 +134,7 @@ module _ (p : List ℕ) (sound : Sound p) (v : Store) (d : Device) (z : Serial) 
       sym waits.same ∙ ap (records_from v.queue v.queue_records v.head) far
 
   task-next : event_next v ≡ false → current_task v ≡ next_body z
-  unfolding event_next next_body oldest_or ◌and◌
+  unfolding event_next next_body oldest_or both
   task-next e = go (eqb v.open_number 0) refl (empty v) refl e
     where
       same : Body.Task v.task ≡ Body.Task z.task
@@ -303,7 +303,7 @@ module _ (p : List ℕ) (sound : Sound p) (v : Store) (lengths : Lengths p v) (d
 
   save_kept : (y w : ℕ) → effect_at p n j d.registers ≡ Effect.Save y w → j + 1 < instructions p n → y < memory_words p
       → (f : Option ℕ) → find v.log d.count y ≡ f → Kept p v z k Step (save_step v d b j y w f)
-  unfolding save_step tell apply with_place advance refusal is_in may_meet ◌or◌ begun_of
+  unfolding save_step tell apply with_place advance refusal is_in may_meet either begun_of
   save_kept y w e place below (Some a) q =
       let pair = find_pair v.log d.count y a q in
       let keeps : (m : ℕ) → addr (set v.log (2 * a + 1) w) m ≡ addr v.log m = λ m. get_or-set_other v.log (2 * a + 1) (2 * m) w 0 (omega arith) in
@@ -596,7 +596,7 @@ module _ (p : List ℕ) (sound : Sound p) (v : Store) (lengths : Lengths p v) (d
   event_end_kept e leads (suc (suc (suc c))) (l, made) = absurd (omega arith)
 
   pub act-kept : (c : ℕ) (f : Effect) → effect_at p (body_number p b) j d.registers ≡ f → LegalEffect p (body_number p b) j f → EndingAt p v d b c f → Kept p v z k Step (act p v d b j c f)
-  unfolding act advance refusal is_in may_meet ◌or◌
+  unfolding act advance refusal is_in may_meet either
   act-kept c (Effect.Compute a y) e leads t = works p sound v lengths d z k i at_rest still b j x chosen h (Effect.Compute a y) e (j + 1) (set d.registers a y) leads.1 (λ g. refl)
   act-kept c (Effect.Jump a) e leads t = works p sound v lengths d z k i at_rest still b j x chosen h (Effect.Jump a) e a d.registers leads (λ g. refl)
   act-kept c (Effect.Load a y) e leads t =

@@ -26,7 +26,7 @@ use Rattle.model.specs.Program.{memory_words}
 use Rattle.model.specs.Serial.{Serial, given, tell, after_done}
 use Rattle.model.specs.Store.{Store, view, Write, none, to, settled, store_rule}
 use Rattle.model.specs.Turns.{begun_after, InTurn}
-use Rattle.model.specs.Test.{pick, ◌and◌, ◌or◌, must, ◌then◌}
+use Rattle.model.specs.Test.{pick, must, ◌then◌, in_turn, both, either}
 use Rattle.model.specs.Types.{Answer, Checked, Device, Err, Ok, Record, Refusal, Some}
 
 -- the invariant of a store of l log pairs and q queue records
@@ -46,8 +46,8 @@ pub record KeptWords (p : List ℕ) (l q : ℕ) (s : List ℕ) (z : Serial) (k :
   pub parts : view_at (memory_words p) l q (settled s o.write) ≡ apply (view_at (memory_words p) l q s) o.write
 
 judged_then : (a b : Checked) (d : Device) (o : Outcome) → judged (a then b) d o ≡ judged a d (judged b d o)
-unfolding judged ◌then◌
-judged_then (Ok tt) b d o = refl
+unfolding judged in_turn
+judged_then (Ok _) b d o = refl
 judged_then (Err r) b d o = refl
 
 module _ (p : List ℕ) (sound : Sound p) (l q : ℕ) (s : List ℕ) (d : Device) (z : Serial) (k : ℕ) (i : InvWords p l q s d z k) where
@@ -97,7 +97,7 @@ module _ (p : List ℕ) (sound : Sound p) (l q : ℕ) (s : List ℕ) (d : Device
   -- ---- the checks come down to the last
 
   sound-device : device_sound p (view s) d ≡ true
-  unfolding device_sound zeros is_fresh is_at_rest fresh pick ◌and◌
+  unfolding device_sound zeros is_fresh is_at_rest fresh pick both
   sound-device = by_power i.inv
     where
       by_power : Inv p v d z k → device_sound p (view s) d ≡ true
@@ -139,7 +139,7 @@ module _ (p : List ℕ) (sound : Sound p) (l q : ℕ) (s : List ℕ) (d : Device
   judged-words c false r o x e f h = rw e (refused-words c r f)
 
   pub boot-kept : KeptWords p l q s z k Boot (boot p s d)
-  unfolding boot refusal is_in may_meet ◌or◌ after_done
+  unfolding boot refusal is_in may_meet either after_done
   boot-kept =
       rw view-at
       (judged-words Boot (not d.on) Refusal.PowerOn (out none (taken_up v (begun_of v)) Answer.Done) (boot_check p s d) boot_is refl
@@ -150,7 +150,7 @@ module _ (p : List ℕ) (sound : Sound p) (l q : ℕ) (s : List ℕ) (d : Device
   cut-kept = to-words Cut _ (turned_off_kept p v d z k i.inv)
 
   pub step_kept : KeptWords p l q s z k Step (step p s d)
-  unfolding step refusal is_in may_meet ◌or◌
+  unfolding step refusal is_in may_meet either
   step_kept =
       judged-words Step d.on Refusal.PowerOff (next_step p (view s) d d.handler) (look p s d) look_is refl
       (λ e.
@@ -158,7 +158,7 @@ module _ (p : List ℕ) (sound : Sound p) (l q : ℕ) (s : List ℕ) (d : Device
       rw view-at (to-words Step (next_step p v d d.handler) (next-kept p sound v lengths d z k j d.handler refl j.handles)))
 
   events-kept : (rs : List Record) (o : Outcome) → (Known p rs → KeptWords p l q s z k (Post rs) o) → KeptWords p l q s z k (Post rs) (judged (events_rule p 0 rs) d o)
-  unfolding judged refusal is_in may_meet ◌or◌
+  unfolding judged refusal is_in may_meet either
   events-kept rs o h = by_found (events-found p 0 rs)
     where
       by_found : EventsFound p 0 rs → KeptWords p l q s z k (Post rs) (judged (events_rule p 0 rs) d o)
@@ -169,7 +169,7 @@ module _ (p : List ℕ) (sound : Sound p) (l q : ℕ) (s : List ℕ) (d : Device
   some_slot = omega (arith, (store-passed p s sound.rows.contents i.contents).shaped.sizes.some_records, i.sized.records_is)
 
   post-kept : (rs : List Record) → KeptWords p l q s z k (Post rs) (post p s d rs)
-  unfolding post post_check refusal is_in may_meet ◌or◌
+  unfolding post post_check refusal is_in may_meet either
   post-kept rs =
       let o = out none (with_handler d (set_to_work (view s) (length rs)) (burst_words rs)) Answer.Done in
       let sized = is_burst rs in

@@ -25,7 +25,7 @@ use Rattle.model.specs.Accepted.{ControlledBy, EligibleBy, MayRunBy, MayRun, Sta
 use Rattle.model.specs.Program.{tasks, memory_words, word}
 use Rattle.model.specs.Store.{Store, view, slot_after, forward, distance, Phase, Write, none, to, index, settled, stored_word}
 use Rattle.model.specs.Calls.{is_refusal, unless_refused, is_commit}
-use Rattle.model.specs.Test.{pick, ◌and◌}
+use Rattle.model.specs.Test.{pick, ◌and◌, both}
 use Rattle.model.specs.Types.{Answer, Body, Device, Dropping, Free, Half, Handler, Ok, Option, Place, Record, Replacing, Resting, Run}
 use Rattle.model.specs.Claims.{sound_after, LookStays}
 
@@ -93,7 +93,7 @@ module _ (p : List ℕ) (v : Store) (d : Device) (fit : Fit p v d) where
     stands_tail n c (Half b j) h = (h.0, may_tail b h.1, h.2)
 
     tail-fits : Fit p (with_queue v v.queue x) (resting d)
-    unfolding with_handler last_stores task_last_stores event_last_stores zeros ◌and◌
+    unfolding with_handler last_stores task_last_stores event_last_stores zeros both
     tail-fits =
         let c = fit.control in
         record {
@@ -147,7 +147,7 @@ module _ (p : List ℕ) (v : Store) (d : Device) (fit : Fit p v d) where
       }
 
   over_fits : v.begun ≡ 0 → Fit p (with_phase v 0) (fresh true)
-  unfolding fresh zeros ◌and◌
+  unfolding fresh zeros both
   over_fits begun =
       let c = fit.control in
       record {

@@ -12,7 +12,7 @@ use Rattle.model.specs.Claims.{Among, LowestBroken, FirstLowest, LowestIsOne, Na
 use Rattle.model.specs.Control.{Rule, broken, obey, obey_all, up_to, phase_rule, task_rule, open_rule, open_serving, count_rule, pending_task_rule, pending_head_rule, pending_move_rule, pending_open_rule, head_rule, tail_rule, begun_rule, begun_event_rule, address_rule, record_rule, control_rules, rules, early_of, early_rules}
 use Rattle.model.specs.Program.{memory_words}
 use Rattle.model.specs.Store.{Store, log_at, queue_at, store_length}
-use Rattle.model.specs.Test.{must, ◌then◌}
+use Rattle.model.specs.Test.{must, ◌then◌, in_turn}
 use Rattle.model.specs.Types.{Checked, Err, Refusal}
 
 -- ---- rules in the order of their words
@@ -53,7 +53,7 @@ rising_above a b (x ∷ xs) (l, t) r (inr m) = omega (arith, l, rising_above x.w
 -- the first of them is broken, or the others answer
 met : (b : Bool) (u w : ℕ) (c : Checked) → (must (not b) (Refusal.Control u) then c) ≡ Err (Refusal.Control w)
     → ((b ≡ true) × (u ≡ w)) ⊎ ((b ≡ false) × (c ≡ Err (Refusal.Control w)))
-unfolding must ◌then◌
+unfolding must in_turn
 met true u w c e = inl (refl, cc)
 met false u w c e = inr (refl, e)
 

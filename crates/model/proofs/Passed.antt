@@ -9,7 +9,7 @@ use native.Mathlib.Omega.{arith}
 use borrow.Author.Tests.{ltb-true, leb-true, eqb-true, eqb-false, eq-eqb, ne_eqb, not-true}
 use lib.Dec.{ltb}
 use lib.ListN.{length}
-use Rattle.model.proofs.ProgramLaws.{◌&◌, by_opcode, Fits, check-passed, contents-passed, row-passed, instruction_leads}
+use Rattle.model.proofs.ProgramLaws.{◌&◌, by_opcode, Fits, check-passed, contents-passed, inside-passed, row-passed, rows-passed, used_passed, instruction_leads}
 use Rattle.model.proofs.BurstLaws.{burst-passed, known-passed, may_drop_is}
 use Rattle.model.proofs.RuleLaws.{obeyed, obey-early}
 use Rattle.model.proofs.StoreLaws.{Sized}
@@ -21,7 +21,7 @@ use Rattle.model.specs.Control.{obey_all, phase_rule, task_rule, open_serving, c
 use Rattle.model.specs.Device.{eligible, may_run, place_sound, records_sound, handler_sound, device_sound, look, boot_check, body_sound, fits}
 use Rattle.model.specs.Program.{word, tasks, memory_words, instructions, body_number, opcode, field_a, field_b, code, operand, bounds, decode}
 use Rattle.model.specs.Store.{Store, view, room, log_at, queue_at, store_length, store_rule, sizes_rule}
-use Rattle.model.specs.Test.{◌or◌, pick}
+use Rattle.model.specs.Test.{◌or◌, pick, either}
 use Rattle.model.specs.Types.{Body, Device, Dropping, Effect, Free, Half, Handler, Instruction, Ok, Place, Record, Replacing, Resting, Run, Storing}
 
 -- ---- an instruction
@@ -108,7 +108,7 @@ sized h = record { length_is = omega (arith, h.shaped.length_is, h.memory); memo
 -- ---- 7, early: the control words
 
 or_cases : (a b : Bool) → (a or b) ≡ true → (a ≡ true) ⊎ (b ≡ true)
-unfolding ◌or◌
+unfolding either
 or_cases true b e = inl refl
 or_cases false b e = inr e
 
@@ -276,3 +276,19 @@ body-passed p v x b j f e0 =
       head_record_is = and_left _ _ (and_right _ _ last);
       fits = and_right _ _ (and_right _ _ last);
     }
+
+-- all of it as a set of rules, for the function that makes the check
+pub ruleset gives = (
+  contents-passed,
+  inside-passed,
+  used_passed,
+  rows-passed,
+  check-passed,
+  rule-passed,
+  sizes-passed,
+  store-passed,
+  control-passed,
+  boot-passed,
+  look-passed,
+  body-passed,
+)

@@ -27,7 +27,7 @@ use Rattle.model.specs.Control.{Rule, obey, obey_all, open_rule, task_rule}
 use Rattle.model.specs.Device.{Outcome, out, refuse, with_handler, resting, zeros, look, boot, boot_check, post, post_check, record_sound, head_sound, head_is, open_sound, body_sound, act, step, kind_of, set_to_work}
 use Rattle.model.specs.Program.{word, memory_words, body_number}
 use Rattle.model.specs.Store.{Store, view, event, distance, slot, Word, Event, Datum, Tail, Write, to, queue_at, index, settled, stored_word, forward, Head}
-use Rattle.model.specs.Test.{pick, ◌and◌, ◌or◌, must}
+use Rattle.model.specs.Test.{pick, ◌or◌, must, both, either}
 use Rattle.model.specs.Types.{Answer, Body, Checked, Device, Dropping, Effect, Err, Handler, Ok, Option, Place, Record, Refusal, Replacing, Resting, Run, Storing}
 
 -- ---- 23 and 24 come from an instruction alone
@@ -36,7 +36,7 @@ late : Refusal → Bool
 late r = eqb (refusal r).number 23 or eqb (refusal r).number 24
 
 stays_late : (r : Refusal) → Stays r → late r ≡ true
-unfolding late refusal ◌or◌
+unfolding late refusal either
 stays_late r address = refl
 stays_late r log_full = refl
 
@@ -56,28 +56,28 @@ other_low : (c : Checked) → Low c → Other c
 other_low c l = record { with_such = λ r e w. clash (l.with_such r e) (stays_high r w) }
 
 other_rules : (rs : List Rule) → Other (obey_all rs)
-unfolding obey_all obey late refusal ◌or◌
+unfolding obey_all obey late refusal either
 other_rules [] = refuses_accepted
 other_rules (r ∷ rs) = refuses_then _ _ (other_must _ _ refl) (other_rules rs)
 
 other_look : (p s : List ℕ) (d : Device) → Other (look p s d)
-unfolding look late refusal ◌or◌
+unfolding look late refusal either
 other_look p s d =
     refuses_then _ _ (other_low _ (low-contents p))
     (refuses_then _ _ (other_low _ (low-store p s)) (refuses_then _ _ (other_rules _) (refuses_then _ _ (other_must _ _ refl) (other_must _ _ refl))))
 
 other_head : (p : List ℕ) (v : Store) (b : Body) → Other (head_sound p v b)
-unfolding head_sound record_sound late refusal ◌or◌
+unfolding head_sound record_sound late refusal either
 other_head p v (Body.Task t) = refuses_accepted
 other_head p v (Body.Event e) = other_must _ _ refl
 
 other_open : (p : List ℕ) (v : Store) (b : Body) → Other (open_sound p v b)
-unfolding open_sound obey late refusal ◌or◌
+unfolding open_sound obey late refusal either
 other_open p v (Body.Task t) = other_must _ _ refl
 other_open p v (Body.Event e) = refuses_accepted
 
 other_body : (p : List ℕ) (v : Store) (x : Place) (b : Body) (j : ℕ) (f : Effect) → Other (body_sound p v x b j f)
-unfolding body_sound late refusal ◌or◌
+unfolding body_sound late refusal either
 other_body p v x b j f =
     refuses_then _ _ (other_head p v b)
     (refuses_then _ _ (other_low _ (low-inside p))
@@ -107,7 +107,7 @@ module _ (p : List ℕ) (v : Store) (queue : List ℕ) (h t : ℕ)
         ∙ e)
 
     again : (r : Refusal) → Stays r → Meets p v d r → (step p s d).answer ≡ Answer.Refused r
-    unfolding late refusal ◌or◌
+    unfolding late refusal either
     again r w (by_record h o ne l) = clash (stays_late _ w) refl
     again r w (by_pair h l m) = clash (stays_late _ w) refl
     again r w (by_body x b j f q at_body z m e) = absurd ((other_body p v x b j f).with_such r e w)
@@ -123,7 +123,7 @@ module _ (p : List ℕ) (v : Store) (d : Device) where
   acts_rests burst h = record { rests = refl; place = h.place; stands = h.stands; does = h.does; sound = h.sound; legal = h.legal }
 
   meets_rests : (burst : List ℕ) (r : Refusal) → Stays r → Meets p v d r → Meets p v (with_handler d Resting burst) r
-  unfolding with_handler late refusal ◌or◌
+  unfolding with_handler late refusal either
   meets_rests burst r w (by_record h o ne l) = clash (stays_late _ w) refl
   meets_rests burst r w (by_pair h l m) = clash (stays_late _ w) refl
   meets_rests burst r w (by_body x b j f q at_body z m e) = by_body x b j f q at_body z m e
@@ -141,7 +141,7 @@ pub record Stuck (p s : List ℕ) (d : Device) (r : Refusal) : Type 0 where
 -- why such a step is refused
 stuck_why : (p s : List ℕ) (d : Device) (r : Refusal) → Stays r → (step p s d).answer ≡ Answer.Refused r
     → Looked p s d × (d.handler ≡ Resting) × Meets p (view s) d r
-unfolding late refusal ◌or◌
+unfolding late refusal either
 stuck_why p s d r w e = by_why (why p s d r e).0 refl
   where
     by_why : {q : Refusal} → Why p s d q → q ≡ r → Looked p s d × (d.handler ≡ Resting) × Meets p (view s) d r
@@ -160,7 +160,7 @@ any_zeros p s d burst r w none e =
 
 -- it begins so
 stuck_first : (p s : List ℕ) (d : Device) (r : Refusal) → Stays r → (step p s d).answer ≡ Answer.Refused r → Stuck p s d r
-unfolding zeros ◌and◌
+unfolding zeros both
 stuck_first p s d r w e =
     let (early, rests, m) = stuck_why p s d r w e in
     record { met = any_zeros p s d no_burst r w refl e; no_burst_lem = λ _. subst (Attends p (view s) d.burst) rests early.handler }
@@ -189,7 +189,7 @@ module _ (p s : List ℕ) (d : Device) (r : Refusal) (w : Stays r) (k : Stuck p 
       → is_refusal a ≡ false → sound_after (stored_word s (to x y)) a (settled s (to x y)) ≡ true
       → Inside (memory_words p) v.log_pairs v.queue_records x → apply v (to x y) ≡ with_ring v queue h' t
       → (v.begun ≡ 2 → v.head ≢ v.tail → (h' ≡ v.head) × (word queue (2 * v.head) ≡ event v v.head)) → (h ≡ Resting → zeros burst 8 ≡ true) → StuckAfter (out (to x y) (with_handler d h burst) a)
-  unfolding with_handler zeros ◌and◌
+  unfolding with_handler zeros both
   stored x y h burst a queue h' t is unrefused sound inside parts same none =
       let s' = settled s (to x y) in
       let looks = look_stays p s d (ap (λ (o : Outcome). is_refusal o.answer) is ∙ unrefused)
@@ -238,7 +238,7 @@ module _ (p s : List ℕ) (d : Device) (r : Refusal) (w : Stays r) (k : Stuck p 
 
   handling_stuck : {h : Handler} {n c : ℕ} {later : Handler} {dropped : Option Record} (o : Outcome) → Works v h n c later dropped
       → HandlerMade p v d n c later dropped o → step p s d ≡ o → StuckAfter o
-  unfolding apply queue_after is_refusal unless_refused zeros ◌and◌
+  unfolding apply queue_after is_refusal unless_refused zeros both
   handling_stuck {n = n} {later = later} o g (record_made a (event_store i y l m)) is =
       stored (Event _) y.event later d.burst Answer.Stored _ v.head v.tail is refl (event-sound _ _ _)
       (slot_in v.head i meets.0.control.tail_in a.room l) refl
@@ -251,7 +251,7 @@ module _ (p s : List ℕ) (d : Device) (r : Refusal) (w : Stays r) (k : Stuck p 
       stored Tail _ Resting no_burst (Answer.Accepted dropped) v.queue v.head _ is refl (tail-sound dropped _ _) tt refl (λ _ _. (refl, refl)) (λ _. refl)
 
   stuck_made : (o : Outcome) → Made p v d o → (d.handler ≡ Resting → ⊥) → step p s d ≡ o → StuckAfter o
-  unfolding apply queue_after is_refusal unless_refused zeros ◌and◌
+  unfolding apply queue_after is_refusal unless_refused zeros both
   stuck_made o (handler q g m) busy is = handling_stuck o g m is
   stuck_made o (head_dropped q a l) busy is =
       stored Head _ (Replacing 0) d.burst Answer.Stored v.queue _ v.tail is refl (head-sound _ _) tt refl (λ two _. absurd (a.event_not_begun two))

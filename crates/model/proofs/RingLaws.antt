@@ -20,7 +20,7 @@ use Rattle.model.specs.Control.{between}
 use Rattle.model.specs.Device.{record_stores}
 use Rattle.model.specs.Program.{word, events}
 use Rattle.model.specs.Store.{slot_after, forward, ring_word, distance, room, index, queue_at, slot, records_from, Phase, Task, Open, Count, Pending, PendingOpen, Head, Tail, Begun, Memory, Address, Value, Event, Datum, Write, none, to}
-use Rattle.model.specs.Test.{pick, ◌and◌, ◌or◌}
+use Rattle.model.specs.Test.{pick, ◌and◌, ◌or◌, both, either}
 
 -- ---- what the definitions say, in plain arithmetic
 
@@ -229,7 +229,7 @@ abbrev pub Between : ℕ → ℕ → ℕ → Type 0
 Between h t x = ((h ≤ t) × ((h ≤ x) × (x < t))) ⊎ ((t < h) × ((h ≤ x) ⊎ (x < t)))
 
 pub between_is : (h t x : ℕ) → between h t x ≡ true → Between h t x
-unfolding between ◌and◌ ◌or◌
+unfolding between both either
 between_is h t x e = go (leb h t) (leb h x) (ltb x t) refl refl refl e
   where
     go : (a b c : Bool) → leb h t ≡ a → leb h x ≡ b → ltb x t ≡ c → pick a (b and c) (b or c) ≡ true → Between h t x

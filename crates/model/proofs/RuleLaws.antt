@@ -9,13 +9,13 @@ use native.Mathlib.Numerals.{add-one}
 use native.Mathlib.Omega.{arith}
 use Rattle.model.proofs.TestLaws.{pick_case, clash, and_false, not_false, must-true, must-passed, then_assoc, then_passed, then_first, then_rest}
 use Rattle.model.specs.Control.{Rule, obey, obey_all, up_to, early_of}
-use Rattle.model.specs.Test.{◌and◌, must, ◌then◌}
+use Rattle.model.specs.Test.{◌and◌, must, ◌then◌, in_turn, both}
 use Rattle.model.specs.Types.{Checked, Err, Ok, Refusal}
 
 -- ---- one rule: it isn't asked, it is kept, or it is broken
 
 pub obey_unasked : (r : Rule) → r.asked ≡ false → obey r ≡ Ok tt
-unfolding obey ◌and◌
+unfolding obey both
 obey_unasked r e = must-true _ (rw e)
 
 pub obey-kept : (r : Rule) → r.kept ≡ true → obey r ≡ Ok tt
@@ -23,12 +23,12 @@ unfolding obey
 obey-kept r e = must-true _ (not_false (and_false r.asked (not r.kept) (ap not e)))
 
 pub obey-broken : (r : Rule) {w : ℕ} → r.asked ≡ true → r.kept ≡ false → w ≡ r.word → Err (Refusal.Control w) ≡ obey r
-unfolding obey ◌and◌ must
+unfolding obey both must
 obey-broken r a k e = simp (a, k, e)
 
 -- one that is obeyed is kept where it is asked, and the other way round
 spoken : (a k : Bool) → not (a and not k) ≡ true → a ≡ true → k ≡ true
-unfolding ◌and◌
+unfolding both
 spoken true true e f = refl
 spoken true false e f = e
 spoken false k e f = clash f refl
@@ -47,7 +47,7 @@ obey_if r f = go r.asked refl
 -- ---- a row of rules
 
 pub obey_all-append : (rs ss : List Rule) → obey_all (rs ++ ss) ≡ (obey_all rs then obey_all ss)
-unfolding obey_all ◌then◌
+unfolding obey_all in_turn
 obey_all-append [] ss = refl
 obey_all-append (r ∷ rs) ss =
     ap (λ (c : Checked). obey r then c) (obey_all-append rs ss) ∙ sym (then_assoc (obey r) (obey_all rs) (obey_all ss))
@@ -76,7 +76,7 @@ module _ (f : ℕ → Rule) where
       → obey_all (up_to f i) ≡ Ok tt
       → obey (f i) ≡ Err r
       → obey_all (up_to f n) ≡ Err r
-  unfolding ◌then◌
+  unfolding in_turn
   stopped zero i l h e = absurd (omega arith)
   stopped (suc n) i l h e =
       ⊎_elim (λ q. next n ∙ simp (rw q at h, rw q at e)) (λ q. next n ∙ simp (stopped n i q h e))

@@ -11,7 +11,7 @@ use borrow.Author.Tests.{not-true as of-not-true, not-false as of_not_false}
 use native.Mathlib.Nat.{not-suc-le-zero, le_of_suc-le-suc, add-zero, add-suc, suc-add}
 use native.Mathlib.Numerals.{add-one}
 use native.Mathlib.Omega.{arith}
-use Rattle.model.specs.Test.{pick, ◌and◌, ◌or◌, must, ◌then◌, each}
+use Rattle.model.specs.Test.{pick, ◌and◌, ◌or◌, must, ◌then◌, each, in_turn, both, either}
 use Rattle.model.specs.Types.{Checked, Err, Ok, Refusal}
 
 -- ---- pick: one law for every proof about a branch
@@ -39,35 +39,35 @@ pub clash {ℓ} : {X : Type ℓ} {b : Bool} → b ≡ true → b ≡ false → X
 clash e f = impossible (cc)
 
 pub and_true : {a b : Bool} → a ≡ true → b ≡ true → (a and b) ≡ true
-unfolding ◌and◌
+unfolding both
 and_true e f = rw (e, f)
 
 pub and_left : (a b : Bool) → (a and b) ≡ true → a ≡ true
-unfolding ◌and◌
+unfolding both
 and_left true b e = refl
 and_left false b e = e
 
 pub and_right : (a b : Bool) → (a and b) ≡ true → b ≡ true
-unfolding ◌and◌
+unfolding both
 and_right true b e = e
 and_right false b e = clash e refl
 
 pub and_false : (a b : Bool) → b ≡ false → (a and b) ≡ false
-unfolding ◌and◌
+unfolding both
 and_false true b e = e
 and_false false b e = refl
 
 pub or_true_left : (a b : Bool) → a ≡ true → (a or b) ≡ true
-unfolding ◌or◌
+unfolding either
 or_true_left a b e = rw e
 
 pub or_true_right : (a b : Bool) → b ≡ true → (a or b) ≡ true
-unfolding ◌or◌
+unfolding either
 or_true_right true b e = refl
 or_true_right false b e = e
 
 pub or_right : (a b : Bool) → a ≡ false → (a or b) ≡ true → b ≡ true
-unfolding ◌or◌
+unfolding either
 or_right true b e f = clash refl e
 or_right false b e f = f
 
@@ -76,7 +76,7 @@ not_false e = rw e
 
 -- the bits of two numbers together are 0 where both are
 pub both_zero : (a b : ℕ) → eqb (bit_or a b) 0 ≡ (eqb a 0 and eqb b 0)
-unfolding ◌and◌
+unfolding both
 both_zero zero b = rw (or_zero_l b)
 both_zero (suc a) b =
     ne_eqb (bit_or (suc a) b) 0 (λ e. absurd (omega (arith, e, or_add_and (suc a) b, and_le_r (suc a) b)))
@@ -109,21 +109,21 @@ must-passed true r e = refl
 must-passed false r e = impossible (cc)
 
 pub then_passed : {a b : Checked} → a ≡ Ok tt → b ≡ Ok tt → (a then b) ≡ Ok tt
-unfolding ◌then◌
+unfolding in_turn
 then_passed e f = rw (e, f)
 
 pub then_skip : {a : Checked} (b : Checked) → a ≡ Ok tt → (a then b) ≡ b
-unfolding ◌then◌
+unfolding in_turn
 then_skip b e = rw e
 
 pub then_first : (a b : Checked) → (a then b) ≡ Ok tt → a ≡ Ok tt
-unfolding ◌then◌
-then_first (Ok tt) b e = refl
+unfolding in_turn
+then_first (Ok _) b e = refl
 then_first (Err r) b e = e
 
 pub then_rest : (a b : Checked) → (a then b) ≡ Ok tt → b ≡ Ok tt
-unfolding ◌then◌
-then_rest (Ok tt) b e = e
+unfolding in_turn
+then_rest (Ok _) b e = e
 then_rest (Err r) b e = impossible (cc)
 
 -- a check that starts with a test
@@ -141,13 +141,13 @@ each-passed f i (suc k) (suc j) e h =
 -- ---- checks in a row
 
 pub then_assoc : (a b c : Checked) → ((a then b) then c) ≡ (a then (b then c))
-unfolding ◌then◌
-then_assoc (Ok tt) b c = refl
+unfolding in_turn
+then_assoc (Ok _) b c = refl
 then_assoc (Err r) b c = refl
 
 pub then_accepted : (a : Checked) → (a then (Ok tt)) ≡ a
-unfolding ◌then◌
-then_accepted (Ok tt) = refl
+unfolding in_turn
+then_accepted (Ok _) = refl
 then_accepted (Err r) = refl
 
 -- ---- a function that makes the checks
@@ -175,7 +175,7 @@ pub must-accepts : {b : Bool} (r : Refusal) → b ≡ true → (Ok tt) ≡ must 
 must-accepts r e = sym (must-true r e)
 
 pub must_stop : {b : Bool} (r : Refusal) (y : Checked) → b ≡ false → Err r ≡ (must b r then y)
-unfolding must ◌then◌
+unfolding must in_turn
 must_stop r y e = rw e
 
 pub must_go : {b : Bool} (r : Refusal) (y : Checked) → b ≡ true → y ≡ (must b r then y)
@@ -183,11 +183,14 @@ must_go r y e = sym (then_skip y (must-true r e))
 
 -- a check x with more to come, of which the answer is r
 pub then_stop : (x y : Checked) {r : Checked} {g : Refusal} → r ≡ x → r ≡ Err g → r ≡ (x then y)
-unfolding ◌then◌
+unfolding in_turn
 then_stop x y h t = rw (← h, t)
 
 pub then_go : (x y : Checked) {r : Checked} → r ≡ x → r ≡ Ok tt → y ≡ (x then y)
 then_go x y h t = sym (then_skip y (sym h ∙ t))
+
+-- the same as a set of rules for the check of a function that ends with `?` or goes on
+pub ruleset in_a_row = (then_stop, then_go, then_passed)
 
 -- answers joined one by one, g after f and x, for the checks in a row: the last one, one before others, and the first
 pub last : {g x a c : Checked} (f : Checked) → g ≡ (f then x) → x ≡ a → (f then a) ≡ c → g ≡ c
@@ -215,6 +218,9 @@ module _ (f : ℕ → Checked) (n i : ℕ) where
   pub each_go : {r : Checked} → i < n → r ≡ f i → r ≡ Ok tt → each f (i + 1) (n - (i + 1)) ≡ each f i (n - i)
   each_go h a t = rw (each-suc h) (then_go _ _ a t)
 
+-- the same as a set of rules
+pub ruleset by_each = (each_none, each_stop, each_go)
+
 -- ---- what a check refuses with
 
 -- every refusal of the check c is a P
@@ -231,8 +237,8 @@ module _ {P : Refusal → Type 0} where
   refuses_must false r f = record { with_such = λ q e. let g : r ≡ q = cc in subst P g (f refl) }
 
   pub refuses_then : (a b : Checked) → Refuses P a → Refuses P b → Refuses P (a then b)
-  unfolding ◌then◌
-  refuses_then (Ok tt) b f g = g
+  unfolding in_turn
+  refuses_then (Ok _) b f g = g
   refuses_then (Err r) b f g = f
 
   pub refuses_each : (f : ℕ → Checked) (i k : ℕ) → ((j : ℕ) → Refuses P (f j)) → Refuses P (each f i k)

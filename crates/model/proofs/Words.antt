@@ -462,5 +462,5 @@ unfolding format format_store
 format_stays_words p l q s ps ss = go (format_check p l q s) refl
   where
     go : (x : Checked) → format_check p l q s ≡ x → TypedWords (format_store x s (formatted p l q))
-    go (Ok tt) e = let f = format-passed p l q s e in formatted-words p f.sound l q f.sizes ps
+    go (Ok _) e = let f = format-passed p l q s e in formatted-words p f.sound l q f.sizes ps
     go (Err r) e = ss

@@ -186,7 +186,7 @@ StoreIsTold = (p s : List ℕ) (d : Device) → StoreTold p s d
 
 -- how a run of so many steps ended: all of its budget, or less and a step that is refused
 abbrev pub EndedSo : List ℕ → ℕ → RunOutcome → Checked → Type 0
-EndedSo p budget o (Ok tt) = o.steps ≡ budget
+EndedSo p budget o (Ok _) = o.steps ≡ budget
 EndedSo p budget o (Err r) = (o.steps < budget) × ((step p o.store o.device).answer ≡ Answer.Refused r)
 
 -- a run from s, d and t with outcome o is its steps, none of them refused

@@ -44,7 +44,7 @@ abbrev pub refuse : Device → Refusal → Outcome
 refuse d why = out none d (Answer.Refused why)
 
 unfoldable pub judged : Checked → Device → Outcome → Outcome
-judged (Ok tt) d o = o
+judged (Ok _) d o = o
 judged (Err why) d o = refuse d why
 
 -- Store number c of a row of stores, after which the device is d. The last of them has its own device and answer.

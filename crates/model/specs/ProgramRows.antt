@@ -97,7 +97,7 @@ fields =
 
 -- the opcodes that the rule accepts in instruction j of body i, at word w, its fields 0
 unfoldable pub if_accepted : Checked → ℕ → List ℕ → List ℕ
-if_accepted (Ok tt) op ops = op ∷ ops
+if_accepted (Ok _) op ops = op ∷ ops
 if_accepted (Err r) op ops = ops
 
 unfoldable pub accepted_of : List ℕ → ℕ → ℕ → ℕ → List ℕ

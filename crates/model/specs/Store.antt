@@ -192,7 +192,7 @@ format_check p l q s =
 
 -- the store after the call
 unfoldable pub format_store : Checked → List ℕ → List ℕ → List ℕ
-format_store (Ok tt) s new = new
+format_store (Ok _) s new = new
 format_store (Err r) s new = s
 
 unfoldable pub format : List ℕ → ℕ → ℕ → List ℕ → List ℕ

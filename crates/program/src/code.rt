@@ -7,7 +7,7 @@ ghost use Rattle.model.specs.Accepted.{Bodies, HasBody, HasInstruction, body_ins
 ghost use Rattle.program.specs.Fields.{as_bounds};
 
 use super::rows;
-use model::{Checked, Instruction, Refusal};
+use model::{Instruction, Refusal};
 
 // What the fields a, b and k of an instruction are below.
 #[derive(Clone, Copy)]
@@ -124,6 +124,7 @@ pub fn instruction(program: &[u16], body_number: u16, instruction: u16) -> Instr
 }
 
 // "Unused fields are 0", and the bounds of the used ones.
+#[tactic(auto, using(model::proofs::TestLaws::tests), unfolding(model::specs::Check::fields_fit, model::specs::Test::both))]
 pub fn fields_fit(below: Below, word: u16, operand: u16) -> bool
     ensures { result ≡ fields_fit (as_bounds below) word operand }
 {
@@ -136,6 +137,7 @@ pub fn fields_fit(below: Below, word: u16, operand: u16) -> bool
     (operand as u32) < below.2
 }
 
+#[tactic(auto, using(model::proofs::TestLaws::tests), unfolding(model::specs::Check::last_one_fits, model::specs::Test::pick))]
 pub fn last_fits(program: &[u16], body_number: u16, instruction: u16) -> bool
     requires { HasInstruction program.now body_number instruction }
     ensures { result ≡ last_one_fits program.now body_number instruction }
@@ -147,10 +149,11 @@ pub fn last_fits(program: &[u16], body_number: u16, instruction: u16) -> bool
 }
 
 // "an instruction breaks its rule"
-pub fn rule(program: &[u16], body_number: u16, instruction: u16) -> Checked
+#[tactic(auto, using(model::proofs::TestLaws::tests, model::proofs::TestLaws::in_a_row, model::proofs::Passed::gives), unfolding(model::specs::Check::instruction_rule, model::specs::Test::must, model::specs::Test::in_turn))]
+pub fn rule(program: &[u16], body_number: u16, instruction: u16) -> Result<(), Refusal>
     requires { HasInstruction program.now body_number instruction }
     ensures value { result ≡ instruction_rule program.now body_number instruction }
-    ensures given { result ≡ Checked.Accepted → Legal program.now body_number instruction }
+    ensures given { result ≡ Ok tt → Legal program.now body_number instruction }
 {
     let word = code(program, body_number, instruction);
     let below = bounds(
@@ -161,44 +164,34 @@ pub fn rule(program: &[u16], body_number: u16, instruction: u16) -> Checked
         opcode(word),
     );
     if !fields_fit(below, word, operand(program, body_number, instruction)) {
-        return Checked::Refused(Refusal::Instruction(body_number, instruction));
+        return Err(Refusal::Instruction(body_number, instruction));
     }
     if !last_fits(program, body_number, instruction) {
-        return Checked::Refused(Refusal::Instruction(body_number, instruction));
+        return Err(Refusal::Instruction(body_number, instruction));
     }
-    Checked::Accepted
+    Ok(())
 }
 
 // Every instruction of a body.
-fn body(program: &[u16], body_number: u16) -> Checked
+#[tactic(auto, using(model::proofs::TestLaws::by_each), unfolding(model::specs::Check::body_rule))]
+fn body(program: &[u16], body_number: u16) -> Result<(), Refusal>
     requires { HasBody program.now body_number }
     ensures { result ≡ body_rule program.now body_number }
 {
-    let count = rows::instructions(program, body_number);
-    let mut instruction = 0;
-    while instruction < count {
-        let found = rule(program, body_number, instruction);
-        let Checked::Accepted = found else {
-            return found;
-        };
-        instruction += 1;
+    for instruction in 0..rows::instructions(program, body_number) {
+        rule(program, body_number, instruction)?;
     }
-    Checked::Accepted
+    Ok(())
 }
 
 // Every body: one pass over the instructions.
-pub(crate) fn bodies(program: &[u16]) -> Checked
+#[tactic(auto, using(model::proofs::TestLaws::by_each))]
+pub(crate) fn bodies(program: &[u16]) -> Result<(), Refusal>
     requires { Bodies program.now }
     ensures { result ≡ each (body_rule program.now) 0 (bodies program.now) }
 {
-    let bodies = program[1] + program[2];
-    let mut body_number = 0;
-    while body_number < bodies {
-        let found = body(program, body_number);
-        let Checked::Accepted = found else {
-            return found;
-        };
-        body_number += 1;
+    for body_number in 0..program[1] + program[2] {
+        body(program, body_number)?;
     }
-    Checked::Accepted
+    Ok(())
 }

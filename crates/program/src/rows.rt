@@ -5,7 +5,7 @@ ghost use Rattle.model.specs.Program.{bodies, bodies_start, start, instructions,
 ghost use Rattle.model.specs.Test.{pick, each};
 ghost use Rattle.model.specs.Accepted.{Contents, RowsInside, HasRow, HasBody, Bodies};
 
-use model::{Checked, Refusal};
+use model::Refusal;
 
 // Where the first body starts: "6 + 3 × (T + E)".
 pub fn first_body(program: &[u16]) -> u16
@@ -40,18 +40,20 @@ pub fn transaction(program: &[u16], body_number: u16) -> u16
 }
 
 // "rows run past the program"
-pub fn inside(program: &[u16]) -> Checked
+#[tactic(auto, using(model::proofs::TestLaws::tests, model::proofs::Passed::gives), unfolding(model::specs::Check::rows_inside_rule, model::specs::Test::must))]
+pub fn inside(program: &[u16]) -> Result<(), Refusal>
     requires { Contents program.now }
     ensures value { result ≡ rows_inside_rule program.now }
-    ensures given { result ≡ Checked.Accepted → RowsInside program.now }
+    ensures given { result ≡ Ok tt → RowsInside program.now }
 {
     if first_body(program) > program[5] {
-        return Checked::Refused(Refusal::Row(0));
+        return Err(Refusal::Row(0));
     }
-    Checked::Accepted
+    Ok(())
 }
 
 // The largest transaction number that a body may have: a task 255, an event 0.
+#[tactic(auto, using(model::proofs::TestLaws::tests), unfolding(model::specs::Test::pick))]
 fn largest_number(tasks: u16, body_number: u16) -> u16
     ensures { result ≡ pick (ltb body_number tasks) 255 0 }
 {
@@ -59,24 +61,26 @@ fn largest_number(tasks: u16, body_number: u16) -> u16
 }
 
 // A row's limits.
-pub fn limits(program: &[u16], body_number: u16) -> Checked
+#[tactic(auto, using(model::proofs::TestLaws::tests), unfolding(model::specs::Check::limits, model::specs::Test::must, model::specs::Test::in_turn))]
+pub fn limits(program: &[u16], body_number: u16) -> Result<(), Refusal>
     requires { HasRow program.now body_number }
     ensures { result ≡ limits program.now body_number }
 {
     let count = instructions(program, body_number);
     if count < 1 {
-        return Checked::Refused(Refusal::Row(body_number));
+        return Err(Refusal::Row(body_number));
     }
     if count > 256 {
-        return Checked::Refused(Refusal::Row(body_number));
+        return Err(Refusal::Row(body_number));
     }
     if transaction(program, body_number) > largest_number(program[1], body_number) {
-        return Checked::Refused(Refusal::Row(body_number));
+        return Err(Refusal::Row(body_number));
     }
-    Checked::Accepted
+    Ok(())
 }
 
 // Where a body is due: the first behind the rows, each other where the one before it ends.
+#[tactic(auto, unfolding(model::specs::Check::due))]
 fn due(program: &[u16], body_number: u16) -> u32
     requires rows_inside { RowsInside program.now }
     requires body_number_bound { body_number ≤ bodies program.now }
@@ -90,70 +94,59 @@ fn due(program: &[u16], body_number: u16) -> u32
 }
 
 // "a row breaks its rule"
-fn rule(program: &[u16], body_number: u16) -> Checked
+#[tactic(auto, using(model::proofs::TestLaws::tests, model::proofs::TestLaws::in_a_row), unfolding(model::specs::Check::row_rule, model::specs::Test::must, model::specs::Test::in_turn))]
+fn rule(program: &[u16], body_number: u16) -> Result<(), Refusal>
     requires { HasRow program.now body_number }
     ensures { result ≡ row_rule program.now body_number }
 {
     if start(program, body_number) as u32 != due(program, body_number) {
-        return Checked::Refused(Refusal::Row(body_number));
+        return Err(Refusal::Row(body_number));
     }
     limits(program, body_number)
 }
 
 // Every row, in one pass.
-fn rules(program: &[u16]) -> Checked
+#[tactic(auto, using(model::proofs::TestLaws::by_each))]
+fn rules(program: &[u16]) -> Result<(), Refusal>
     requires { RowsInside program.now }
     ensures { result ≡ each (row_rule program.now) 0 (bodies program.now) }
 {
-    let bodies = program[1] + program[2];
-    let mut body_number = 0;
-    while body_number < bodies {
-        let found = rule(program, body_number);
-        let Checked::Accepted = found else {
-            return found;
-        };
-        body_number += 1;
+    for body_number in 0..program[1] + program[2] {
+        rule(program, body_number)?;
     }
-    Checked::Accepted
+    Ok(())
 }
 
 // The rows, and where the bodies end.
-pub(crate) fn rows(program: &[u16]) -> Checked
+#[tactic(auto, using(model::proofs::TestLaws::tests, model::proofs::TestLaws::in_a_row, model::proofs::Passed::gives), unfolding(model::specs::Check::rows, model::specs::Test::must))]
+pub(crate) fn rows(program: &[u16]) -> Result<(), Refusal>
     requires { Contents program.now }
     ensures value { result ≡ rows program.now }
-    ensures given { result ≡ Checked.Accepted → Bodies program.now }
+    ensures given { result ≡ Ok tt → Bodies program.now }
 {
-    let found = inside(program);
-    let Checked::Accepted = found else {
-        return found;
-    };
-    let found = rules(program);
-    let Checked::Accepted = found else {
-        return found;
-    };
+    inside(program)?;
+    rules(program)?;
     let bodies = program[1] + program[2];
     if due(program, bodies) != program[5] as u32 {
-        return Checked::Refused(Refusal::Row(bodies));
+        return Err(Refusal::Row(bodies));
     }
-    Checked::Accepted
+    Ok(())
 }
 
 // What a step asks of a row: its limits, and its body behind the rows and inside the total.
-pub fn usable(program: &[u16], body_number: u16) -> Checked
+#[tactic(auto, using(model::proofs::TestLaws::tests, model::proofs::TestLaws::in_a_row, model::proofs::Passed::gives), unfolding(model::specs::Check::row_usable, model::specs::Test::must, model::specs::Test::in_turn))]
+pub fn usable(program: &[u16], body_number: u16) -> Result<(), Refusal>
     requires { HasRow program.now body_number }
     ensures value { result ≡ row_usable program.now body_number }
-    ensures given { result ≡ Checked.Accepted → HasBody program.now body_number }
+    ensures given { result ≡ Ok tt → HasBody program.now body_number }
 {
-    let found = limits(program, body_number);
-    let Checked::Accepted = found else {
-        return found;
-    };
+    limits(program, body_number)?;
     let at = start(program, body_number);
     if at < first_body(program) {
-        return Checked::Refused(Refusal::Row(body_number));
+        return Err(Refusal::Row(body_number));
     }
     if at as u32 + 2 * (instructions(program, body_number) as u32) > program[5] as u32 {
-        return Checked::Refused(Refusal::Row(body_number));
+        return Err(Refusal::Row(body_number));
     }
-    Checked::Accepted
+    Ok(())
 }

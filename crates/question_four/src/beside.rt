@@ -34,14 +34,14 @@ fn answer_number(answer: Answer) -> u16 {
 // An acceptance for which nothing was dropped, and one for which a record was; and a number for the record.
 fn accepted_number(dropped: Dropped) -> u16 {
     match dropped {
-        Dropped::Nothing => 5,
+        None => 5,
         Dropped::Record(_, _) => 7,
     }
 }
 
 fn record_number(dropped: Dropped) -> u32 {
     match dropped {
-        Dropped::Nothing => 0,
+        None => 0,
         Dropped::Record(event, datum) => 65536 * (event as u32) + datum as u32,
     }
 }
@@ -60,10 +60,10 @@ fn held_number(answer: Answer) -> u32 {
 }
 
 // A number for the word stored, with its value.
-fn stored_number(store: &[u16], stored: Stored) -> u32 {
+fn stored_number(store: &[u16], stored: Option<u16>) -> u32 {
     match stored {
-        Stored::Nothing => 0,
-        Stored::Word(index) => 65536 * (index as u32) + words::word(store, index) as u32,
+        None => 0,
+        Some(index) => 65536 * (index as u32) + words::word(store, index) as u32,
     }
 }
 

@@ -214,15 +214,15 @@ pub fn stored(
     out: &impl Print,
     store: &[u16],
     device: Device,
-    stored: Stored,
+    stored: Option<u16>,
     width: u16,
 ) -> io::Result<()> {
     match stored {
-        Stored::Nothing => {
+        None => {
             text::put(out, b"-")?;
             text::rest(out, 1, width)
         }
-        Stored::Word(index) => {
+        Some(index) => {
             text::two(out, index as u32)?;
             text::put(out, b" ")?;
             name(out, store, device, index)?;

@@ -46,10 +46,10 @@ pub fn step(program: &[u16], store: &mut [u16], node: Node, mistake: Mistake) ->
 }
 
 // The index that was told, or 0: no step stores word 0.
-fn told(stored: Stored) -> u16 {
+fn told(stored: Option<u16>) -> u16 {
     match stored {
-        Stored::Nothing => 0,
-        Stored::Word(index) => index,
+        None => 0,
+        Some(index) => index,
     }
 }
 
@@ -66,7 +66,7 @@ fn instead(node: Node, answer: Answer, index: u16, early: bool) -> Node {
     kept.early = early;
     Node {
         answer,
-        stored: Stored::Word(index),
+        stored: Some(index),
         device,
         steps: node.steps,
         kept,
@@ -107,7 +107,7 @@ fn tail_before_data(program: &[u16], store: &mut [u16], node: Node) -> Node {
     let datum = words::word(store, index);
     left.kept.datum = datum;
     two(store, index, stale, 15, words::slot_after(store, tail));
-    instead(left, Answer::Accepted(Dropped::Nothing), 15, true)
+    instead(left, Answer::Accepted(None), 15, true)
 }
 
 fn data_after_tail(program: &[u16], store: &mut [u16], node: Node, datum: u16) -> Node {

@@ -8,7 +8,7 @@ use model::{Answer, Device, Stored};
 #[derive(Clone, Copy)]
 pub struct Node {
     pub answer: Answer,
-    pub stored: Stored,
+    pub stored: Option<u16>,
     pub device: Device,
     // How many steps were made.
     pub steps: u32,
@@ -19,7 +19,7 @@ pub struct Node {
 pub fn off() -> Node {
     Node {
         answer: Answer::Done,
-        stored: Stored::Nothing,
+        stored: None,
         device: Device::OFF,
         steps: 0,
         kept: mistakes::nothing_kept(),

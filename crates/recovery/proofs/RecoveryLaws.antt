@@ -32,7 +32,7 @@ finish-all p k s d = simp unary_clauses
 
 -- a step of `fuel` and one more, by its answer
 pub finish_stops : (p : List ℕ) (k fuel n : ℕ) (s : List ℕ) (d : Device) {x : CallResult} {z : List ℕ} {f : Refusal} → k ≡ suc fuel → word s 8 ≢ 0
-    → StepPerforms p s d x z → refusal_of x.answer ≡ Checked.Refused f → finish p k n s d ≡ refused f
+    → StepPerforms p s d x z → refusal_of x.answer ≡ Err f → finish p k n s d ≡ refused f
 unfolding finish
 finish_stops p k fuel n s d e some left r =
     ap (λ (j : ℕ). finish p j n s d) e
@@ -40,7 +40,7 @@ finish_stops p k fuel n s d e some left r =
     ∙ (stops (step p s d).answer refused _ (ap (λ (y : Result). refusal_of y.answer) (sym left) ∙ r)).1
 
 pub finish_goes : (p : List ℕ) (k fuel n : ℕ) (s : List ℕ) (d : Device) {x : CallResult} {z : List ℕ} → k ≡ suc fuel → word s 8 ≢ 0
-    → StepPerforms p s d x z → refusal_of x.answer ≡ Checked.Accepted → finish p k n s d ≡ finish p fuel (n + 1) z x.device
+    → StepPerforms p s d x z → refusal_of x.answer ≡ Ok tt → finish p k n s d ≡ finish p fuel (n + 1) z x.device
 unfolding finish
 finish_goes p k fuel n s d e some left r =
     ap (λ (j : ℕ). finish p j n s d) e
@@ -50,12 +50,12 @@ finish_goes p k fuel n s d e some left r =
 
 -- ---- the boot
 
-pub recovery_stops : (p s : List ℕ) (allowed : ℕ) {x : CallResult} {f : Refusal} → BootPerforms p s off x → refusal_of x.answer ≡ Checked.Refused f
+pub recovery_stops : (p s : List ℕ) (allowed : ℕ) {x : CallResult} {f : Refusal} → BootPerforms p s off x → refusal_of x.answer ≡ Err f
     → recovery p allowed s ≡ refused f
 unfolding recovery cut fresh
 recovery_stops p s allowed left r = (stops (boot p s off).answer refused _ (ap (λ (y : Result). refusal_of y.answer) (sym left) ∙ r)).1
 
-pub recovery_goes : (p s : List ℕ) (allowed : ℕ) {x : CallResult} → BootPerforms p s off x → refusal_of x.answer ≡ Checked.Accepted
+pub recovery_goes : (p s : List ℕ) (allowed : ℕ) {x : CallResult} → BootPerforms p s off x → refusal_of x.answer ≡ Ok tt
     → recovery p allowed s ≡ finish p allowed 0 s x.device
 unfolding recovery cut fresh
 recovery_goes p s allowed left r =

@@ -56,7 +56,7 @@ fn finish(program: &[u16], store: &mut [u16], device: Device, allowed: u32) -> R
         let result = runtime::step(program, store, state);
         let answer = result.answer;
         let found = runtime::refusal(answer);
-        if let Checked::Refused(why) = found {
+        if let Err(why) = found {
             return Recovering::Refused(why);
         }
         state = result.device;
@@ -77,7 +77,7 @@ pub fn recover(program: &[u16], store: &mut [u16]) -> Recovering
     let booted = calls::boot(program, store, Device::OFF);
     let answer = booted.answer;
     let found = runtime::refusal(answer);
-    if let Checked::Refused(why) = found {
+    if let Err(why) = found {
         return Recovering::Refused(why);
     }
     let device = booted.device;

@@ -32,7 +32,7 @@ pub record Whole (p : List ℕ) : Type 0 where
   pub event_number : (i : ℕ) → i < bodies p → tasks p ≤ i → transaction p i ≡ 0
   pub fields : (i j : ℕ) → i < bodies p → j < instructions p i → Coded p i (code p i j) (operand p i j)
 
-module _ (p : List ℕ) (passed : check p ≡ Checked.Accepted) where
+module _ (p : List ℕ) (passed : check p ≡ Ok tt) where
   sound : Sound p
   sound = check-passed p passed
 
@@ -40,7 +40,7 @@ module _ (p : List ℕ) (passed : check p ≡ Checked.Accepted) where
   unfolding contents_rule
   mark_is = eqb-true _ _ (must_then _ _ _ (must_then _ _ _ (must_then _ _ _ sound.head).1).1).0
 
-  rows_are : rows p ≡ Checked.Accepted
+  rows_are : rows p ≡ Ok tt
   unfolding check
   rows_are = then_first _ _ (then_rest _ _ passed)
 

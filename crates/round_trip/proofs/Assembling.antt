@@ -31,7 +31,7 @@ text_free {p} whole =
     ∙ not_made_first _ _ (ne_eqb _ 0 (is_given whole entry_line (omega arith)))
     ∙ not_made _ (le-ltb 65535 (program_length (room p) (size p)) (omega (arith, length_is whole, total-fits whole)))))
 
-module _ (p : List ℕ) (passed : check p ≡ Checked.Accepted) where
+module _ (p : List ℕ) (passed : check p ≡ Ok tt) where
   pub mistake_free : mistake_of (flat (expected p)) (length (expected p)) ≡ mistake_at 0 0
   unfolding mistake_of
   mistake_free =

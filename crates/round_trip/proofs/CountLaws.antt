@@ -14,7 +14,7 @@ use Rattle.assembly.specs.declared.Line.{Line}
 use Rattle.listing.specs.Listing.{task_name, event_name, transaction_name, has_number}
 use Rattle.model.proofs.TestLaws.{pick_case}
 use Rattle.model.specs.Program.{tasks, bodies, instructions, transaction}
-use Rattle.model.specs.Test.{pick, ◌and◌}
+use Rattle.model.specs.Test.{pick, both}
 use Rattle.tokens.specs.Tokens.{named}
 use Rattle.round_trip.specs.Expected.{line, blank, memory_of, entry_of, transaction_of, heading_of, instruction_of}
 use Rattle.round_trip.proofs.AcceptedLaws.{Whole, instructions_before}
@@ -34,7 +34,7 @@ unfolding heading_of
 heading_case p i P task event = pick_case P (λ e. task (ltb-true _ _ e)) (λ e. event (ltb-false _ _ e))
 
 pub heading-body : (p : List ℕ) (i : ℕ) → is_body (heading_of p i) ≡ true
-unfolding is_body ◌and◌
+unfolding is_body both
 heading-body p i = heading_case p i (λ g. is_body g ≡ true) (λ _. refl) (λ _. refl)
 
 -- ---- Lines of a class above line x
@@ -118,7 +118,7 @@ module _ {p : List ℕ} (whole : Whole p) where
       }
 
   pub bodies_above : Tally p body_line 0 (λ i. i)
-  unfolding one is_of is_body ◌and◌ pick
+  unfolding one is_of is_body both pick
   bodies_above =
       record {
         first = refl;
@@ -129,7 +129,7 @@ module _ {p : List ℕ} (whole : Whole p) where
       }
 
   pub instructions_above : Tally p instruction_line 1 (instructions_before p)
-  unfolding one is_of is_instruction ◌and◌ pick instructions_before
+  unfolding one is_of is_instruction both pick instructions_before
   instructions_above =
       record {
         first = refl;

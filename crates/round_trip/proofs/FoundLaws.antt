@@ -16,7 +16,7 @@ use Rattle.listing.proofs.ListingLaws.{number-found}
 use Rattle.listing.specs.Listing.{task_name, event_name, transaction_name, label_name, has_number, is_target}
 use Rattle.model.proofs.TestLaws.{pick_case, pick_true, pick-false, and_true, and_false, same_or}
 use Rattle.model.specs.Program.{tasks, bodies, instructions, transaction}
-use Rattle.model.specs.Test.{pick, ◌and◌}
+use Rattle.model.specs.Test.{pick, both}
 use Rattle.tokens.specs.Tokens.{named}
 use Rattle.round_trip.specs.Expected.{transaction_of, heading_of, instruction_of, label_of}
 use Rattle.round_trip.proofs.AcceptedLaws.{Whole}
@@ -34,7 +34,7 @@ module _ {p : List ℕ} (whole : Whole p) where
   is_named_lem s name l e f = and_true (eq-eqb _ _ e) (eq-eqb _ _ f)
 
   other_statement : (s name : ℕ) (l : Line) → eqb l.statement s ≡ false → is_named s name l ≡ false
-  unfolding is_named ◌and◌
+  unfolding is_named both
   other_statement s name l e = rw e
 
   other_name : (s name : ℕ) (l : Line) → l.first ≢ name → is_named s name l ≡ false
@@ -62,7 +62,7 @@ module _ {p : List ℕ} (whole : Whole p) where
 
   transaction_new : (m : ℕ) → m < 255 → (y : ℕ) → y < transaction_at p m
       → is_named transaction_line (named (transaction_name (suc m))) (line_at (room p) y) ≡ false
-  unfolding is_named ◌and◌
+  unfolding is_named both
   transaction_new m h =
       named_above transaction_line (named (transaction_name (suc m))) (transaction_at p m) (omega arith)
       (omega (arith, transaction-inside p m (omega arith), lines_are p))
@@ -76,7 +76,7 @@ module _ {p : List ℕ} (whole : Whole p) where
     heading-inside = omega (arith, body-inside p i h, next-body p i, lines_are p)
 
     task_new : i < tasks p → (y : ℕ) → y < suc (body_at p i) → is_named task_line (named (task_name i)) (line_at (room p) y) ≡ false
-    unfolding is_named ◌and◌
+    unfolding is_named both
     task_new task =
         let c = whole.contents in
         named_above task_line (named (task_name i)) (suc (body_at p i)) (omega arith) (omega (arith, heading-inside)) (λ k l u. refl)
@@ -86,7 +86,7 @@ module _ {p : List ℕ} (whole : Whole p) where
         (λ _. refl))
 
     event_new : tasks p ≤ i → (y : ℕ) → y < suc (body_at p i) → is_named event_line (named (event_name (i - tasks p))) (line_at (room p) y) ≡ false
-    unfolding is_named ◌and◌
+    unfolding is_named both
     event_new event =
         let c = whole.contents in
         named_above event_line (named (event_name (i - tasks p))) (suc (body_at p i)) (omega arith) (omega (arith, heading-inside)) (λ k l u. refl)
@@ -191,7 +191,7 @@ module _ {p : List ℕ} (whole : Whole p) where
         (pick_true _ _ (rw (at-heading p (suc i) more) (heading-body p (suc i)))))
 
     pub body-count : body_count (lines_at (room p) (code_at p i) (size p - code_at p i)) 0 ≡ instructions p i
-    unfolding body_count is_body one is_of is_instruction ◌and◌ pick
+    unfolding body_count is_body one is_of is_instruction both pick
     body-count =
         count_is (room p) (size p) (code_at p i) (code_at p i + instructions p i) (omega arith) code_inside
         (in_code Code (instructions p i) is_code)

@@ -16,7 +16,7 @@ use Rattle.listing.proofs.ListingLaws.{target_found}
 use Rattle.listing.specs.Listing.{task_name, label_name, is_target}
 use Rattle.model.proofs.TestLaws.{pick_true, pick-false, and_true, or_right, clash}
 use Rattle.model.specs.Program.{bodies, instructions, opcode, field_a, field_b, code, operand, bounds}
-use Rattle.model.specs.Test.{pick, ◌and◌, ◌or◌}
+use Rattle.model.specs.Test.{pick, ◌and◌, ◌or◌, both, either}
 use Rattle.tokens.specs.Tokens.{number, named}
 use Rattle.tokens.specs.Uses.{uses_a, uses_b, uses_k, is_jump, go_opcode}
 use Rattle.round_trip.specs.Expected.{line, if_used, operand_word, operand_words, label_of, instruction_of}
@@ -68,7 +68,7 @@ wrong_in op =
     statement_mistake (line 0 (op + 1) (get_or ws 0 0) (get_or ws 1 0) (get_or ws 2 0))
 
 none-wrong : all (λ op. eqb (wrong_in op) 0) 17 ≡ true
-unfolding all uses_a uses_b uses_k is_jump bounds if_used pick ◌and◌ ◌or◌ statement_mistake count_mistake kind_mistake words_behind number_first number_second number_third is_instruction name_first number_only words_least words_most operands bit or_else mistake_if
+unfolding all uses_a uses_b uses_k is_jump bounds if_used pick both either statement_mistake count_mistake kind_mistake words_behind number_first number_second number_third is_instruction name_first number_only words_least words_most operands bit or_else mistake_if
 none-wrong = refl
 
 -- ---- An accepted instruction's line
@@ -98,11 +98,11 @@ module _ {p : List ℕ} (whole : Whole p) (i j : ℕ) (h : i < bodies p) (l : j 
   is_none_other s m = ne_eqb (opcode w + 1) s (omega (arith, coded.known))
 
   pub is_unnamed : name_first (instruction_of p i j).statement ≡ false
-  unfolding name_first instruction_of ◌and◌
+  unfolding name_first instruction_of both
   is_unnamed = let below : leb 20 (opcode w + 1) ≡ false = lt-leb 20 (opcode w + 1) (omega (arith, coded.known)) in rw below
 
   pub is_no_body : is_body (instruction_of p i j) ≡ false
-  unfolding is_body instruction_of ◌and◌
+  unfolding is_body instruction_of both
   is_no_body = let below : leb 21 (opcode w + 1) ≡ false = lt-leb 21 (opcode w + 1) (omega (arith, coded.known)) in rw below
 
   behind : uses_b (opcode w) ≡ true → uses_a (opcode w) ≡ true
@@ -123,7 +123,7 @@ module _ {p : List ℕ} (whole : Whole p) (i j : ℕ) (h : i < bodies p) (l : j 
   operand_is e = rw (add-sub_cancel (opcode w) 1, e) (used_last (uses_a (opcode w)) (uses_b (opcode w)) a b (operand_word (opcode w) k) behind)
 
   pub jumps : (is_instruction (instruction_of p i j) and is_jump (opcode_of (instruction_of p i j))) ≡ is_jump (opcode w)
-  unfolding ◌and◌
+  unfolding both
   jumps = rw (is_instruction_lem, opcode_is)
 
   pub targets : is_jump (opcode w) ≡ true → is_target p i k (instructions p i) ≡ true

@@ -16,7 +16,7 @@ use Rattle.assembly.specs.declared.Mistake.{Mistake}
 use Rattle.listing.specs.Listing.{task_name, transaction_name, label_name, is_target}
 use Rattle.model.proofs.TestLaws.{pick_case, pick_true, and_false, clash}
 use Rattle.model.specs.Program.{tasks, memory_words, entry, bodies, instructions, transaction, operand}
-use Rattle.model.specs.Test.{pick, ◌and◌, ◌or◌}
+use Rattle.model.specs.Test.{pick, ◌and◌, ◌or◌, both, either}
 use Rattle.tokens.specs.Tokens.{named}
 use Rattle.round_trip.specs.Expected.{line, blank, memory_of, entry_of, transaction_of, heading_of, instruction_of, label_of}
 use Rattle.round_trip.proofs.AcceptedLaws.{Whole}
@@ -88,7 +88,7 @@ module _ {p : List ℕ} (whole : Whole p) where
 
     -- a line without a label that is no instruction
     plain_none : l.label ≡ 0 → is_instruction l ≡ false → Placed x l → among_mistake (room p) (size p) start x ≡ 0
-    unfolding label_mistake missing_label label_word pick ◌and◌
+    unfolding label_mistake missing_label label_word pick both
     plain_none label plain = among_none (rw here (pick_true _ _ (eq-eqb _ _ label))) (rw plain) (rw plain)
 
   -- the name of a task that there is, of a label or of a transaction
@@ -117,7 +117,7 @@ module _ {p : List ℕ} (whole : Whole p) where
   FreeAt x = among_mistake (room p) (size p) (body_start (room p) x) x ≡ 0
 
   task_free : (i : ℕ) → i < bodies p → i < tasks p → line_at (room p) (suc (body_at p i)) ≡ task_heading p i → FreeAt (suc (body_at p i))
-  unfolding name_first is_instruction missing_task missing_transaction task_word transaction_word pick ◌and◌ ◌or◌
+  unfolding name_first is_instruction missing_task missing_transaction task_word transaction_word pick both either
   task_free i h task is =
       plain_none _ _ (task_heading p i) is refl refl (
         le-ltb 0 (above p event_line (suc (body_at p i))) (omega (arith, above_heading (events_above whole) i (omega arith))),
@@ -128,7 +128,7 @@ module _ {p : List ℕ} (whole : Whole p) where
       )
 
   event_free : (i : ℕ) → i < bodies p → tasks p ≤ i → line_at (room p) (suc (body_at p i)) ≡ event_heading p i → FreeAt (suc (body_at p i))
-  unfolding name_first is_instruction missing_task missing_transaction task_word transaction_word pick ◌and◌ ◌or◌
+  unfolding name_first is_instruction missing_task missing_transaction task_word transaction_word pick both either
   event_free i h event is =
       plain_none _ _ (event_heading p i) is refl refl (refl, new _ (event-first whole i h event), refl, refl, refl)
 
@@ -141,7 +141,7 @@ module _ {p : List ℕ} (whole : Whole p) where
     own_label = pick_case (λ v. eqb v 0 ≡ false → v ≡ named (label_name j)) (λ _ _. refl) (λ _ e. clash refl e)
 
     label_free : label_mistake (room p) (code_at p i) (code_at p i + j) ≡ 0
-    unfolding label_mistake ◌or◌
+    unfolding label_mistake either
     label_free =
         let begun : eqb (code_at p i) 0 ≡ false = ne_eqb (code_at p i) 0 (omega arith) in
         rw (at-instruction p i j h l)
@@ -152,7 +152,7 @@ module _ {p : List ℕ} (whole : Whole p) where
         (subst (λ (v : ℕ). has_label v (lines_at (room p) (code_at p i) (code_at p i + j - code_at p i)) ≡ false) (sym (own_label e)) (label_first whole i h j l))))
 
     task_word_free : missing_task (room p) (size p) (task_word g) ≡ false
-    unfolding task_word missing_task ◌and◌
+    unfolding task_word missing_task both
     task_word_free =
         pick_case (λ w. missing_task (room p) (size p) w ≡ false)
         (λ e.
@@ -161,7 +161,7 @@ module _ {p : List ℕ} (whole : Whole p) where
         (λ _. refl)
 
     label_word_free : missing_label (room p) (size p) (code_at p i) (label_word g) ≡ false
-    unfolding label_word missing_label ◌and◌
+    unfolding label_word missing_label both
     label_word_free =
         pick_case (λ w. missing_label (room p) (size p) (code_at p i) w ≡ false)
         (λ e.
@@ -171,7 +171,7 @@ module _ {p : List ℕ} (whole : Whole p) where
         (λ _. refl)
 
     instruction_free : FreeAt (code_at p i + j)
-    unfolding transaction_word missing_transaction pick ◌and◌ ◌or◌
+    unfolding transaction_word missing_transaction pick both either
     instruction_free =
         let other = is_none_other whole i j h l in
         subst (λ (start : ℕ). among_mistake (room p) (size p) start (code_at p i + j) ≡ 0) (sym (body-start whole i h j (omega arith)))
@@ -185,7 +185,7 @@ module _ {p : List ℕ} (whole : Whole p) where
         ))
 
   no_among : (x : ℕ) → x < size p → FreeAt x
-  unfolding lines_at count_from one is_of name_first is_instruction missing_task missing_transaction task_word transaction_word pick ◌and◌ ◌or◌
+  unfolding lines_at count_from one is_of name_first is_instruction missing_task missing_transaction task_word transaction_word pick both either
   no_among x h =
       every p (λ y g. line_at (room p) y ≡ g → FreeAt y)
       (record {

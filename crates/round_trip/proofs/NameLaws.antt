@@ -10,7 +10,7 @@ use lib.Dec.{ltb}
 use Rattle.assembly.specs.Lines.{is_name_word}
 use Rattle.listing.specs.Listing.{task_name, event_name, transaction_name, label_name}
 use Rattle.model.proofs.TestLaws.{and_left, and_right, below_or, same_or}
-use Rattle.model.specs.Test.{pick, ◌and◌}
+use Rattle.model.specs.Test.{pick, ◌and◌, both}
 use Rattle.text.specs.Text.{decimal, decimal_of}
 use Rattle.tokens.specs.Tokens.{character, spelled, named}
 
@@ -56,17 +56,17 @@ module _ (f : ℕ → ℕ) where
       }
 
 pub task-names : Names (λ i. named (task_name i)) 31
-unfolding growing task_name decimal decimal_of spelled character pick ◌and◌
+unfolding growing task_name decimal decimal_of spelled character pick both
 task-names = names (λ i. named (task_name i)) 31 refl
 
 pub event-names : Names (λ i. named (event_name i)) 15
-unfolding growing event_name decimal decimal_of spelled character pick ◌and◌
+unfolding growing event_name decimal decimal_of spelled character pick both
 event-names = names (λ i. named (event_name i)) 15 refl
 
 pub transaction-names : Names (λ n. named (transaction_name n)) 255
-unfolding growing transaction_name decimal decimal_of spelled character pick ◌and◌
+unfolding growing transaction_name decimal decimal_of spelled character pick both
 transaction-names = names (λ n. named (transaction_name n)) 255 refl
 
 pub label_names : Names (λ j. named (label_name j)) 255
-unfolding growing label_name decimal decimal_of spelled character pick ◌and◌
+unfolding growing label_name decimal decimal_of spelled character pick both
 label_names = names (λ j. named (label_name j)) 255 refl

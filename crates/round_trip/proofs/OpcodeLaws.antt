@@ -12,7 +12,7 @@ use Rattle.model.proofs.TestLaws.{pick_true, pick-false, and_left, and_right, sa
 use Rattle.model.specs.Accepted.{Contents}
 use Rattle.model.specs.Check.{fields_fit}
 use Rattle.model.specs.Program.{tasks, memory_words, instructions, opcode, field_a, field_b, bounds}
-use Rattle.model.specs.Test.{pick, ◌and◌}
+use Rattle.model.specs.Test.{pick, ◌and◌, both}
 use Rattle.tokens.specs.Uses.{uses_a, uses_b, uses_k, is_jump, go_opcode}
 
 -- ---- A test of all numbers below n, which the checker computes
@@ -41,7 +41,7 @@ operand_bound m t n isTask op =
 
 bounds_are : (m t n : ℕ) (isTask : Bool) (op : ℕ) → op ≤ 16
     → bounds m t n isTask op ≡ record { a = bound (uses_a op); b = bound (uses_b op); k = operand_bound m t n isTask op }
-unfolding bounds uses_a uses_b uses_k is_jump pick ◌and◌
+unfolding bounds uses_a uses_b uses_k is_jump pick both
 bounds_are m t n isTask op h =
     within (λ op. bounds m t n isTask op ≡ record { a = bound (uses_a op); b = bound (uses_b op); k = operand_bound m t n isTask op }) 0 17 op
     (refl, (refl, (refl, (refl, (refl, (refl, (refl, (refl, (refl, (refl, (refl, (refl, (refl, (refl, (refl, (refl, (refl, tt)))))))))))))))))
@@ -61,26 +61,26 @@ module _ (op : ℕ) (known : op ≤ 16) where
   implied f g e h = sym (pick_true _ _ h) ∙ meets (λ n. implies (f n) (g n)) e
 
   pub second-behind-first : uses_b op ≡ true → uses_a op ≡ true
-  unfolding all uses_a uses_b bounds pick ◌and◌
+  unfolding all uses_a uses_b bounds pick both
   second-behind-first = implied uses_b uses_a refl
 
   pub jump_operand : is_jump op ≡ true → uses_k op ≡ true
-  unfolding all uses_k is_jump bounds pick ◌and◌
+  unfolding all uses_k is_jump bounds pick both
   jump_operand = implied is_jump uses_k refl
 
   pub go_operand : eqb op go_opcode ≡ true → uses_k op ≡ true
-  unfolding all uses_k bounds pick ◌and◌
+  unfolding all uses_k bounds pick both
   go_operand = implied (λ n. eqb n go_opcode) uses_k refl
 
   pub go_alone : eqb op go_opcode ≡ true → (uses_a op ≡ false) × (uses_b op ≡ false)
-  unfolding all uses_a uses_b bounds pick ◌and◌
+  unfolding all uses_a uses_b bounds pick both
   go_alone e = (
     not-true _ (implied (λ n. eqb n go_opcode) (λ n. not (uses_a n)) refl e),
     not-true _ (implied (λ n. eqb n go_opcode) (λ n. not (uses_b n)) refl e),
   )
 
   pub go_no_jump : eqb op go_opcode ≡ true → is_jump op ≡ false
-  unfolding all is_jump pick ◌and◌
+  unfolding all is_jump pick both
   go_no_jump e = not-true _ (implied (λ n. eqb n go_opcode) (λ n. not (is_jump n)) refl e)
 
 -- ---- What an accepted instruction's fields are

@@ -227,19 +227,19 @@ unfolding lines_from finished last if_right ended ended_by numbers statement sta
 last_line = refl
 
 -- the text is read as the lines
-pub lines_of_listing : (p : List ℕ) → check p ≡ Checked.Accepted → lines (listing p) ≡ flat (expected p)
+pub lines_of_listing : (p : List ℕ) → check p ≡ Ok tt → lines (listing p) ≡ flat (expected p)
 unfolding lines expected
 lines_of_listing p e =
     rw (append-nil, last_line) at ((listing-read p (check-passed p e)).lines []) ∙ sym (flat_append (printed_lines p) (blank ∷ []))
 
 -- so many of them
-pub count_of_listing : (p : List ℕ) → check p ≡ Checked.Accepted → line_count (listing p) ≡ length (expected p)
+pub count_of_listing : (p : List ℕ) → check p ≡ Ok tt → line_count (listing p) ≡ length (expected p)
 unfolding expected line_count
 count_of_listing p e =
     rw append-nil at ((listing-read p (check-passed p e)).count []) ∙ sym (length-append (printed_lines p) (blank ∷ []))
 
 -- and there is room for it and for them
-pub listing-fits : (p : List ℕ) → check p ≡ Checked.Accepted → (leb (length (listing p)) 1048576 and leb (line_count (listing p)) 65536) ≡ true
+pub listing-fits : (p : List ℕ) → check p ≡ Ok tt → (leb (length (listing p)) 1048576 and leb (line_count (listing p)) 65536) ≡ true
 unfolding expected
 listing-fits p e =
     let sound = check-passed p e in

@@ -11,7 +11,7 @@ use lib.ListN.{length, get_or, replicate, length-append, length-replicate}
 use Rattle.assembly.specs.declared.Line.{Line}
 use Rattle.listing.specs.Listing.{spaces, margin}
 use Rattle.model.proofs.TestLaws.{pick_case, pick-false, and_left, and_right}
-use Rattle.model.specs.Test.{pick, ◌and◌, ◌or◌}
+use Rattle.model.specs.Test.{pick, both, either}
 use Rattle.round_trip.proofs.ReadingWords.{pick-both, every, every_append, is_plain, during, between, reads, reads_append, Word, label_word_lem}
 use Rattle.round_trip.specs.Expected.{line, blank, flat, label_of}
 use Rattle.text.specs.Ascii.{ascii}
@@ -88,11 +88,11 @@ word-behind {bytes} {xs} {label} {w} {ws} gap word h =
     }
 
 space-ends : (label : ℕ) (ws : List ℕ) (kind : Kind) (value : ℕ) → next (during label ws kind value) space ≡ ended_by kind (during label ws kind value)
-unfolding next read_byte if_right is_space ended pick ◌or◌
+unfolding next read_byte if_right is_space ended pick either
 space-ends label ws kind value = refl
 
 space-behind : {bytes : List ℕ} {label : ℕ} {ws : List ℕ} → Words bytes label ws → Gap (bytes ++ (space ∷ [])) label ws
-unfolding ◌and◌
+unfolding both
 space-behind {bytes} {label} {ws} words =
     record {
       plain = every_append is_plain bytes (space ∷ []) words.plain refl;
@@ -166,7 +166,7 @@ unfolding start
 no_margin = record { plain = refl; read = refl; some = tt; short = omega arith }
 
 wide_margin : Gap (ascii "        ") 0 []
-unfolding start next read_byte if_right is_space ended ended_by pick ◌and◌ ◌or◌
+unfolding start next read_byte if_right is_space ended ended_by pick both either
 wide_margin = record { plain = refl; read = refl; some = tt; short = omega arith }
 
 -- the spaces behind a label
@@ -176,7 +176,7 @@ record Spaces (xs : List ℕ) : Type 0 where
   short : length xs ≤ 4
 
 some_spaces : (n : ℕ) → n ≤ 4 → Spaces (replicate n space)
-unfolding next read_byte if_right is_space ended ended_by pick ◌and◌ ◌or◌
+unfolding next read_byte if_right is_space ended ended_by pick both either
 some_spaces zero h = record { plain = refl; read = λ label. refl; short = omega arith }
 some_spaces (suc n) h =
     let fewer = some_spaces n (omega arith) in
@@ -188,11 +188,11 @@ spaces_are j =
     pick_case Spaces (λ _. some_spaces 4 (omega arith)) (λ _. pick_case Spaces (λ _. some_spaces 3 (omega arith)) (λ _. some_spaces 2 (omega arith)))
 
 colon_ends : (kind : Kind) (value w : ℕ) → ended_by kind (during 0 [] kind value) ≡ between 0 (w ∷ []) → 65535 < w → next (during 0 [] kind value) (code ":") ≡ between w []
-unfolding next read_byte if_right is_space ended labelled with_words pick ◌and◌ ◌or◌
+unfolding next read_byte if_right is_space ended labelled with_words pick both either
 colon_ends kind value w e h = rw (e, lt-ltb 65535 w h)
 
 label_margin : {xs ys : List ℕ} {w : ℕ} → Word xs w → 65535 < w → Spaces ys → Gap (xs ++ ascii ":" ++ ys) w []
-unfolding start ◌and◌
+unfolding start both
 label_margin {xs} {ys} {w} word h spaces =
     let ended = word.ended 0 [] ∙ added_is 0 [] word.kind word.value w (omega arith) tt in
     record {

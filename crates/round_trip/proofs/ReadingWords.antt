@@ -14,7 +14,7 @@ use Rattle.listing.specs.Listing.{task_name, event_name, transaction_name, label
 use Rattle.model.proofs.ProgramLaws.{◌&◌}
 use Rattle.model.proofs.Range.{within}
 use Rattle.model.proofs.TestLaws.{pick_case, pick_true, pick-false, clash, same_or, and_true, and_left, and_right}
-use Rattle.model.specs.Test.{pick, ◌and◌, ◌or◌}
+use Rattle.model.specs.Test.{pick, ◌and◌, both, either}
 use Rattle.text.proofs.TextLaws.{decimal-length}
 use Rattle.text.specs.Ascii.{ascii}
 use Rattle.text.specs.Text.{decimal_of, decimal}
@@ -67,7 +67,7 @@ plain_of_name (x ∷ xs) e = and_true (of_name x (and_left _ _ e)).0 (plain_of_n
 
 -- the ten digits
 digit_byte_lem : (d : ℕ) → d < 10 → (is_of_name (48 + d) ≡ true) × (character (48 + d) ≡ d + 1)
-unfolding is_of_name is_space character pick ◌and◌ ◌or◌
+unfolding is_of_name is_space character pick both either
 digit_byte_lem d h =
     let e = every_below_lem (λ (d : ℕ). is_of_name (48 + d) and eqb (character (48 + d)) (d + 1)) 10 d refl h in
     (and_left _ _ e, eqb-true _ _ (and_right (is_of_name (48 + d)) _ e))
@@ -101,7 +101,7 @@ reads_append now (x ∷ xs) ys = reads_append (next now x) xs ys
 
 -- what stands behind four tests of which none is met
 none_met : {A : Type 0} (a b c d : Bool) (x y z u v : A) → (not a and not b and not c and not d) ≡ true → pick a x (pick b y (pick c z (pick d u v))) ≡ v
-unfolding pick ◌and◌
+unfolding pick both
 none_met true b c d x y z u v e = clash e refl
 none_met false true c d x y z u v e = clash e refl
 none_met false false true d x y z u v e = clash e refl
@@ -140,7 +140,7 @@ module _ (label : ℕ) (ws : List ℕ) where
       ∙ (pick-false _ _ (ne_eqb (character byte) 1 (λ same. absurd (omega arith))) ∙ pick-false _ _ (lt-leb (character byte) 10 letter))
 
   number-begins : (d : ℕ) → d < 10 → next (between label ws) (48 + d) ≡ during label ws (number_kind d) d
-  unfolding next read_byte if_right is_space character goes_on begun with_word number_kind pick ◌and◌ ◌or◌
+  unfolding next read_byte if_right is_space character goes_on begun with_word number_kind pick both either
   number-begins d h =
       within (λ (d : ℕ). next (between label ws) (48 + d) ≡ during label ws (number_kind d) d) 0 10 d
       (refl & refl & refl & refl & refl & refl & refl & refl & refl & refl & tt) (omega arith) h
@@ -243,24 +243,24 @@ numbered-word (byte ∷ bytes) n e l h =
     (simp length-append (omega (arith, decimal-length 4 n (omega arith))))
 
 pub task-word : (i : ℕ) → i ≤ 65535 → Word (task_name i) (named (task_name i))
-unfolding task_name is_of_name is_space character pick ◌and◌ ◌or◌
+unfolding task_name is_of_name is_space character pick both either
 task-word i h = numbered-word (ascii "task") i refl (omega arith) h
 
 pub event-word : (i : ℕ) → i ≤ 65535 → Word (event_name i) (named (event_name i))
-unfolding event_name is_of_name is_space character pick ◌and◌ ◌or◌
+unfolding event_name is_of_name is_space character pick both either
 event-word i h = numbered-word (ascii "event") i refl (omega arith) h
 
 pub transaction-word : (n : ℕ) → n ≤ 65535 → Word (transaction_name n) (named (transaction_name n))
-unfolding transaction_name is_of_name is_space character pick ◌and◌ ◌or◌
+unfolding transaction_name is_of_name is_space character pick both either
 transaction-word n h = numbered-word (ascii "trans") n refl (omega arith) h
 
 pub label_word_lem : (j : ℕ) → j ≤ 65535 → Word (label_name j) (named (label_name j))
-unfolding label_name is_of_name is_space character pick ◌and◌ ◌or◌
+unfolding label_name is_of_name is_space character pick both either
 label_word_lem j h = numbered-word (ascii "at") j refl (omega arith) h
 
 -- the statements' names, by their numbers
 pub statement-word : (n : ℕ) → n < 22 → Word (get_or statement_names n []) (named (get_or statement_names n [])) × (statement (named (get_or statement_names n [])) ≡ n + 1)
-unfolding is_of_name is_space character pick ◌and◌ ◌or◌ statement_names statement all_named number_of spelled
+unfolding is_of_name is_space character pick both either statement_names statement all_named number_of spelled
 statement-word n h =
     let bytes = get_or statement_names n [] in
     let Named : ℕ → Bool = λ (n : ℕ). is_name_word (get_or statement_names n []) and leb (length (get_or statement_names n [])) 12 and eqb (statement (named (get_or statement_names n []))) (n + 1) in

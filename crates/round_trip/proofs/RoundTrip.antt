@@ -18,7 +18,7 @@ use Rattle.round_trip.specs.RoundTrip.{RoundTrip, LibrariesRoundTrip}
 use Rattle.tokens.specs.Tokens.{lines, line_count}
 
 -- what is made of the lines that are read is what is made of the expected ones
-through : {A : Type 0} (f : List ℕ → ℕ → A) (p : List ℕ) → check p ≡ Checked.Accepted
+through : {A : Type 0} (f : List ℕ → ℕ → A) (p : List ℕ) → check p ≡ Ok tt
     → f (lines (listing p)) (line_count (listing p)) ≡ f (flat (expected p)) (length (expected p))
 through f p passed =
     ap (λ (room : List ℕ). f room (line_count (listing p))) (lines_of_listing p passed) ∙ ap (f (flat (expected p))) (count_of_listing p passed)

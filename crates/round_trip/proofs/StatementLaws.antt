@@ -11,7 +11,7 @@ use Rattle.assembly.specs.Lines.{memory_line, entry_line, transaction_line, task
 use Rattle.assembly.specs.Mistakes.{or_else, mistake_if, bit, operands, words_least, words_most, words_behind, number_only, name_first, number_first, number_second, number_third, kind_mistake, count_mistake, statement_mistake, own_mistake}
 use Rattle.assembly.specs.declared.Line.{Line}
 use Rattle.model.proofs.TestLaws.{pick_true, pick-false}
-use Rattle.model.specs.Test.{pick, ◌and◌, ◌or◌}
+use Rattle.model.specs.Test.{pick, both, either}
 use Rattle.tokens.specs.Tokens.{number}
 use Rattle.round_trip.specs.Expected.{line}
 
@@ -63,7 +63,7 @@ pub record Right : Type 0 where
   pub event : statement_mistake (line 0 event_line 65537 0 0) ≡ 0
 
 pub right : Right
-unfolding statement_mistake count_mistake kind_mistake words_behind number_first number_second number_third is_instruction name_first number_only words_least words_most operands bit or_else mistake_if pick ◌and◌ ◌or◌
+unfolding statement_mistake count_mistake kind_mistake words_behind number_first number_second number_third is_instruction name_first number_only words_least words_most operands bit or_else mistake_if pick both either
 right = record { blank = refl; memory = refl; entry = refl; transaction = refl; task = refl; task_of_lem = refl; event = refl }
 
 pub own_none : (l : Line) → l.wrong ≡ 0 → statement_mistake l ≡ 0 → own_mistake l ≡ 0

@@ -19,7 +19,7 @@ use Rattle.assembly.specs.Words.{as_word, task_of, label_of, transaction_of, sec
 use Rattle.listing.specs.Listing.{task_name, label_name, transaction_name, is_target}
 use Rattle.model.proofs.TestLaws.{pick_case, pick_true, pick-false, below_or}
 use Rattle.model.specs.Program.{word, tasks, events, memory_words, entry, total, bodies, start, instructions, transaction, bodies_start, row_at, operand}
-use Rattle.model.specs.Test.{pick, ◌and◌}
+use Rattle.model.specs.Test.{pick, both}
 use Rattle.tokens.specs.Tokens.{named}
 use Rattle.round_trip.specs.Expected.{memory_of, entry_of, heading_of, instruction_of}
 use Rattle.round_trip.proofs.AcceptedLaws.{Whole, before_few}
@@ -131,7 +131,7 @@ module _ {p : List ℕ} (whole : Whole p) where
   by_kind : (Q : ℕ → Type 0) → ((x : ℕ) → is_body (line_at (room p) x) ≡ false → is_instruction (line_at (room p) x) ≡ false → Q x)
       → ((i : ℕ) → i < bodies p → Q (suc (body_at p i))) → ((i j : ℕ) → i < bodies p → j < instructions p i → Q (code_at p i + j))
       → (x : ℕ) → x < size p → Q x
-  unfolding is_body is_instruction ◌and◌
+  unfolding is_body is_instruction both
   by_kind Q neither heading instruction x h =
       every p (λ y g. line_at (room p) y ≡ g → Q y)
       (record {
@@ -227,7 +227,7 @@ module _ {p : List ℕ} (whole : Whole p) where
         fields.operand_fits
 
     code-words : CodeAt (code_at p i + j)
-    unfolding instruction_words words_from one is_of is_instruction ◌and◌ pick
+    unfolding instruction_words words_from one is_of is_instruction both pick
     code-words =
         let code = is_instruction_lem whole i j h l in
         let heading = heading_case p i (λ g. one instruction_line g ≡ 0) (λ _. refl) (λ _. refl) in
@@ -237,7 +237,7 @@ module _ {p : List ℕ} (whole : Whole p) where
         (pick_true _ _ code ∙ rw (first_word_is whole i j h l, second_word_is, add-one))
 
   code-at : (x : ℕ) → x < size p → CodeAt x
-  unfolding is_instruction ◌and◌
+  unfolding is_instruction both
   code-at =
       by_kind CodeAt (λ x _ none. no_code x none)
       (λ i h. no_code (suc (body_at p i)) (rw (at-heading p i h) (heading_case p i (λ g. is_instruction g ≡ false) (λ _. refl) (λ _. refl)))) code-words

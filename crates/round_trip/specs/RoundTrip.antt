@@ -11,13 +11,13 @@ use Rattle.model.specs.declared.Checked.{Checked}
 
 -- of the definitions: the text that is printed has no mistake, and its words are the program
 abbrev pub RoundTrip : Type 0
-RoundTrip = (p : List ℕ) → check p ≡ Checked.Accepted → (assemble_mistake (listing p) ≡ mistake_at 0 0) × (assembled (listing p) ≡ p)
+RoundTrip = (p : List ℕ) → check p ≡ Ok tt → (assemble_mistake (listing p) ≡ mistake_at 0 0) × (assembled (listing p) ≡ p)
 
 -- of the two libraries, from their promises alone: what disassemble left of a text, assemble made into words
 abbrev pub LibrariesRoundTrip : Type 0
 LibrariesRoundTrip =
     (p text left : List ℕ) (listed : Listed) (made : Assembled)
-    → check p ≡ Checked.Accepted
+    → check p ≡ Ok tt
     → Lists p text listed
     → Assembles (take listed.end text) left made
     → (made.mistake ≡ mistake_at 0 0) × (take made.count left ≡ p)

@@ -17,8 +17,8 @@ use Rattle.runtime.specs.declared.RunResult.{RunResult}
 
 -- did a check pass?
 unfoldable pub is_accepted : Checked → Bool
-is_accepted Checked.Accepted = true
-is_accepted (Checked.Refused r) = false
+is_accepted (Ok _) = true
+is_accepted (Err r) = false
 
 abbrev pub core_run_result : Answer → Stored → ℕ → Ended → Handler → Core → Totals → CoreRunResult
 core_run_result a w n e h c t = record { last = a; stored = w; steps = n; ended = e; handler = h; core = c; totals = t }

@@ -22,9 +22,9 @@ use steps;
 #[derive(Clone, Copy)]
 struct CoreRunResult {
     pub last: Answer,
-    pub stored: Stored,
+    pub stored: Option<u16>,
     pub steps: u32,
-    pub ended: Ended,
+    pub ended: Result<(), Refusal>,
     pub handler: Handler,
     pub core: Core,
     pub totals: Totals,
@@ -34,23 +34,23 @@ struct CoreRunResult {
 #[derive(Clone, Copy)]
 pub struct RunResult {
     pub steps: u32,
-    pub ended: Ended,
+    pub ended: Result<(), Refusal>,
     pub device: Device,
     pub totals: Totals,
 }
 
 // Is an answer a refusal?
-pub fn refusal(answer: Answer) -> Checked
-    ensures { result ≡ unless_refused answer Checked.Refused Checked.Accepted }
+pub fn refusal(answer: Answer) -> Result<(), Refusal>
+    ensures { result ≡ unless_refused answer Err Ok tt }
 {
     match answer {
-        Answer::Done => Checked::Accepted,
-        Answer::Chosen(_) => Checked::Accepted,
-        Answer::Worked => Checked::Accepted,
-        Answer::Stored => Checked::Accepted,
-        Answer::Committed(_) => Checked::Accepted,
-        Answer::Accepted(_) => Checked::Accepted,
-        Answer::Refused(why) => Checked::Refused(why),
+        Answer::Done => Ok(()),
+        Answer::Chosen(_) => Ok(()),
+        Answer::Worked => Ok(()),
+        Answer::Stored => Ok(()),
+        Answer::Committed(_) => Ok(()),
+        Answer::Accepted(_) => Ok(()),
+        Answer::Refused(why) => Err(why),
     }
 }
 
@@ -72,7 +72,7 @@ fn is_commit(answer: Answer) -> bool
 // After a store of the phase: not after a commit store, and in phase 0 word 16 must be 0.
 fn sound_after_phase(answer: Answer, store: &[u16]) -> bool
     requires { memory_at ≤ length store.now }
-    ensures { result ≡ sound_after (Stored.Word 8) answer store.now }
+    ensures { result ≡ sound_after (Some 8) answer store.now }
 {
     if is_commit(answer) {
         return false;
@@ -81,11 +81,11 @@ fn sound_after_phase(answer: Answer, store: &[u16]) -> bool
 }
 
 // Do the early checks of the next step pass after a step that wasn't refused: by the word stored, the answer and the words after it?
-fn sound_after(stored: Stored, answer: Answer, store: &[u16]) -> bool
+fn sound_after(stored: Option<u16>, answer: Answer, store: &[u16]) -> bool
     requires { memory_at ≤ length store.now }
     ensures { result ≡ sound_after stored answer store.now }
 {
-    let Stored::Word(index) = stored else {
+    let Some(index) = stored else {
         return true;
     };
     if index != 8 {
@@ -96,11 +96,11 @@ fn sound_after(stored: Stored, answer: Answer, store: &[u16]) -> bool
 
 // A refused step: the device stays as it is.
 fn refused(handler: Handler, core: Core, why: Refusal) -> StepResult
-    ensures { result ≡ step_result (Answer.Refused why) Stored.Nothing handler core }
+    ensures { result ≡ step_result (Answer.Refused why) None handler core }
 {
     StepResult {
         answer: Answer::Refused(why),
-        stored: Stored::Nothing,
+        stored: None,
         handler,
         core,
     }
@@ -118,7 +118,7 @@ fn step_known(
     known: bool,
 ) -> StepResult
     requires eight { Eight burst.old }
-    requires burst_value { known ≡ true → look program.now store.old (device_with core registers.old handler burst.old) ≡ Checked.Accepted }
+    requires burst_value { known ≡ true → look program.now store.old (device_with core registers.old handler burst.old) ≡ Ok tt }
     ensures store_after { of_step result registers.new burst.new store.new
         ≡ of_outcome store.old
         (step program.now store.old (device_with core registers.old handler burst.old)) }
@@ -128,7 +128,7 @@ fn step_known(
         let seen_handler = handler;
         let seen_core = core;
         let found = look::look(program, store, registers, burst, seen_handler, seen_core);
-        if let Checked::Refused(why) = found {
+        if let Err(why) = found {
             return refused(handler, core, why);
         }
     }
@@ -138,20 +138,20 @@ fn step_known(
 // What steps leave that a refusal ends.
 fn refused_run(
     last: Answer,
-    stored: Stored,
+    stored: Option<u16>,
     steps: u32,
     why: Refusal,
     handler: Handler,
     core: Core,
     totals: Totals,
 ) -> CoreRunResult
-    ensures { result ≡ core_run_result last stored steps (Ended.Refused why) handler core totals }
+    ensures { result ≡ core_run_result last stored steps (Err why) handler core totals }
 {
     CoreRunResult {
         last,
         stored,
         steps,
-        ended: Ended::Refused(why),
+        ended: Err(why),
         handler,
         core,
         totals,
@@ -172,13 +172,13 @@ fn run_in(
     looked: bool,
 ) -> CoreRunResult
     requires eight { Eight burst.old }
-    requires burst_value { looked ≡ true → look program.now store.old (device_with core registers.old handler burst.old) ≡ Checked.Accepted }
+    requires burst_value { looked ≡ true → look program.now store.old (device_with core registers.old handler burst.old) ≡ Ok tt }
     ensures { CoreRuns program.now budget store.old
         (device_with core registers.old handler burst.old) totals
         result registers.new burst.new store.new }
 {
     let mut last = Answer::Done;
-    let mut stored = Stored::Nothing;
+    let mut stored = None;
     let mut handler = handler;
     let mut core = core;
     let mut totals = totals;
@@ -192,7 +192,7 @@ fn run_in(
         handler = step.handler;
         core = step.core;
         let found = refusal(last);
-        if let Checked::Refused(why) = found {
+        if let Err(why) = found {
             return refused_run(last, stored, steps, why, handler, core, totals);
         }
         totals = totals::counted(totals, before, last, stored);
@@ -203,7 +203,7 @@ fn run_in(
         last,
         stored,
         steps,
-        ended: Ended::Spent,
+        ended: Ok(()),
         handler,
         core,
         totals,
@@ -242,12 +242,12 @@ fn packed(steps: CoreRunResult, registers: [u16; 8], burst: [u16; 8]) -> CallRes
 }
 
 // Did a check pass?
-fn is_accepted(found: Checked) -> bool
+fn is_accepted(found: Result<(), Refusal>) -> bool
     ensures { result ≡ is_accepted found }
 {
     match found {
-        Checked::Accepted => true,
-        Checked::Refused(_) => false,
+        Ok(()) => true,
+        Err(_) => false,
     }
 }
 

@@ -13,7 +13,7 @@ use lib.Seq.{drop-cons, length-take-le, take-suc-set, get_or-take, get_or-set_sa
 use Rattle.model.proofs.Range.{within}
 use Rattle.model.proofs.TestLaws.{and_false, pick_case, pick_true, pick-false, same_or, below_or, or_true_right, clash}
 use Rattle.model.specs.Program.{word}
-use Rattle.model.specs.Test.{pick, ◌and◌, ◌or◌}
+use Rattle.model.specs.Test.{pick, ◌and◌, ◌or◌, both, either}
 use Rattle.script.specs.Reads.{is_wide, numbers_of, line_in, Small, Sizes, Sized, Holds}
 use Rattle.script.specs.Script.{same, names, number_from, name_number, many, least, least_numbers, most_numbers, has_index, has_totals, largest, Line, line_of, stopped}
 use Rattle.script.specs.declared.Reading.{Reading}
@@ -38,11 +38,11 @@ module _ (xs ys : List ℕ) (i : ℕ) where
   same_step h k = rw (drop-cons xs i 0, drop-cons ys i 0, add-one)
 
   pub same_next : i < length xs → i < length ys → get_or xs i 0 ≡ get_or ys i 0 → same (drop (i + 1) xs) (drop (i + 1) ys) ≡ same (drop i xs) (drop i ys)
-  unfolding ◌and◌
+  unfolding both
   same_next h k e = sym (same_step h k ∙ rw (eq-eqb _ _ e))
 
   pub same_not : i < length xs → i < length ys → get_or xs i 0 ≢ get_or ys i 0 → same (drop i xs) (drop i ys) ≡ false
-  unfolding ◌and◌
+  unfolding both
   same_not h k e = same_step h k ∙ rw (ne_eqb _ _ e)
 
 -- ---- names' numbers
@@ -78,7 +78,7 @@ unfolding largest
 largest-most kind i = pick_case (λ (n : ℕ). n ≤ 4294967295) (λ _. omega arith) (λ _. pick_case (λ (n : ℕ). n ≤ 4294967295) (λ _. omega arith) (λ _. omega arith))
 
 few : (kind : ℕ) → pick (is_wide kind) (most_numbers kind) 0 ≤ 3
-unfolding is_wide has_index has_totals most_numbers least_numbers least pick ◌and◌ ◌or◌
+unfolding is_wide has_index has_totals most_numbers least_numbers least pick both either
 few kind = below_or kind 20
     (λ h. within (λ k. pick (is_wide k) (most_numbers k) 0 ≤ 3) 0 20 kind (omega arith) (omega arith) (omega arith))
     (λ h. simp (le-leb 14 kind (omega arith), lt-leb kind 17 (omega arith), ne_eqb kind 3 (λ t. absurd (omega arith)), ne_eqb kind 11 (λ t. absurd (omega arith)), ne_eqb kind 19 (λ t. absurd (omega arith))) (omega arith))
@@ -87,12 +87,12 @@ pub wide_few : (kind : ℕ) → is_wide kind ≡ true → most_numbers kind ≤ 
 wide_few kind e = rw (pick_true _ _ e) at (few kind)
 
 or_false : (a b : Bool) → (a or b) ≡ false → (a ≡ false) × (b ≡ false)
-unfolding ◌or◌
+unfolding either
 or_false true b e = clash refl e
 or_false false b e = (refl, e)
 
 pub narrow : (kind i : ℕ) → is_wide kind ≡ false → largest kind i ≤ 65535
-unfolding is_wide largest pick ◌and◌
+unfolding is_wide largest pick both
 narrow kind i e = let no = or_false (has_index kind) (has_totals kind) e in rw (no.1, no.0) (omega arith)
 
 -- ---- what a reading holds
@@ -193,7 +193,7 @@ holds_as h e = rw e at h
 
 module _ (l : Line) where
   pub in_comment_lem : l.comment ≡ true → stopped l ≡ true
-  unfolding stopped ◌or◌
+  unfolding stopped either
   in_comment_lem e = rw e
 
   pub behind-wrong : l.wrong ≢ 0 → stopped l ≡ true
@@ -201,5 +201,5 @@ module _ (l : Line) where
   behind-wrong e = or_true_right _ _ (rw (ne_eqb _ _ e))
 
   pub goes_on : l.comment ≡ false → l.wrong ≡ 0 → stopped l ≡ false
-  unfolding stopped ◌or◌
+  unfolding stopped either
   goes_on e f = rw (e, eq-eqb _ _ f)

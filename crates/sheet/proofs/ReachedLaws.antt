@@ -23,7 +23,7 @@ use Rattle.model.specs.Demand3.{AsSerialRun, recovery_steps}
 use Rattle.model.specs.Device.{off}
 use Rattle.model.specs.Program.{word, memory_words}
 use Rattle.model.specs.Store.{Write, none, to, memory_at, view, settled, formatted, format_check, format, sizes_rule, store_length, store_contents, store_rule}
-use Rattle.model.specs.Test.{◌and◌}
+use Rattle.model.specs.Test.{both}
 use Rattle.model.specs.declared.Checked.{Checked}
 use Rattle.model.specs.declared.Device.{Device}
 use Rattle.model.specs.declared.Refusal.{Refusal}
@@ -35,28 +35,28 @@ use Rattle.sheet.specs.Sheet.{memory_left, recovered_memory}
 blank : List ℕ → List ℕ
 blank p = replicate (store_length (memory_words p) 1 1) 0
 
-blank_fits : (p : List ℕ) → check p ≡ Checked.Accepted → format_check p 1 1 (blank p) ≡ Checked.Accepted
-unfolding blank format_check sizes_rule ◌and◌
+blank_fits : (p : List ℕ) → check p ≡ Ok tt → format_check p 1 1 (blank p) ≡ Ok tt
+unfolding blank format_check sizes_rule both
 blank_fits p e =
     then_passed e (then_passed (must-true Refusal.StoreSize refl) (must-true Refusal.StoreContents (eq-eqb _ _ (length-replicate (store_length (memory_words p) 1 1) 0))))
 
-pub fresh-reached : (p : List ℕ) → check p ≡ Checked.Accepted → Reached p (formatted p 1 1) off
+pub fresh-reached : (p : List ℕ) → check p ≡ Ok tt → Reached p (formatted p 1 1) off
 unfolding after_calls
 fresh-reached p e = record { accepted = e; calls = []; store = refl; device = refl }
 
-pub fresh-format : (p : List ℕ) → check p ≡ Checked.Accepted → (s : List ℕ) → length s ≡ store_length (memory_words p) 1 1 → format p 1 1 s ≡ formatted p 1 1
-unfolding format_check sizes_rule ◌and◌
+pub fresh-format : (p : List ℕ) → check p ≡ Ok tt → (s : List ℕ) → length s ≡ store_length (memory_words p) 1 1 → format p 1 1 s ≡ formatted p 1 1
+unfolding format_check sizes_rule both
 fresh-format p e s l =
     (format-passed p 1 1 s (then_passed e (then_passed (must-true Refusal.StoreSize refl) (must-true Refusal.StoreContents (eq-eqb _ _ l))))).store_is
 
-pub fresh-length : (p : List ℕ) → check p ≡ Checked.Accepted → length (formatted p 1 1) ≡ store_length (memory_words p) 1 1
-unfolding sizes_rule ◌and◌ formatted store_contents
+pub fresh-length : (p : List ℕ) → check p ≡ Ok tt → length (formatted p 1 1) ≡ store_length (memory_words p) 1 1
+unfolding sizes_rule both formatted store_contents
 fresh-length p e =
     let sound = check-passed p e in
     let shape = store-passed p (formatted p 1 1) sound.rows.contents (contents p sound 1 1 refl) in
     shape.shaped.length_is
 
-as_serial : (p : List ℕ) → check p ≡ Checked.Accepted → (cs : List Call) → AsSerialRun p 1 1 (formatted p 1 1) cs
+as_serial : (p : List ℕ) → check p ≡ Ok tt → (cs : List Call) → AsSerialRun p 1 1 (formatted p 1 1) cs
 as_serial p e cs =
     subst (λ (s : List ℕ). AsSerialRun p 1 1 s cs) (format-passed p 1 1 (blank p) (blank_fits p e)).store_is (demand3 p 1 1 (blank p) (blank_fits p e) cs)
 
@@ -75,10 +75,10 @@ rule_after p s d (c ∷ cs) =
     rule_after p (settled s (call p s d c).write) (call p s d c).device cs ∙ rule-settled p s (call p s d c).write
 
 module _ (p s : List ℕ) (d : Device) (h : Reached p s d) where
-  reached-rule : store_rule p s ≡ Checked.Accepted
-  unfolding sizes_rule ◌and◌
+  reached-rule : store_rule p s ≡ Ok tt
+  unfolding sizes_rule both
   reached-rule =
-      subst (λ (x : List ℕ). store_rule p x ≡ Checked.Accepted) h.store
+      subst (λ (x : List ℕ). store_rule p x ≡ Ok tt) h.store
       (rule_after p (formatted p 1 1) off h.calls ∙ contents p (check-passed p h.accepted) 1 1 refl)
 
   reached_shape : (cs : List Call) (e : Device) → Shaped (after_calls p s e cs).store

@@ -246,12 +246,12 @@ module _ (p : List ℕ) (size : ℕ) (h : SheetState) (going : h.ended ≡ false
 -- ---- the beginning
 
 -- only what is accepted is looked at
-checked_same : (c : Checked) (x y : List ℕ) → (c ≡ Checked.Accepted → x ≡ y) → if_checked c x ≡ if_checked c y
+checked_same : (c : Checked) (x y : List ℕ) → (c ≡ Ok tt → x ≡ y) → if_checked c x ≡ if_checked c y
 unfolding if_checked
-checked_same Checked.Accepted x y e = e refl
-checked_same (Checked.Refused r) x y e = refl
+checked_same (Ok _) x y e = e refl
+checked_same (Err r) x y e = refl
 
-pub begins-refused : (c : Checked) (p : List ℕ) (n : ℕ) (xs : List ℕ) (h : SheetState) (r : Refusal) → c ≡ Checked.Refused r → xs ≡ header ++ if_checked c []
+pub begins-refused : (c : Checked) (p : List ℕ) (n : ℕ) (xs : List ℕ) (h : SheetState) (r : Refusal) → c ≡ Err r → xs ≡ header ++ if_checked c []
     → h.ended ≡ true → h.number ≡ 1 → Begins c p n xs h
 unfolding left
 begins-refused c p n xs h r e text ended number =
@@ -266,7 +266,7 @@ begins-refused c p n xs h r e text ended number =
           ∙ ap (λ (l : List ℕ). xs ++ l) (sym (ended-lines p h ended (lines_from h.line schedule)));
     }
 
-pub begins-accepted : (c : Checked) (p s : List ℕ) (n : ℕ) (xs : List ℕ) (state : State) (z : List ℕ) → c ≡ Checked.Accepted → n ≡ length s → Fits c p n → xs ≡ header
+pub begins-accepted : (c : Checked) (p s : List ℕ) (n : ℕ) (xs : List ℕ) (state : State) (z : List ℕ) → c ≡ Ok tt → n ≡ length s → Fits c p n → xs ≡ header
     → state ≡ state_at off 1 false → z ≡ format p 1 1 s → Begins c p n xs (holding state z)
 unfolding if_checked left lines_left pick
 begins-accepted c p s n xs state z e sized fits text is stored =

@@ -9,7 +9,7 @@ use lib.Dec.{eqb}
 use lib.ListN.{length}
 use Rattle.model.proofs.TestLaws.{pick_true, pick-false, and_true, and_false}
 use Rattle.model.specs.Program.{word}
-use Rattle.model.specs.Test.{pick, ◌and◌}
+use Rattle.model.specs.Test.{pick, both}
 use Rattle.model.specs.declared.Answer.{Answer}
 use Rattle.model.specs.declared.Checked.{Checked}
 use Rattle.model.specs.declared.Dropped.{Dropped}
@@ -42,7 +42,7 @@ unfolding told_line
 told-refused n a e = sym (pick_true _ _ (eq-eqb _ _ e))
 
 pub told_other : (n : ℕ) (a : List ℕ) → word a 0 ≢ 6 → word a 0 ≢ 5 → [] ≡ told_line n a
-unfolding told_line ◌and◌ pick
+unfolding told_line both pick
 told_other n a six five = sym (pick-false _ _ (ne_eqb _ _ six) ∙ rw (ne_eqb _ _ five))
 
 pub told_none : (n : ℕ) (a : List ℕ) → word a 0 ≢ 6 → word a 1 ≢ 1 → [] ≡ told_line n a
@@ -54,17 +54,17 @@ unfolding told_line
 told-dropped n a five one = sym (pick-false _ _ (ap (λ (k : ℕ). eqb k 6) five) ∙ pick_true _ _ (and_true (eq-eqb _ _ five) (eq-eqb _ _ one)))
 
 pub answer-told : (n : ℕ) (a : Answer) → told_line n (answer_words a) ≡ answer_line n a
-unfolding told_line answer_line answer_words accepted_words refused_words pick ◌and◌
+unfolding told_line answer_line answer_words accepted_words refused_words pick both
 answer-told n Answer.Done = refl
 answer-told n (Answer.Chosen b) = refl
 answer-told n Answer.Worked = refl
 answer-told n Answer.Stored = refl
 answer-told n (Answer.Committed b) = refl
-answer-told n (Answer.Accepted Dropped.Nothing) = refl
+answer-told n (Answer.Accepted None) = refl
 answer-told n (Answer.Accepted (Dropped.Record event datum)) = refl
 answer-told n (Answer.Refused r) = refl
 
 pub check-told : (c : Checked) → told_line 0 (checked_words c) ≡ if_checked c []
-unfolding told_line checked_words refused_words if_checked pick ◌and◌
-check-told Checked.Accepted = refl
-check-told (Checked.Refused r) = refl
+unfolding told_line checked_words refused_words if_checked pick both
+check-told (Ok _) = refl
+check-told (Err r) = refl

@@ -41,7 +41,7 @@ left p h bytes = lines_left p h (lines_from h.line bytes)
 
 -- a store and a device that some list of calls on the fresh store leads to
 pub record Reached (p s : List ℕ) (d : Device) : Type 0 where
-  pub accepted : check p ≡ Checked.Accepted
+  pub accepted : check p ≡ Ok tt
   pub calls : List Call
   pub store : (after_calls p (formatted p 1 1) off calls).store ≡ s
   pub device : (after_calls p (formatted p 1 1) off calls).device ≡ d
@@ -54,7 +54,7 @@ Ready p h n = h.ended ≡ false → Reached p h.store h.device × (n ≡ length 
 
 -- where the check accepts the program, a store of n words is one for it
 abbrev pub Fits : Checked → List ℕ → ℕ → Type 0
-Fits c p n = c ≡ Checked.Accepted → (check p ≡ Checked.Accepted) × (n ≡ store_length (memory_words p) 1 1)
+Fits c p n = c ≡ Ok tt → (check p ≡ Ok tt) × (n ≡ store_length (memory_words p) 1 1)
 
 -- begin, on a store of n words: what was checked as c printed xs and left h
 pub record Begins (c : Checked) (p : List ℕ) (n : ℕ) (xs : List ℕ) (h : SheetState) : Type 0 where

@@ -115,7 +115,7 @@ answer_line n (Answer.Chosen b) = []
 answer_line n Answer.Worked = []
 answer_line n Answer.Stored = []
 answer_line n (Answer.Committed b) = []
-answer_line n (Answer.Accepted Dropped.Nothing) = []
+answer_line n (Answer.Accepted None) = []
 answer_line n (Answer.Accepted (Dropped.Record event datum)) = dropped_line n event datum
 answer_line n (Answer.Refused r) = refused_line n (refusal r)
 
@@ -150,8 +150,8 @@ sheet_lines p s d n (line ∷ lines) =
 
 -- "A program that the check refuses prints the header, then such a line with call 0, and no more."
 unfoldable pub if_checked : Checked → List ℕ → List ℕ
-if_checked Checked.Accepted accepted = accepted
-if_checked (Checked.Refused r) accepted = refused_line 0 (refusal r)
+if_checked (Ok _) accepted = accepted
+if_checked (Err r) accepted = refused_line 0 (refusal r)
 
 -- "It prints "call memory", then for each cut .."; calls "are numbered from 1"; "L and Q are 1"
 unfoldable pub sheet : List ℕ → List ℕ → List ℕ

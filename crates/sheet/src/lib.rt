@@ -58,7 +58,7 @@ pub struct Fed {
 
 // The header, and of a program that the check refuses the line with call 0.
 pub fn begin(
-    checked: Checked,
+    checked: Result<(), Refusal>,
     program: &[u16],
     store: &mut [u16],
     text: &mut [u8; 65536],
@@ -69,7 +69,7 @@ pub fn begin(
         (holding result.state store.new) }
 {
     let end = put(text, 0, b"call memory\n");
-    let Checked::Accepted = checked else {
+    let Ok(()) = checked else {
         let end = printing::check_line(text, end, checked);
         return Printed {
             state: calls::start(true),

@@ -124,7 +124,7 @@ pub fn answer_line(text: &mut [u8], at: usize, number: u64, answer: Answer) -> u
 }
 
 // The line of the check, with call 0.
-pub fn check_line(text: &mut [u8], at: usize, checked: Checked) -> usize
+pub fn check_line(text: &mut [u8], at: usize, checked: Result<(), Refusal>) -> usize
     requires { at + 92 ≤ length text.old }
     ensures puts { Puts text.old at text.new result (if_checked checked []) }
     ensures upper_bound { result ≤ at + 92 }

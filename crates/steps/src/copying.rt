@@ -21,7 +21,7 @@ fn copy(program: &[u16], store: &mut [u16], core: Core, pair: u16) -> CoreResult
         (leaves (λ v d. copy_step program.now v d pair) store.old) }
 {
     let found = single::pair_address(program, store, pair);
-    if let Checked::Refused(why) = found {
+    if let Err(why) = found {
         return results::refused(core, why);
     }
     let address = log::address(store, pair);
@@ -45,15 +45,15 @@ fn task_last(
 {
     if last == 0 {
         store[9] = store[12];
-        return results::stored(core, Place::Free(made + 1), core.count, Stored::Word(9));
+        return results::stored(core, Place::Free(made + 1), core.count, Some(9));
     }
     if last == 1 {
         store[10] = store[13];
-        return results::stored(core, Place::Free(made + 1), core.count, Stored::Word(10));
+        return results::stored(core, Place::Free(made + 1), core.count, Some(10));
     }
     if last == 2 {
         store[16] = 0;
-        return results::stored(core, Place::Free(made + 1), core.count, Stored::Word(16));
+        return results::stored(core, Place::Free(made + 1), core.count, Some(16));
     }
     store[8] = 0;
     results::turned_on(registers, Answer::Stored)
@@ -74,11 +74,11 @@ fn event_last(
 {
     if last == 0 {
         store[14] = store[12];
-        return results::stored(core, Place::Free(made + 1), core.count, Stored::Word(14));
+        return results::stored(core, Place::Free(made + 1), core.count, Some(14));
     }
     if last == 1 {
         store[16] = 0;
-        return results::stored(core, Place::Free(made + 1), core.count, Stored::Word(16));
+        return results::stored(core, Place::Free(made + 1), core.count, Some(16));
     }
     store[8] = 0;
     results::turned_on(registers, Answer::Stored)

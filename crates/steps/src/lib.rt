@@ -50,7 +50,7 @@ fn handler_step(
         core,
         Handler::Resting,
         Answer::Accepted(dropped),
-        Stored::Word(15),
+        Some(15),
     )
 }
 
@@ -63,12 +63,12 @@ fn drop_step(program: &[u16], store: &mut [u16], core: Core) -> StepResult
         ≡ leaves (drop_step program.now) store.old (device_with core registers Handler.Dropping burst) }
 {
     let found = single::record_at_head(program, store);
-    if let Checked::Refused(why) = found {
+    if let Err(why) = found {
         return handler_result(
             core,
             Handler::Dropping,
             Answer::Refused(why),
-            Stored::Nothing,
+            None,
         );
     }
     store[14] = queue::slot_after(store[3], store[14]);
@@ -76,7 +76,7 @@ fn drop_step(program: &[u16], store: &mut [u16], core: Core) -> StepResult
         core,
         Handler::Replacing(0),
         Answer::Stored,
-        Stored::Word(14),
+        Some(14),
     )
 }
 
@@ -108,7 +108,7 @@ fn replacing_step(store: &mut [u16], burst: &mut [u16; 8], core: Core, made: u16
 }
 
 // A handler after its step, an answer and the word stored.
-fn handler_result(core: Core, handler: Handler, answer: Answer, stored: Stored) -> StepResult
+fn handler_result(core: Core, handler: Handler, answer: Answer, stored: Option<u16>) -> StepResult
     ensures { result ≡ step_result answer stored handler core }
 {
     StepResult {
@@ -147,7 +147,7 @@ fn choose_step(
         return results::begin(registers, core, Body::Task(task), 0);
     }
     let found = single::record_at_head(program, store);
-    if let Checked::Refused(why) = found {
+    if let Err(why) = found {
         return results::refused(core, why);
     }
     let event = queue::head_event(store);
@@ -229,7 +229,7 @@ pub fn next_step(
         Handler::Resting => rested(place_step(program, store, registers, core)),
         Handler::Storing(length, made) => {
             let later = Handler::Storing(length, made + 1);
-            let dropped = Dropped::Nothing;
+            let dropped = None;
             handler_step(store, burst, core, length, made, later, dropped)
         }
         Handler::Dropping => drop_step(program, store, core),

@@ -52,40 +52,40 @@ pub fn end(memory_words: u16, log_pairs: u16, queue_records: u16) -> u16
 }
 
 // Refusal 6.
-pub fn store_rule(program: &[u16], store: &[u16]) -> Checked
+pub fn store_rule(program: &[u16], store: &[u16]) -> Result<(), Refusal>
     requires { Contents program.now }
     ensures value { result ≡ store_rule program.now store.now }
-    ensures given { result ≡ Checked.Accepted → ShapedFor program.now store.now }
+    ensures given { result ≡ Ok tt → ShapedFor program.now store.now }
 {
     if store.len() < 8 {
-        return Checked::Refused(Refusal::StoreContents);
+        return Err(Refusal::StoreContents);
     }
     if store[0] != MARK {
-        return Checked::Refused(Refusal::StoreContents);
+        return Err(Refusal::StoreContents);
     }
     let memory_words = program[3];
     if store[1] != memory_words {
-        return Checked::Refused(Refusal::StoreContents);
+        return Err(Refusal::StoreContents);
     }
     let log_pairs = store[2];
     let queue_records = store[3];
     if !sizes(log_pairs, queue_records) {
-        return Checked::Refused(Refusal::StoreContents);
+        return Err(Refusal::StoreContents);
     }
     if store[4] != CONTROL {
-        return Checked::Refused(Refusal::StoreContents);
+        return Err(Refusal::StoreContents);
     }
     if store[5] != MEMORY {
-        return Checked::Refused(Refusal::StoreContents);
+        return Err(Refusal::StoreContents);
     }
     if store[6] != log_start(memory_words) {
-        return Checked::Refused(Refusal::StoreContents);
+        return Err(Refusal::StoreContents);
     }
     if store[7] != queue_start(memory_words, log_pairs) {
-        return Checked::Refused(Refusal::StoreContents);
+        return Err(Refusal::StoreContents);
     }
     if store.len() != end(memory_words, log_pairs, queue_records) as usize {
-        return Checked::Refused(Refusal::StoreContents);
+        return Err(Refusal::StoreContents);
     }
-    Checked::Accepted
+    Ok(())
 }

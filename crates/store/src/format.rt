@@ -40,20 +40,17 @@ fn fill(program: &[u16], log_pairs: u16, queue_records: u16, store: &mut [u16])
     store[9] = entry;
 }
 
-pub fn format(program: &[u16], log_pairs: u16, queue_records: u16, store: &mut [u16]) -> Checked
+pub fn format(program: &[u16], log_pairs: u16, queue_records: u16, store: &mut [u16]) -> Result<(), Refusal>
     ensures value { result ≡ format_check program.now log_pairs queue_records store.old }
     ensures store_after { store.new ≡ format program.now log_pairs queue_records store.old }
 {
-    let checked = program::check(program);
-    let Checked::Accepted = checked else {
-        return checked;
-    };
+    program::check(program)?;
     if !contents::sizes(log_pairs, queue_records) {
-        return Checked::Refused(Refusal::StoreSize);
+        return Err(Refusal::StoreSize);
     }
     if store.len() != contents::end(program[3], log_pairs, queue_records) as usize {
-        return Checked::Refused(Refusal::StoreContents);
+        return Err(Refusal::StoreContents);
     }
     fill(program, log_pairs, queue_records, store);
-    Checked::Accepted
+    Ok(())
 }

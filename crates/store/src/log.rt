@@ -10,18 +10,18 @@ ghost use Rattle.store.specs.Written.{Written};
 use model::{Found, Stored};
 
 // The first of the log's first pairs, so many as it counts, with this address.
-pub fn search(log: &[u16], log_count: u16, address: u16) -> Found
+pub fn search(log: &[u16], log_count: u16, address: u16) -> Option<u16>
     requires { 2 * log_count ≤ length log.now }
     ensures value { result ≡ find log.now log_count address }
-    ensures within { (pair : ℕ) → result ≡ Found.Pair pair → pair < log_count }
+    ensures within { (pair : ℕ) → result ≡ Some pair → pair < log_count }
 {
     let mut pair: u16 = 0;
     let found = loop {
         if pair == log_count {
-            break Found::Nothing;
+            break None;
         }
         if log[2 * (pair as usize)] == address {
-            break Found::Pair(pair);
+            break Some(pair);
         }
         pair += 1;
     };
@@ -29,11 +29,11 @@ pub fn search(log: &[u16], log_count: u16, address: u16) -> Found
 }
 
 // The same in a store.
-pub fn find(store: &[u16], log_count: u16, address: u16) -> Found
+pub fn find(store: &[u16], log_count: u16, address: u16) -> Option<u16>
     requires shaped { Shaped store.now }
     requires log_count_bound { log_count ≤ word store.now 2 }
     ensures value { result ≡ find (view store.now).log log_count address }
-    ensures within { (pair : ℕ) → result ≡ Found.Pair pair → pair < log_count }
+    ensures within { (pair : ℕ) → result ≡ Some pair → pair < log_count }
 {
     let log = store[6] as usize;
     let queue = store[7] as usize;
@@ -74,7 +74,7 @@ fn save_value(log: &mut [u16], pair: u16, value: u16)
 }
 
 // The same in a store, whose log part is lent on. Each tells the word that it stored.
-pub fn write_address(store: &mut [u16], pair: u16, address: u16) -> Stored
+pub fn write_address(store: &mut [u16], pair: u16, address: u16) -> Option<u16>
     requires shaped { Shaped store.old }
     requires pair_bound { pair < word store.old 2 }
     ensures { Written store.old (to (Address pair) address) result store.new }
@@ -82,10 +82,10 @@ pub fn write_address(store: &mut [u16], pair: u16, address: u16) -> Stored
     let log = store[6];
     let queue = store[7];
     save_address(&mut store[log as usize..queue as usize], pair, address);
-    Stored::Word(log + 2 * pair)
+    Some(log + 2 * pair)
 }
 
-pub fn write_value(store: &mut [u16], pair: u16, value: u16) -> Stored
+pub fn write_value(store: &mut [u16], pair: u16, value: u16) -> Option<u16>
     requires shaped { Shaped store.old }
     requires pair_bound { pair < word store.old 2 }
     ensures { Written store.old (to (Value pair) value) result store.new }
@@ -93,5 +93,5 @@ pub fn write_value(store: &mut [u16], pair: u16, value: u16) -> Stored
     let log = store[6];
     let queue = store[7];
     save_value(&mut store[log as usize..queue as usize], pair, value);
-    Stored::Word(log + (2 * pair + 1))
+    Some(log + (2 * pair + 1))
 }

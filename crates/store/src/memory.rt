@@ -17,12 +17,12 @@ pub fn read(store: &[u16], address: u16) -> u16
 }
 
 // It tells the word that it stored.
-pub fn write(store: &mut [u16], address: u16, value: u16) -> Stored
+pub fn write(store: &mut [u16], address: u16, value: u16) -> Option<u16>
     requires shaped { Shaped store.old }
     requires address_bound { address < word store.old 1 }
     ensures { Written store.old (to (Memory address) value) result store.new }
 {
     let word = MEMORY + address;
     store[word as usize] = value;
-    Stored::Word(word)
+    Some(word)
 }

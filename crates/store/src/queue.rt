@@ -30,7 +30,7 @@ pub fn datum(store: &[u16], slot: u16) -> u16
 
 // A value goes to the ring's word so many places after the first word of a slot: its event, its data, the event of the slot after it, ..
 // The word stored is told.
-pub fn write_ahead(store: &mut [u16], slot: u16, places: u16, value: u16) -> Stored
+pub fn write_ahead(store: &mut [u16], slot: u16, places: u16, value: u16) -> Option<u16>
     requires shaped { Shaped store.old }
     requires slot_bound { (slot ≤ word store.old 3) × (places ≤ 2 * word store.old 3 + 1) }
     ensures { Written store.old (to (ring_word (word store.old 3) slot places) value) result store.new }
@@ -39,7 +39,7 @@ pub fn write_ahead(store: &mut [u16], slot: u16, places: u16, value: u16) -> Sto
     let ahead = 2 * slot + places;
     let word = store[7] + around(words, ahead);
     store[word as usize] = value;
-    Stored::Word(word)
+    Some(word)
 }
 
 // A place of a ring of so many, at most once past its end.

@@ -10,8 +10,8 @@ use Rattle.model.specs.declared.Totals.{Totals}
 
 -- how many stores that is
 unfoldable pub stores : Stored → ℕ
-stores Stored.Nothing = 0
-stores (Stored.Word i) = 1
+stores None = 0
+stores (Some i) = 1
 
 -- the totals after a step with this answer, which found handler h and stored this word
 unfoldable pub counted_from : Totals → Handler → Answer → Stored → Totals

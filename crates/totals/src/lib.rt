@@ -66,17 +66,17 @@ fn accepted_after(total: u32, handler: Handler, answer: Answer) -> u32
 }
 
 // How many stores that is: one or none.
-fn stores(stored: Stored) -> u32
+fn stores(stored: Option<u16>) -> u32
     ensures { result ≡ stores stored }
 {
     match stored {
-        Stored::Nothing => 0,
-        Stored::Word(_) => 1,
+        None => 0,
+        Some(_) => 1,
     }
 }
 
 // The totals after a step with this answer, which found this handler and stored this word.
-pub fn counted(totals: Totals, handler: Handler, answer: Answer, stored: Stored) -> Totals
+pub fn counted(totals: Totals, handler: Handler, answer: Answer, stored: Option<u16>) -> Totals
     ensures { result ≡ counted_from totals handler answer stored }
 {
     Totals {
@@ -87,7 +87,7 @@ pub fn counted(totals: Totals, handler: Handler, answer: Answer, stored: Stored)
 }
 
 // "one record that the host lends and a step updates": the totals change in place, once the step has answered.
-pub fn count(totals: &mut Totals, handler: Handler, answer: Answer, stored: Stored)
+pub fn count(totals: &mut Totals, handler: Handler, answer: Answer, stored: Option<u16>)
     ensures { totals.new ≡ counted_from totals.old handler answer stored }
 {
     *totals = counted(*totals, handler, answer, stored);

@@ -22,8 +22,8 @@ queue_relied p s = relied p s then obey_all (early_rules p (view s))
 
 -- "otherwise there is one line"
 unfoldable pub if_relied : Bool → ℕ → List ℕ → Checked → List ℕ → List ℕ
-if_relied tabs n label Checked.Accepted part = part
-if_relied tabs n label (Checked.Refused r) part = refused_part tabs n label (refused_words r)
+if_relied tabs n label (Ok _) part = part
+if_relied tabs n label (Err r) part = refused_part tabs n label (refused_words r)
 
 -- ---- The parts, behind the line of number n
 

@@ -12,7 +12,7 @@ use borrow.Author.Tests.{lt-ltb, le-ltb, le-leb, lt-leb, eq-eqb, ne_eqb, eqb-tru
 use Rattle.model.proofs.TestLaws.{pick_true, pick-false, same_or, below_or, and_true, and_left, and_right}
 use Rattle.model.specs.Device.{burst_length}
 use Rattle.model.specs.Program.{word}
-use Rattle.model.specs.Test.{pick, ◌and◌}
+use Rattle.model.specs.Test.{pick, ◌and◌, both}
 use Rattle.model.specs.declared.Answer.{Answer}
 use Rattle.model.specs.declared.Body.{Body}
 use Rattle.model.specs.declared.Dropped.{Dropped}
@@ -29,7 +29,7 @@ pub ruleset tests = (le-leb, lt-leb, eq-eqb, ne_eqb)
 
 -- a test that holds
 pub and_skip : {a : Bool} (b : Bool) → a ≡ true → (a and b) ≡ b
-unfolding ◌and◌
+unfolding both
 and_skip b e = rw e
 
 -- ---- Lists spelt out
@@ -79,7 +79,7 @@ answer_spelt (Answer.Chosen b) y = refl
 answer_spelt Answer.Worked y = refl
 answer_spelt Answer.Stored y = refl
 answer_spelt (Answer.Committed b) y = refl
-answer_spelt (Answer.Accepted Dropped.Nothing) y = refl
+answer_spelt (Answer.Accepted None) y = refl
 answer_spelt (Answer.Accepted (Dropped.Record e x)) y = refl
 answer_spelt (Answer.Refused e) y = refl
 
@@ -126,7 +126,7 @@ number_forth k n = same_or k 0 (λ e. rw (eq-eqb k 0 e)) (λ e. rw (ne_eqb k 0 e
 -- ---- place
 
 pub place_is : (x : Place) → five is_place (place_words x) ≡ true
-unfolding is_place place_words pick ◌and◌
+unfolding is_place place_words pick both
 place_is (Free c) = refl
 place_is (Run b j c) = simp (kind_is b)
 place_is (Half b j) = simp (kind_is b)
@@ -138,7 +138,7 @@ place_back (Run b j c) = simp (body_back b)
 place_back (Half b j) = simp (body_back b)
 
 pub place_forth : (p k n j c : ℕ) → is_place p k n j c ≡ true → place_words (place_of p k n j c) ≡ p ∷ k ∷ n ∷ j ∷ c ∷ []
-unfolding is_place place_of place_words pick ◌and◌
+unfolding is_place place_of place_words pick both
 place_forth p k n j c h = same_or p 0 free (λ z. same_or p 1 (run z) (half z))
   where
     free : p ≡ 0 → place_words (place_of p k n j c) ≡ p ∷ k ∷ n ∷ j ∷ c ∷ []
@@ -171,7 +171,7 @@ place_forth p k n j c h = same_or p 0 free (λ z. same_or p 1 (run z) (half z))
 -- ---- handler
 
 pub handler_is : (h : Handler) → three is_handler (handler_words h) ≡ true
-unfolding is_handler handler_words pick ◌and◌
+unfolding is_handler handler_words pick both
 handler_is Resting = refl
 handler_is (Storing n c) = refl
 handler_is Dropping = refl
@@ -185,7 +185,7 @@ handler_back Dropping = refl
 handler_back (Replacing c) = refl
 
 pub handler_forth : (h n c : ℕ) → is_handler h n c ≡ true → handler_words (handler_of h n c) ≡ h ∷ n ∷ c ∷ []
-unfolding is_handler handler_of handler_words pick ◌and◌
+unfolding is_handler handler_of handler_words pick both
 handler_forth h n c t = same_or h 0 rests stores
   where
     rests : h ≡ 0 → handler_words (handler_of h n c) ≡ h ∷ n ∷ c ∷ []

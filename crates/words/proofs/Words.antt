@@ -11,7 +11,7 @@ use Rattle.words.proofs.Parts.{flag_is, flag_back, flag_forth, place_is, place_b
 use Rattle.words.proofs.Parts.{handler_is, handler_back, handler_forth, handler-length, length-read, records_are, zero-behind}
 use Rattle.model.specs.Device.{with_handler}
 use Rattle.model.specs.Program.{word}
-use Rattle.model.specs.Test.{pick, ◌and◌}
+use Rattle.model.specs.Test.{pick, both}
 use Rattle.model.specs.declared.Device.{Device}
 use Rattle.model.specs.declared.Handler.{Handler}
 use Rattle.words.specs.Words.{Read, flag, place_words, handler_words, device_words, with_burst}
@@ -31,7 +31,7 @@ unfolding device_words spelt
 written_all d = sym (simp (place_spelt, handler_spelt))
 
 pub back : Back
-unfolding device_of is_state state_of spelt pick ◌and◌
+unfolding device_of is_state state_of spelt pick both
 back d h =
     rw (written_all d)
     (simp (

@@ -173,7 +173,7 @@ refused_words e = 6 ∷ 0 ∷ (refusal e).number ∷ (refusal e).first ∷ (refu
 
 -- an acceptance: whether a record was dropped, and its event and data
 unfoldable pub accepted_words : Dropped → List ℕ
-accepted_words Dropped.Nothing = plain_answer 5
+accepted_words None = plain_answer 5
 accepted_words (Dropped.Record e x) = 5 ∷ 1 ∷ e ∷ x ∷ 0 ∷ []
 
 -- what a call answers
@@ -188,13 +188,13 @@ answer_words (Answer.Refused e) = refused_words e
 
 -- how a run ends: spent, or a refusal as in an answer
 unfoldable pub ended_words : Ended → List ℕ
-ended_words Ended.Spent = plain_answer 7
-ended_words (Ended.Refused e) = refused_words e
+ended_words (Ok _) = plain_answer 7
+ended_words (Err e) = refused_words e
 
 -- what a check finds: accepted is done, a refusal as in an answer
 unfoldable pub checked_words : Checked → List ℕ
-checked_words Checked.Accepted = plain_answer 0
-checked_words (Checked.Refused e) = refused_words e
+checked_words (Ok _) = plain_answer 0
+checked_words (Err e) = refused_words e
 
 -- where the device words stand for no device state
 unfoldable pub unknown_words : List ℕ
@@ -208,12 +208,12 @@ nothing_posted_words = plain_answer 9
 
 -- none is 65535, which is no index: a store has at most 1235 words
 unfoldable pub stored_number : Stored → ℕ
-stored_number Stored.Nothing = 65535
-stored_number (Stored.Word i) = i
+stored_number None = 65535
+stored_number (Some i) = i
 
 unfoldable pub step_words : Answer → Stored → List ℕ
 step_words a w = answer_words a ++ (stored_number w ∷ [])
 
 -- where the device words stand for no device state
 unfoldable pub unknown_step_words : List ℕ
-unknown_step_words = unknown_words ++ (stored_number Stored.Nothing ∷ [])
+unknown_step_words = unknown_words ++ (stored_number None ∷ [])

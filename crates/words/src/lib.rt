@@ -307,7 +307,7 @@ fn accepted_words(dropped: Dropped) -> [u16; 5]
     ensures { result ≡ accepted_words dropped }
 {
     match dropped {
-        Dropped::Nothing => [5, 0, 0, 0, 0],
+        None => [5, 0, 0, 0, 0],
         Dropped::Record(event, datum) => [5, 1, event, datum, 0],
     }
 }
@@ -335,28 +335,28 @@ pub fn write_answer(words: &mut [u16; 5], answer: Answer)
 }
 
 // How a run ends.
-pub fn write_ended(words: &mut [u16; 5], ended: Ended)
+pub fn write_ended(words: &mut [u16; 5], ended: Result<(), Refusal>)
     ensures { words.new ≡ ended_words ended }
 {
     match ended {
-        Ended::Spent => {
+        Ok(()) => {
             *words = [7, 0, 0, 0, 0];
         }
-        Ended::Refused(why) => {
+        Err(why) => {
             *words = refused_words(why);
         }
     }
 }
 
 // What a check finds.
-pub fn write_checked(words: &mut [u16; 5], found: Checked)
+pub fn write_checked(words: &mut [u16; 5], found: Result<(), Refusal>)
     ensures { words.new ≡ checked_words found }
 {
     match found {
-        Checked::Accepted => {
+        Ok(()) => {
             *words = [0, 0, 0, 0, 0];
         }
-        Checked::Refused(why) => {
+        Err(why) => {
             *words = refused_words(why);
         }
     }
@@ -379,17 +379,17 @@ pub fn write_unknown(words: &mut [u16; 5])
 // ---- A step's answer as 6 words: those of an answer, and the word that it stored
 
 // A word of the store by its index; 65535 for none.
-fn stored_number(stored: Stored) -> u16
+fn stored_number(stored: Option<u16>) -> u16
     ensures { result ≡ stored_number stored }
 {
     match stored {
-        Stored::Nothing => 65535,
-        Stored::Word(i) => i,
+        None => 65535,
+        Some(i) => i,
     }
 }
 
 // What a step answers, and which word it stored.
-pub fn write_step(words: &mut [u16; 6], answer: Answer, stored: Stored)
+pub fn write_step(words: &mut [u16; 6], answer: Answer, stored: Option<u16>)
     ensures { words.new ≡ step_words answer stored }
 {
     let a = answer_words(answer);

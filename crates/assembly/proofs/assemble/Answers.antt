@@ -6,7 +6,7 @@ use borrow.Author.Tests.{le-leb, lt-leb}
 use native.Mathlib.Omega.{arith}
 use lib.ListN.{length}
 use Rattle.model.proofs.TestLaws.{pick_true, pick-false}
-use Rattle.model.specs.Test.{◌and◌}
+use Rattle.model.specs.Test.{both}
 use Rattle.tokens.specs.Tokens.{lines, line_count}
 use Rattle.assembly.proofs.AssembleLaws.{read_all, read_none}
 use Rattle.assembly.specs.Assembles.{AssemblesLines, assemble_mistake, assembled}
@@ -15,7 +15,7 @@ use borrow.Author.Rules.{rules}
 use Rattle.assembly.proofs.assemble.Goals as goal
 
 pub returns-then-text-gt1048576 : goal.returns-then-text-gt1048576
-unfolding assemble_mistake ◌and◌
+unfolding assemble_mistake both
 returns-then-text-gt1048576 c =
     let told = c.too_long.ensures in
     let long = lt-leb (length c.args.text.now) 1048576 (omega arith) in
@@ -29,7 +29,7 @@ returns-then-text-gt1048576 c =
     }
 
 pub returns-then-n-eq0 : goal.returns-then-n-eq0
-unfolding assemble_mistake ◌and◌
+unfolding assemble_mistake both
 returns-then-n-eq0 c =
     let text = c.args.text.now in
     let told = c.too_long-then-n-eq0.ensures in
@@ -55,7 +55,7 @@ assemble_first-requires c =
     record { n_in_bounds = (omega (arith, fits, all), omega (arith, c.if-n-eq0.false)); in_bounds = omega (arith, words) }
 
 pub returns : goal.returns
-unfolding assemble_mistake assembled ◌and◌
+unfolding assemble_mistake assembled both
 returns c =
     let text = c.args.text.now in
     let size : length c.read-n.new.room ≡ 393216 = search rules in

@@ -7,7 +7,7 @@ use Rattle.model.specs.declared.Checked.{Checked}
 use Rattle.control.proofs.addresses.Given as goal
 
 abbrev pub invariant-loop-pair : goal.invariant-loop-pair
-invariant-loop-pair l = (l.pair ≤ l.log_pairs) × (obey_all (up_to (address_rule l.program (view l.store)) l.pair) ≡ Checked.Accepted)
+invariant-loop-pair l = (l.pair ≤ l.log_pairs) × (obey_all (up_to (address_rule l.program (view l.store)) l.pair) ≡ Ok tt)
 
 abbrev pub decreases-loop-pair : goal.decreases-loop-pair
 decreases-loop-pair l = l.log_pairs - l.pair

@@ -11,7 +11,7 @@ use Rattle.model.proofs.RuleLaws.{obey-kept}
 use Rattle.model.proofs.TestLaws.{or_true_left, not_false, then_passed, last, begin}
 use Rattle.control.proofs.early_begun_rules.Goals as goal
 
-below-kept : (v : Store) → v.begun < 2 → (obey (begun_rule v) then obey (begun_event_rule v)) ≡ Checked.Accepted
+below-kept : (v : Store) → v.begun < 2 → (obey (begun_rule v) then obey (begun_event_rule v)) ≡ Ok tt
 unfolding begun_rule begun_event_rule
 below-kept v l =
     then_passed (obey-kept (begun_rule v) (le-leb v.begun 2 (omega arith)))

@@ -1,13 +1,13 @@
 -- `control::head_rule` meets its contract: its test is the rule's. Assumes nothing.
 use Rattle.model.specs.Control.{obey, head_rule}
-use Rattle.model.specs.Test.{must, ◌and◌}
+use Rattle.model.specs.Test.{must, both}
 use Rattle.model.proofs.TestLaws.{tests}
 use Rattle.control.proofs.head_rule.Goals as goal
 
 pub returns-then-store : goal.returns-then-store
-unfolding obey head_rule must ◌and◌
+unfolding obey head_rule must both
 returns-then-store c = search tests
 
 pub returns : goal.returns
-unfolding obey head_rule must ◌and◌
+unfolding obey head_rule must both
 returns c = search tests

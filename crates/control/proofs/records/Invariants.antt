@@ -7,7 +7,7 @@ use Rattle.model.specs.declared.Checked.{Checked}
 use Rattle.control.proofs.records.Given as goal
 
 abbrev pub invariant-loop-slot : goal.invariant-loop-slot
-invariant-loop-slot l = (l.slot ≤ l.slots) × (obey_all (up_to (record_rule l.program (view l.store)) l.slot) ≡ Checked.Accepted)
+invariant-loop-slot l = (l.slot ≤ l.slots) × (obey_all (up_to (record_rule l.program (view l.store)) l.slot) ≡ Ok tt)
 
 abbrev pub decreases-loop-slot : goal.decreases-loop-slot
 decreases-loop-slot l = l.slots - l.slot

@@ -48,7 +48,7 @@ returns-in-Refused c =
     let left : k ≡ suc j = omega (arith, c.loop-steps-test.true) in
     let q = c.step_known-step.ensures.store_after in
     record {
-      run = rw c.refused_run.ensures (ap (λ (x : Result). ended n (Ended.Refused c.in-Refused.why) x.store x.device t) q
+      run = rw c.refused_run.ensures (ap (λ (x : Result). ended n (Err c.in-Refused.why) x.store x.device t) q
           ∙ sym (run_stops p k j n s d t left (ap (λ (x : Result). refusal_of x.answer) (sym q) ∙ sym c.refusal-found.ensures ∙ c.in-Refused.is))
           ∙ c.loop-steps.invariant.2);
       single = λ one. rw c.refused_run.ensures (q ∙ c.loop-steps.invariant.4 (omega (arith, one, c.loop-steps-test.true)));

@@ -21,7 +21,7 @@ abbrev pub invariant-loop-steps : goal.invariant-loop-steps
 invariant-loop-steps l = (l.steps ≤ l.budget)
     × (length l.store ≡ length l.initial.store)
     × (run_from l.program (l.budget - l.steps) l.steps l.store (device_with l.core l.registers l.handler l.burst) l.totals ≡ run l.program l.budget l.initial.store (device_with l.initial.core l.initial.registers l.initial.handler l.initial.burst) l.initial.totals)
-    × (l.known ≡ true → look l.program l.store (device_with l.core l.registers l.handler l.burst) ≡ Checked.Accepted)
+    × (l.known ≡ true → look l.program l.store (device_with l.core l.registers l.handler l.burst) ≡ Ok tt)
     × (l.steps ≡ 0 → of_outcome l.store (step l.program l.store (device_with l.core l.registers l.handler l.burst)) ≡ of_outcome l.initial.store (step l.program l.initial.store (device_with l.initial.core l.initial.registers l.initial.handler l.initial.burst)))
     × (l.steps ≡ 1 → leaving l.last l.stored (device_with l.core l.registers l.handler l.burst) l.store ≡ of_outcome l.initial.store (step l.program l.initial.store (device_with l.initial.core l.initial.registers l.initial.handler l.initial.burst)))
     × Eight l.burst

@@ -21,7 +21,7 @@ returns-in-Refused c =
 
 pub next_step-requires : goal.next_step-requires
 next_step-requires c =
-    let accepted : look c.args.program.now c.args.store.now (device_with c.args.core c.args.registers.now c.args.handler c.args.burst.now) ≡ Checked.Accepted =
+    let accepted : look c.args.program.now c.args.store.now (device_with c.args.core c.args.registers.now c.args.handler c.args.burst.now) ≡ (Ok tt) =
     elim c.if-not-known.branch [ then-not-known+in_default w ↦ sym w.look-found.ensures.value ∙ w.in_default.is | else-not-known w ↦ c.requires.burst_value w.if-not-known.false ] in
     record { looked = look-passed _ _ _ accepted; eight = c.requires.eight }
 
@@ -30,7 +30,7 @@ returns c =
     let s = c.args.store.now in
     let p = c.args.program.now in
     let d = device_with c.args.core c.args.registers.now c.args.handler c.args.burst.now in
-    let accepted : look p s d ≡ Checked.Accepted =
+    let accepted : look p s d ≡ (Ok tt) =
     elim c.if-not-known.branch [ then-not-known+in_default w ↦ sym w.look-found.ensures.value ∙ w.in_default.is | else-not-known w ↦ c.requires.burst_value w.if-not-known.false ] in
     record {
       store_after = c.next_step.ensures.store_after ∙ ap (λ (o : Outcome). of_outcome s o) (sym (step_goes p s d accepted));

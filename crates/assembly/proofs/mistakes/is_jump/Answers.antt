@@ -1,6 +1,6 @@
 -- `mistakes::is_jump` meets its contract. Assumes nothing.
 use mathlib.Core.Path.{sym, ◌∙◌}
-use Rattle.model.specs.Test.{◌and◌}
+use Rattle.model.specs.Test.{both}
 use Rattle.assembly.proofs.LineLaws.{instruction_in}
 use borrow.Author.Rules.{rules}
 use Rattle.assembly.proofs.mistakes.is_jump.Goals as goal
@@ -11,9 +11,9 @@ overflow_sub-line c =
     search (rules, least)
 
 pub returns-then-is_instruction : goal.returns-then-is_instruction
-unfolding ◌and◌
+unfolding both
 returns-then-is_instruction c = rw (sym c.is_instruction.ensures ∙ c.if-is_instruction.true) c.is_jump.ensures
 
 pub returns : goal.returns
-unfolding ◌and◌
+unfolding both
 returns c = rw (sym c.is_instruction.ensures ∙ c.if-is_instruction.false)

@@ -2,14 +2,14 @@
 use Prim.Native.Nat.{ℕ}
 use mathlib.Core.Path.{sym, ap, ◌∙◌}
 use lib.Dec.{eqb}
-use Rattle.model.specs.Test.{◌and◌}
+use Rattle.model.specs.Test.{both}
 use Rattle.assembly.specs.Mistakes.{missing_task}
 use Rattle.assembly.proofs.mistakes.missing_task.Goals as goal
 
 pub returns-then-is_name : goal.returns-then-is_name
-unfolding missing_task ◌and◌
+unfolding missing_task both
 returns-then-is_name c = rw (sym c.is_name.ensures ∙ c.if-is_name.true) (ap (λ (x : ℕ). eqb x 65536) c.numbered.ensures)
 
 pub returns : goal.returns
-unfolding missing_task ◌and◌
+unfolding missing_task both
 returns c = rw (sym c.is_name.ensures ∙ c.if-is_name.false)

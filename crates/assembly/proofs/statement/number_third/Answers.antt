@@ -1,7 +1,7 @@
 -- `statement::number_third` meets its contract. Assumes nothing.
 use mathlib.Core.Path.{sym, ◌∙◌}
 use native.Mathlib.Omega.{arith}
-use Rattle.model.specs.Test.{◌and◌}
+use Rattle.model.specs.Test.{both}
 use Rattle.assembly.proofs.LineLaws.{instruction_in}
 use Rattle.assembly.specs.Mistakes.{number_third}
 use borrow.Author.Rules.{rules}
@@ -18,9 +18,9 @@ third_is_number-requires c =
     omega (arith, least, most)
 
 pub returns-then-is_instruction : goal.returns-then-is_instruction
-unfolding number_third ◌and◌
+unfolding number_third both
 returns-then-is_instruction c = rw (sym c.is_instruction.ensures ∙ c.if-is_instruction.true) c.third_is_number.ensures
 
 pub returns : goal.returns
-unfolding number_third ◌and◌
+unfolding number_third both
 returns c = rw (sym c.is_instruction.ensures ∙ c.if-is_instruction.false)

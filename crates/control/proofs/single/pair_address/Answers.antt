@@ -13,11 +13,11 @@ use Rattle.model.specs.declared.Refusal.{Refusal}
 use Rattle.control.proofs.single.pair_address.Goals as goal
 
 module _ (p : List ℕ) (v : Store) (j : ℕ) {a : ℕ} (is : a ≡ address v j) where
-  pair-broken : {w : ℕ} → memory_words p ≤ a → w ≡ log_at (memory_words p) + 2 * j → Checked.Refused (Refusal.Control w) ≡ pair_sound p v j
+  pair-broken : {w : ℕ} → memory_words p ≤ a → w ≡ log_at (memory_words p) + 2 * j → Err (Refusal.Control w) ≡ pair_sound p v j
   unfolding pair_sound must
   pair-broken h k = simp (sym is, le-ltb _ _ h, k)
 
-  pair-kept : a < memory_words p → Checked.Accepted ≡ pair_sound p v j
+  pair-kept : a < memory_words p → (Ok tt) ≡ pair_sound p v j
   unfolding pair_sound must
   pair-kept h = simp (sym is, lt-ltb _ _ h)
 

@@ -13,11 +13,11 @@ use Rattle.model.specs.declared.Refusal.{Refusal}
 use Rattle.control.proofs.single.record_at_head.Goals as goal
 
 module _ (p : List ℕ) (v : Store) {e : ℕ} (is : e ≡ event v v.head) where
-  record_broken : {w : ℕ} → events p ≤ e → w ≡ queue_at (memory_words p) v.log_pairs + 2 * v.head → Checked.Refused (Refusal.Control w) ≡ record_sound p v
+  record_broken : {w : ℕ} → events p ≤ e → w ≡ queue_at (memory_words p) v.log_pairs + 2 * v.head → Err (Refusal.Control w) ≡ record_sound p v
   unfolding record_sound must
   record_broken h k = simp (sym is, le-ltb _ _ h, k)
 
-  record_kept : e < events p → Checked.Accepted ≡ record_sound p v
+  record_kept : e < events p → (Ok tt) ≡ record_sound p v
   unfolding record_sound must
   record_kept h = simp (sym is, lt-ltb _ _ h)
 

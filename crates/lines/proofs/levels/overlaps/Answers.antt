@@ -31,8 +31,8 @@ returns-then-lowest-lt1048576 c =
     let (n, x, is, level, refuses) = overlap_refuses t r least c.requires.named_lines c.if-lowest-lt1048576.true in
     let line_is : n ≡ r / 65536 = omega arith in
     let level-is : x ≡ r % 65536 = omega arith in
-    subst (λ (m : ℕ). Checked.Refused (Refusal.LinesOverlap m (r % 65536)) ≡ line_rules t (overlap_rule t)) line_is
-    (subst (λ (y : ℕ). Checked.Refused (Refusal.LinesOverlap n y) ≡ line_rules t (overlap_rule t)) level-is refuses)
+    subst (λ (m : ℕ). Err (Refusal.LinesOverlap m (r % 65536)) ≡ line_rules t (overlap_rule t)) line_is
+    (subst (λ (y : ℕ). Err (Refusal.LinesOverlap n y) ≡ line_rules t (overlap_rule t)) level-is refuses)
 
 pub returns : goal.returns
 returns c =

@@ -4,12 +4,12 @@ use mathlib.Core.Path.{◌≡◌, sym, ap, ◌∙◌}
 use Prim.Native.Nat.{ℕ}
 use lib.Dec.{eqb}
 use Rattle.model.specs.Program.{opcode, code, operand}
-use Rattle.model.specs.Test.{◌and◌}
+use Rattle.model.specs.Test.{◌and◌, both}
 use Rattle.tokens.specs.Uses.{is_jump}
 use Rattle.listing.proofs.lines.jumps_to.Goals as goal
 
 pub returns-then-not-is_jump : goal.returns-then-not-is_jump
-unfolding ◌and◌
+unfolding both
 returns-then-not-is_jump c =
     let p = c.args.program.now in
     let i = c.args.body in
@@ -18,7 +18,7 @@ returns-then-not-is_jump c =
     sym (ap (λ (b : Bool). b and eqb (operand p i n) c.args.place) jump)
 
 pub returns : goal.returns
-unfolding ◌and◌
+unfolding both
 returns c =
     let p = c.args.program.now in
     let i = c.args.body in

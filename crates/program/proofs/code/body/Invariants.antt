@@ -8,7 +8,5 @@ use Rattle.model.specs.Test.{each}
 use Rattle.program.proofs.code.body.Given as goal
 
 abbrev pub invariant-loop-instruction : goal.invariant-loop-instruction
-invariant-loop-instruction l = (l.count ≡ instructions l.program l.body_number) × (l.instruction ≤ l.count) × (each (instruction_rule l.program l.body_number) l.instruction (l.count - l.instruction) ≡ body_rule l.program l.body_number)
+invariant-loop-instruction l = (l.instruction-end ≡ instructions l.program l.body_number) × (l.instruction ≤ l.instruction-end) × (each (instruction_rule l.program l.body_number) l.instruction (l.instruction-end - l.instruction) ≡ body_rule l.program l.body_number)
 
-abbrev pub decreases-loop-instruction : goal.decreases-loop-instruction
-decreases-loop-instruction l = l.count - l.instruction

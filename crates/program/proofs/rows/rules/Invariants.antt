@@ -8,7 +8,5 @@ use Rattle.model.specs.Test.{each}
 use Rattle.program.proofs.rows.rules.Given as goal
 
 abbrev pub invariant-loop-body_number : goal.invariant-loop-body_number
-invariant-loop-body_number l = (l.bodies ≡ bodies l.program) × (l.body_number ≤ l.bodies) × (each (row_rule l.program) l.body_number (l.bodies - l.body_number) ≡ each (row_rule l.program) 0 l.bodies)
+invariant-loop-body_number l = (l.body_number-end ≡ bodies l.program) × (l.body_number ≤ l.body_number-end) × (each (row_rule l.program) l.body_number (l.body_number-end - l.body_number) ≡ each (row_rule l.program) 0 l.body_number-end)
 
-abbrev pub decreases-loop-body_number : goal.decreases-loop-body_number
-decreases-loop-body_number l = l.bodies - l.body_number

@@ -2,13 +2,13 @@
 use mathlib.Core.Path.{sym}
 use borrow.Author.Tests.{le-ltb, lt-ltb, eq-eqb, ne_eqb}
 use Rattle.model.proofs.TestLaws.{pick_true, pick-false, and_true, and_false}
-use Rattle.model.specs.Test.{◌and◌}
+use Rattle.model.specs.Test.{both}
 use Rattle.script.proofs.ReadingLaws.{numbers-counted, stays, holds_as}
 use Rattle.script.specs.Script.{complete}
 use Rattle.script.proofs.line.complete.Goals as goal
 
 pub returns-then-reading-least : goal.returns-then-reading-least
-unfolding complete ◌and◌
+unfolding complete both
 returns-then-reading-least c = λ words sizes. holds_as (stays sizes) (sym (pick-false _ _ (rw (numbers-counted c.args.reading words sizes, sym c.least.ensures, le-ltb _ _ c.if-reading-least.true))))
 
 pub returns-then-reading-ne0 : goal.returns-then-reading-ne0

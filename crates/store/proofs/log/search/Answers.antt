@@ -17,11 +17,11 @@ use Rattle.store.proofs.log.search.Goals as goal
 
 -- a turn of the search at pair i, with k pairs left: none is left, pair i has the address, or it hasn't
 module _ (log : List ℕ) (a i : ℕ) where
-  ended : {k : ℕ} → k ≡ 0 → find_from log a i k ≡ Found.Nothing
+  ended : {k : ℕ} → k ≡ 0 → find_from log a i k ≡ None
   unfolding find_from
   ended h = rw h
 
-  hit : {k : ℕ} → 0 < k → word log (2 * i) ≡ a → find_from log a i k ≡ Found.Pair i
+  hit : {k : ℕ} → 0 < k → word log (2 * i) ≡ a → find_from log a i k ≡ Some i
   unfolding find_from pick
   hit {k = zero} h e = absurd (omega arith)
   hit {k = suc j} h e = simp (eq-eqb _ _ e)

@@ -20,4 +20,4 @@ unfolding settled stored_word
 returns c =
     let s = c.args.store.now in
     let is = ap (λ (n : ℕ). n + c.around.result) c.requires.shaped.queue_start ∙ word_ahead _ _ _ _ c.requires.slot_bound.0 c.requires.slot_bound.1 c.around.ensures s in
-    record { store = ap (λ (i : ℕ). set s i c.args.value) is; stored = ap Stored.Word is }
+    record { store = ap (λ (i : ℕ). set s i c.args.value) is; stored = ap Some is }
