@@ -11,7 +11,7 @@ ghost use Rattle.model.specs.Test.{◌or◌, ◌then◌};
 ghost use Rattle.model.specs.Accepted.{Contents, RowsInside, Shaped, ShapedFor};
 ghost use Rattle.control.specs.Groups.{commit_rules, address_rules, record_rules};
 
-use model::{Checked, Refusal};
+use model::Refusal;
 use program::rows;
 use store::{log, queue};
 

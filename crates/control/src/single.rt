@@ -6,7 +6,7 @@ ghost use Rattle.model.specs.Program.{word, tasks};
 ghost use Rattle.model.specs.Store.{view};
 ghost use Rattle.model.specs.Accepted.{Contents, RowsInside, Shaped, ShapedFor};
 
-use model::{Checked, Refusal};
+use model::Refusal;
 use program::rows;
 use store::{log, queue};
 

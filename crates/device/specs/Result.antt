@@ -1,10 +1,11 @@
 -- How the code's values stand for the definitions': the device from its core and its registers, and what a call leaves (answer, which
 -- word it stored, device and store) as one value, from the code's result and from a defined outcome. Document 01: "the contract equates the
 -- answer, the store, the device state .. after the call with defined ones"; so a promise is one equation. Assumes nothing.
+use Rattle.model.specs.Types.{Record, Result}
 use Rattle.std.specs.Prelude.{ℕ, true, List, ◌≡◌, length}
 use Rattle.model.specs.Burst.{no_burst}
 use Rattle.model.specs.Device.{Outcome, boot, post, place_step, next_step, step}
-use Rattle.model.specs.Store.{Store, Record, view, settled, stored_word}
+use Rattle.model.specs.Store.{Store, view, settled, stored_word}
 use Rattle.model.specs.declared.Answer.{Answer}
 use Rattle.model.specs.declared.Device.{Device}
 use Rattle.model.specs.declared.Handler.{Handler}

@@ -4,7 +4,7 @@ ghost use Rattle.model.specs.Accepted.{Contents};
 ghost use Rattle.model.specs.Burst.{carried, burst_words, events_rule};
 ghost use Rattle.model.specs.Test.{pick};
 
-use model::{Checked, Refusal};
+use model::Refusal;
 
 // "8 at its first bad event (place: position from 0)", of so many records.
 pub fn events(program: &[u16], burst: &[u16; 8], length: u16) -> Result<(), Refusal>

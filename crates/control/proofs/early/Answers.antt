@@ -1,4 +1,5 @@
 -- `early` meets its contract: the first rule that isn't obeyed answers, in four groups. Assumes nothing.
+use Rattle.model.specs.Types.{Checked}
 use Prim.Native.Nat.{ℕ}
 use mathlib.Core.List.{List, [], ◌∷◌}
 use mathlib.Core.Path.{◌≡◌, sym, ap, ◌∙◌}

@@ -1,4 +1,5 @@
 -- `control::early_begun_rules` meets its contract: where word 16 is 0 or 1 both rules are kept. Assumes nothing.
+use Rattle.model.specs.Types.{Ok}
 use Prim.Native.Nat.{◌<◌}
 use mathlib.Core.Path.{◌≡◌, sym}
 use native.Mathlib.Omega.{arith}

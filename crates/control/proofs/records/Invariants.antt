@@ -1,4 +1,5 @@
 -- `control::records` meets its contract. The loop's invariant: the rules of the slots passed are obeyed. Assumes nothing.
+use Rattle.model.specs.Types.{Ok}
 use Prim.Native.Nat.{◌-◌, ◌≤◌}
 use mathlib.Core.Path.{◌≡◌}
 use Rattle.model.specs.Control.{obey_all, up_to, record_rule}

@@ -1,4 +1,5 @@
 -- `control::whole` meets its contract: the answers of the rules, joined in their order, some of them in groups. Assumes nothing.
+use Rattle.model.specs.Types.{Checked}
 use Prim.Native.Nat.{ℕ}
 use mathlib.Core.List.{List, ◌∷◌, ◌++◌}
 use mathlib.Core.Path.{◌≡◌, sym, ap, ◌∙◌}

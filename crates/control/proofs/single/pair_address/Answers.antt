@@ -1,4 +1,5 @@
 -- `single::pair_address` meets its contract: the log starts at word 6's number. Assumes nothing.
+use Rattle.model.specs.Types.{Err, Ok}
 use Prim.Native.Nat.{ℕ, ◌+◌, ◌*◌, ◌≤◌, ◌<◌}
 use mathlib.Core.List.{List}
 use mathlib.Core.Path.{◌≡◌, sym}

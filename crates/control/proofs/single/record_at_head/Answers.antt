@@ -1,4 +1,5 @@
 -- `single::record_at_head` meets its contract: the queue starts at word 7's number. Assumes nothing.
+use Rattle.model.specs.Types.{Err, Ok}
 use Prim.Native.Nat.{ℕ, ◌+◌, ◌*◌, ◌≤◌, ◌<◌}
 use mathlib.Core.List.{List}
 use mathlib.Core.Path.{◌≡◌, sym}
