@@ -87,7 +87,7 @@ loop-steps-preserved c =
           ∙ look_stays p s d (unrefused (step p s d).answer passes) (ap (λ (x : Result). sound_after x.stored x.answer x.store) (sym q) ∙ sym c.sound_after-known.ensures ∙ known),
       λ zero. absurd (omega (arith, zero)),
       λ one. q ∙ c.loop-steps.invariant.4 (omega (arith, one)),
-      c.step_known-step.ensures.eight_2,
+      c.step_known-step.ensures.eight_after,
     )
 
 pub shape_of-store : goal.shape_of-store

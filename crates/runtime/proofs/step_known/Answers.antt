@@ -17,7 +17,7 @@ returns-in-Refused c =
     let s = c.args.store.now in
     let p = c.args.program.now in
     let d = device_with c.args.core c.args.registers.now c.args.handler c.args.burst.now in
-    record { store_after = ap (λ (x : StepResult). of_step x c.args.registers.now c.args.burst.now s) c.refused.ensures ∙ ap (λ (o : Outcome). of_outcome s o) (sym (step-refused p s d (sym c.look-found.ensures.value ∙ c.in-Refused.is))); eight_2 = c.requires.eight }
+    record { store_after = ap (λ (x : StepResult). of_step x c.args.registers.now c.args.burst.now s) c.refused.ensures ∙ ap (λ (o : Outcome). of_outcome s o) (sym (step-refused p s d (sym c.look-found.ensures.value ∙ c.in-Refused.is))); eight_after = c.requires.eight }
 
 pub next_step-requires : goal.next_step-requires
 next_step-requires c =
@@ -34,5 +34,5 @@ returns c =
     elim c.if-not-known.branch [ then-not-known+in_default w ↦ sym w.look-found.ensures.value ∙ w.in_default.is | else-not-known w ↦ c.requires.burst_value w.if-not-known.false ] in
     record {
       store_after = c.next_step.ensures.store_after ∙ ap (λ (o : Outcome). of_outcome s o) (sym (step_goes p s d accepted));
-      eight_2 = c.next_step.ensures.eight_2;
+      eight_after = c.next_step.ensures.eight_after;
     }
