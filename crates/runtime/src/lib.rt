@@ -40,6 +40,7 @@ pub struct RunResult {
 }
 
 // Is an answer a refusal?
+#[tactic(auto, unfolding(model::specs::Calls::unless_refused))]
 pub fn refusal(answer: Answer) -> Result<(), Refusal>
     ensures { result ≡ unless_refused answer Err (Ok tt) }
 {
@@ -50,6 +51,7 @@ pub fn refusal(answer: Answer) -> Result<(), Refusal>
 }
 
 // Was the commit store made?
+#[tactic(auto, unfolding(model::specs::Calls::is_commit))]
 fn is_commit(answer: Answer) -> bool
     ensures { result ≡ is_commit answer }
 {
@@ -57,6 +59,7 @@ fn is_commit(answer: Answer) -> bool
 }
 
 // After a store of the phase: not after a commit store, and in phase 0 word 16 must be 0.
+#[tactic(auto, using(model::proofs::TestLaws::tests), unfolding(model::specs::Claims::sound_after, model::specs::Test::both, model::specs::Test::pick))]
 fn sound_after_phase(answer: Answer, store: &[u16]) -> bool
     requires { memory_at ≤ length store.now }
     ensures { result ≡ sound_after (Some 8) answer store.now }
@@ -65,6 +68,7 @@ fn sound_after_phase(answer: Answer, store: &[u16]) -> bool
 }
 
 // Do the early checks of the next step pass after a step that wasn't refused: by the word stored, the answer and the words after it?
+#[tactic(auto, using(model::proofs::TestLaws::tests), unfolding(model::specs::Claims::sound_after, model::specs::Test::pick))]
 fn sound_after(stored: Option<u16>, answer: Answer, store: &[u16]) -> bool
     requires { memory_at ≤ length store.now }
     ensures { result ≡ sound_after stored answer store.now }
