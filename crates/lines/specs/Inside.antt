@@ -2,7 +2,7 @@
 -- rows share. No promise to a host rests on this. Assumes nothing.
 use Rattle.std.specs.Prelude.{ℕ, ◌+◌, ◌*◌, ◌≤◌, ◌<◌, Bool, List, ◌≡◌, eqb, leb, length}
 use Rattle.model.specs.Test.{pick, ◌and◌}
-use Rattle.model.specs.declared.Checked.{Checked}
+use Rattle.model.specs.Types.{Ok}
 use Rattle.lines.specs.Lines.{line, low, high, rows, coverage, gap_rule, overlap_rule, line_rules}
 
 -- what 30 gives

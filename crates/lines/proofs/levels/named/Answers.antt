@@ -1,16 +1,10 @@
--- `levels::named` meets its contract. The invariant: no row so far is of the line. The measure is how many are left. Assumes nothing.
-use Prim.Native.Nat.{ℕ, zero-le}
-use mathlib.Core.Bool.{false}
-use mathlib.Core.Path.{◌≡◌, sym, subst}
+-- `levels::named` meets its contract: the line of a row is the line, or of none. Assumes nothing.
+use Rattle.std.proofs.Common.{◌≡◌, ℕ, false, sym, subst, arith}
 use borrow.Author.Tests.{ne_eqb}
-use native.Mathlib.Omega.{arith}
 use Rattle.model.proofs.TestLaws.{same_or}
 use Rattle.lines.proofs.LineLaws.{named-true, unnamed}
 use Rattle.lines.specs.Lines.{is_of}
 use Rattle.lines.proofs.levels.named.Goals as goal
-
-pub loop-row-init : goal.loop-row-init
-loop-row-init c = (omega arith, zero-le, λ j l. absurd (omega arith))
 
 pub returns-then-table-row : goal.returns-then-table-row
 returns-then-table-row c = sym (named-true c.args.table.now c.args.line (c.loop-row.row, omega arith, c.if-table-row.true))
@@ -19,12 +13,11 @@ pub loop-row-preserved : goal.loop-row-preserved
 unfolding is_of
 loop-row-preserved c = (
   c.loop-row.invariant.0,
-  omega arith,
   λ j l.
       same_or j c.loop-row.row
       (λ same. subst (λ (h : ℕ). is_of c.args.table.now c.args.line h ≡ false) (sym same) (ne_eqb _ _ c.if-table-row.false))
-      (λ differ. c.loop-row.invariant.2 j (omega arith)),
+      (λ differ. c.loop-row.invariant.1 j (omega arith)),
 )
 
 pub returns : goal.returns
-returns c = sym (unnamed c.args.table.now c.args.line (λ j l. c.loop-row.invariant.2 j (omega arith)))
+returns c = sym (unnamed c.args.table.now c.args.line (λ j l. c.loop-row.invariant.1 j (omega arith)))

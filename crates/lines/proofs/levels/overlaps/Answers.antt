@@ -1,33 +1,22 @@
--- `levels::overlaps` meets its contract. The invariant: it is the lowest place that two of the rows so far share. The measure is how many are left.
--- Assumes nothing.
-use Prim.Native.Nat.{ℕ, ◌/◌, ◌%◌, zero-le}
-use mathlib.Core.Path.{◌≡◌, subst}
-use native.Mathlib.Omega.{arith}
-use Rattle.model.specs.declared.Checked.{Checked}
+-- `levels::overlaps` meets its contract: the lowest place that rows share is where the rule refuses first. Assumes nothing.
+use Rattle.std.proofs.Common.{◌≡◌, ℕ, ◌/◌, ◌%◌, subst, arith}
+use Rattle.model.specs.Types.{Err}
 use Rattle.model.specs.declared.Refusal.{Refusal}
-use Rattle.lines.proofs.LeastLaws.{none-among, shared_among}
+use Rattle.lines.proofs.LeastLaws.{shared_among}
 use Rattle.lines.proofs.LineLaws.{overlap_refuses, overlap-accepts}
 use Rattle.lines.specs.Inside.{Least, SharedAmong}
 use Rattle.lines.specs.Lines.{rows, overlap_rule, line_rules}
 use Rattle.lines.proofs.levels.overlaps.Goals as goal
 
-pub loop-row-init : goal.loop-row-init
-loop-row-init c = (omega arith, zero-le, none-among c.args.table.now 1048576)
-
-pub lowest_shared-lowest-requires : goal.lowest_shared-lowest-requires
-lowest_shared-lowest-requires c =
-    let most = c.loop-row.invariant.2.most in
-    record { whole = c.requires; row_bound = (omega arith, most) }
-
 pub loop-row-preserved : goal.loop-row-preserved
-loop-row-preserved c = (c.loop-row.invariant.0, omega arith, shared_among c.args.table.now _ _ _ _ c.loop-row.invariant.2 c.lowest_shared-lowest.ensures)
+loop-row-preserved c = (c.loop-row.invariant.0, shared_among c.args.table.now _ _ _ _ c.loop-row.invariant.1 c.lowest_shared-lowest.ensures)
 
 pub returns-then-lowest-lt1048576 : goal.returns-then-lowest-lt1048576
 returns-then-lowest-lt1048576 c =
     let t = c.args.table.now in
     let r = c.loop-row.lowest in
     let all : c.loop-row.row ≡ rows t = omega arith in
-    let least = subst (λ (i : ℕ). Least (SharedAmong t i) 1048576 r) all c.loop-row.invariant.2 in
+    let least = subst (λ (i : ℕ). Least (SharedAmong t i) 1048576 r) all c.loop-row.invariant.1 in
     let (n, x, is, level, refuses) = overlap_refuses t r least c.requires.named_lines c.if-lowest-lt1048576.true in
     let line_is : n ≡ r / 65536 = omega arith in
     let level-is : x ≡ r % 65536 = omega arith in
@@ -38,4 +27,4 @@ pub returns : goal.returns
 returns c =
     let t = c.args.table.now in
     let all : c.loop-row.row ≡ rows t = omega arith in
-    overlap-accepts t _ (subst (λ (i : ℕ). Least (SharedAmong t i) 1048576 c.loop-row.lowest) all c.loop-row.invariant.2) c.if-lowest-lt1048576.false
+    overlap-accepts t _ (subst (λ (i : ℕ). Least (SharedAmong t i) 1048576 c.loop-row.lowest) all c.loop-row.invariant.1) c.if-lowest-lt1048576.false
