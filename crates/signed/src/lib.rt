@@ -7,26 +7,20 @@ ghost use Rattle.std.specs.Int.Signed.{mag, shr_z};
 ghost use Rattle.model.specs.Program.{signed, unsigned, shifted, less};
 
 // The number that a word is as two's complement.
+#[tactic(auto, using(model::proofs::TestLaws::tests), unfolding(model::specs::Program::signed, model::specs::Test::pick))]
 fn signed(word: u16) -> i32
     ensures { result ≡ signed word }
 {
-    if word < 32768 {
-        word as i32
-    } else {
-        word as i32 - 65536
-    }
+    i32::from(word.cast_signed())
 }
 
 // The word that a number from -32768 to 32767 is as two's complement.
+#[tactic(auto, unfolding(model::specs::Program::unsigned))]
 fn unsigned(value: i32) -> u16
     requires { mag value < 32768 }
     ensures { result ≡ unsigned value }
 {
-    if value < 0 {
-        (value + 65536) as u16
-    } else {
-        value as u16
-    }
+    (value as i16).cast_unsigned()
 }
 
 // "SHR shall find its power of two by computing"
