@@ -31,22 +31,17 @@ fn power(exponent: u16) -> i32
     1 << exponent
 }
 
-// A number divided by a power of two, rounded down. Division of negative numbers rounds toward zero: so one is
-// added before it and taken off after it.
+// A number divided by a power of two, rounded down.
 fn divided(number: i32, exponent: u16) -> i32
     requires number_bound { mag number < 32768 }
     requires exponent_bound { exponent < 16 }
     ensures { result ≡ shr_z number (2 ^ exponent) }
 {
-    let divisor = power(exponent);
-    if number < 0 {
-        (number + 1) / divisor - 1
-    } else {
-        number / divisor
-    }
+    number.div_euclid(power(exponent))
 }
 
 // SHR.
+#[tactic(auto, using(crate::proofs::TwosComplement::mag_signed, crate::proofs::TwosComplement::mag_shifted, crate::proofs::TwosComplement::read_back), unfolding(model::specs::Program::shifted))]
 pub fn shr(word: u16, places: u16) -> u16
     requires { places < 16 }
     ensures { result ≡ shifted word places }
@@ -55,6 +50,7 @@ pub fn shr(word: u16, places: u16) -> u16
 }
 
 // JLT.
+#[tactic(auto, unfolding(model::specs::Program::less))]
 pub fn less(left: u16, right: u16) -> bool
     ensures { result ≡ less left right }
 {
