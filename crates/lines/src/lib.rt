@@ -15,15 +15,14 @@ use model::{Answer, Device, Refusal};
 mod levels;
 mod rows;
 
+use levels::Table;
+
 // What raising a line answers, and the device after it: none where nothing is posted; else as the post does, or the table's check where it refuses.
 #[derive(Clone, Copy)]
 pub struct RaiseResult {
     pub answer: Option<Answer>,
     pub device: Device,
 }
-
-// The event of a row that posts nothing.
-const NO_EVENT: u16 = 65535;
 
 // The check of a table: 30, then 31 over all lines, then 32.
 #[tactic(auto, using(model::proofs::TestLaws::in_a_row, crate::proofs::RowLaws::gives), unfolding(crate::specs::Lines::check))]
@@ -32,22 +31,12 @@ pub fn check(table: &[u16]) -> Result<(), Refusal>
     ensures given { result ≡ Ok tt → Whole table.now }
 {
     rows::rules(table)?;
-    if levels::in_order(table) {
+    let table = Table { words: table };
+    if table.in_order() {
         return Ok(());
     }
-    levels::gaps(table)?;
-    levels::overlaps(table)
-}
-
-// The event of the row that covers a level of a line, if there is one.
-#[tactic(auto, using(model::proofs::TestLaws::tests), unfolding(crate::specs::Lines::event_of, crate::specs::Lines::no_event, model::specs::Test::pick))]
-fn event_of(table: &[u16], line: u16, level: u16) -> Option<u16>
-    requires { Whole table.now }
-    ensures { result ≡ pick (eqb (event_of table.now line level) no_event) None (Some (event_of table.now line level)) }
-{
-    let row = levels::row_of(table, line, level)?;
-    let event = table[4 * row + 3];
-    if event == NO_EVENT { None } else { Some(event) }
+    table.gaps()?;
+    table.overlaps()
 }
 
 // What raising a line posts, if anything. The table is checked first, and nothing but the table is looked at.
@@ -56,7 +45,7 @@ pub fn posting_of(table: &[u16], line: u16, level: u16) -> Result<Option<u16>, R
     ensures { result ≡ posting table.now line level }
 {
     check(table)?;
-    Ok(event_of(table, line, level))
+    Ok(Table { words: table }.event_of(line, level))
 }
 
 // Raising a line at a level: a post of the event that the table has for it, with the level as data.

@@ -1,4 +1,4 @@
--- `levels::overlaps` meets its contract: the lowest place that rows share is where the rule refuses first. Assumes nothing.
+-- `levels::Table::overlaps` meets its contract: the lowest place that rows share is where the rule refuses first. Assumes nothing.
 use Rattle.std.proofs.Common.{◌≡◌, ℕ, ◌/◌, ◌%◌, subst, arith}
 use Rattle.model.specs.Types.{Err}
 use Rattle.model.specs.declared.Refusal.{Refusal}
@@ -6,18 +6,18 @@ use Rattle.lines.proofs.LeastLaws.{shared_among}
 use Rattle.lines.proofs.LineLaws.{overlap_refuses, overlap-accepts}
 use Rattle.lines.specs.Inside.{Least, SharedAmong}
 use Rattle.lines.specs.Lines.{rows, overlap_rule, line_rules}
-use Rattle.lines.proofs.levels.overlaps.Goals as goal
+use Rattle.lines.proofs.levels.Table.overlaps.Goals as goal
 
 pub loop-row-preserved : goal.loop-row-preserved
-loop-row-preserved c = (c.loop-row.invariant.0, shared_among c.args.table.now _ _ _ _ c.loop-row.invariant.1 c.lowest_shared-lowest.ensures)
+loop-row-preserved c = (c.loop-row.invariant.0, shared_among c.args.self.now.words.now _ _ _ _ c.loop-row.invariant.1 c.lowest_shared-lowest.ensures)
 
-pub returns-then-lowest-lt1048576 : goal.returns-then-lowest-lt1048576
-returns-then-lowest-lt1048576 c =
-    let t = c.args.table.now in
+pub returns-then-lowest-lt-PAST_ALL : goal.returns-then-lowest-lt-PAST_ALL
+returns-then-lowest-lt-PAST_ALL c =
+    let t = c.args.self.now.words.now in
     let r = c.loop-row.lowest in
     let all : c.loop-row.row ≡ rows t = omega arith in
     let least = subst (λ (i : ℕ). Least (SharedAmong t i) 1048576 r) all c.loop-row.invariant.1 in
-    let (n, x, is, level, refuses) = overlap_refuses t r least c.requires.named_lines c.if-lowest-lt1048576.true in
+    let (n, x, is, level, refuses) = overlap_refuses t r least c.args.self.now.whole.named_lines c.if-lowest-lt-PAST_ALL.true in
     let line_is : n ≡ r / 65536 = omega arith in
     let level-is : x ≡ r % 65536 = omega arith in
     subst (λ (m : ℕ). Err (Refusal.LinesOverlap m (r % 65536)) ≡ line_rules t (overlap_rule t)) line_is
@@ -25,6 +25,6 @@ returns-then-lowest-lt1048576 c =
 
 pub returns : goal.returns
 returns c =
-    let t = c.args.table.now in
+    let t = c.args.self.now.words.now in
     let all : c.loop-row.row ≡ rows t = omega arith in
-    overlap-accepts t _ (subst (λ (i : ℕ). Least (SharedAmong t i) 1048576 c.loop-row.lowest) all c.loop-row.invariant.1) c.if-lowest-lt1048576.false
+    overlap-accepts t _ (subst (λ (i : ℕ). Least (SharedAmong t i) 1048576 c.loop-row.lowest) all c.loop-row.invariant.1) c.if-lowest-lt-PAST_ALL.false

@@ -1,10 +1,10 @@
--- `levels::lowest_gap` meets its contract: where no row covers a level it is the lowest, and a row that does is left behind. Assumes nothing.
+-- `levels::Table::lowest_gap` meets its contract: where no row covers a level it is the lowest, and a row that does is left behind. Assumes nothing.
 use Rattle.std.proofs.Common.{◌≡◌, ℕ, ◌+◌, ◌*◌, ◌<◌, ◌≤◌, arith}
 use Rattle.model.proofs.TestLaws.{below_or}
 use Rattle.lines.proofs.LineLaws.{some-found, none-found, least-gap}
 use Rattle.lines.specs.Claims.{Covers}
 use Rattle.lines.specs.Lines.{levels}
-use Rattle.lines.proofs.levels.lowest_gap.Goals as goal
+use Rattle.lines.proofs.levels.Table.lowest_gap.Goals as goal
 
 pub returns-in_default : goal.returns-in_default
 unfolding levels
@@ -13,7 +13,7 @@ returns-in_default c = least-gap _ _ _ (omega arith) (λ _. none-found _ _ _ c.i
 pub returns-in_err-level : goal.returns-in_err-level
 unfolding levels
 returns-in_err-level c =
-    let t = c.args.table.now in
+    let t = c.args.self.now.words.now in
     let here = some-found t c.args.line _ _ c.in-Some.ensures in
     let from = here.from_low in
     rw c.from_residual.ensures
@@ -25,7 +25,7 @@ loop-row-smaller c = let at = some-found _ _ _ _ c.in-Some.ensures in let to_hig
 
 pub loop-row-preserved : goal.loop-row-preserved
 loop-row-preserved c =
-    let t = c.args.table.now in
+    let t = c.args.self.now.words.now in
     let here = some-found t c.args.line _ _ c.in-Some.ensures in
     let from = here.from_low in
     let e = c.in_ok-level.ensures in (

@@ -1,8 +1,0 @@
--- `levels::in_order` meets its contract. The invariant: the rows so far stand in order. Assumes nothing.
-use Rattle.std.proofs.Common.{◌≡◌}
-use Rattle.lines.proofs.OrderLaws.{Ordered}
-use Rattle.lines.specs.Lines.{rows}
-use Rattle.lines.proofs.levels.in_order.Given as goal
-
-abbrev pub invariant-loop-row : goal.invariant-loop-row
-invariant-loop-row l = (l.row-end ≡ rows l.table) × Ordered l.table l.row l.from l.next

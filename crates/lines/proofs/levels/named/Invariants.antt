@@ -1,7 +1,0 @@
--- `levels::named` meets its contract. The invariant: no row so far is of the line. Assumes nothing.
-use Rattle.std.proofs.Common.{◌≡◌, ℕ, ◌<◌, false}
-use Rattle.lines.specs.Lines.{rows, is_of}
-use Rattle.lines.proofs.levels.named.Given as goal
-
-abbrev pub invariant-loop-row : goal.invariant-loop-row
-invariant-loop-row l = (l.row-end ≡ rows l.table) × ((j : ℕ) → j < l.row → is_of l.table l.line j ≡ false)
