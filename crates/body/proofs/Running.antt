@@ -1,5 +1,6 @@
 -- The laws of a running body: what the early checks give, a fetch check by check, and `place_step` from what
 -- is fetched. Assumes nothing.
+use Rattle.model.specs.Types.{Ok, Err, Checked}
 use Prim.Native.Nat.{ℕ, ◌<◌}
 use mathlib.Core.Bool.{Bool, true, false}
 use mathlib.Core.List.{List}
@@ -14,7 +15,6 @@ use Rattle.model.specs.Program.{word, instructions, body_number, effect_at}
 use Rattle.model.specs.Store.{Store, view}
 use Rattle.model.specs.Test.{pick, ◌and◌, must, ◌then◌, in_turn, both}
 use Rattle.model.specs.declared.Body.{Body}
-use Rattle.model.specs.declared.Checked.{Checked}
 use Rattle.model.specs.declared.Device.{Device}
 use Rattle.model.specs.declared.Effect.{Effect}
 use Rattle.model.specs.declared.Place.{Place}

@@ -1,6 +1,7 @@
 -- A body at an instruction: what its steps rest on, what fetching its instruction gives. A fetch makes the
 -- checks of `body_sound` that hold for every place: those of a free place, which asks nothing of the instruction's effect.
 -- proofs/Running.antt has the laws that lead from the early checks to `Running`, and from a fetch to `place_step`. Assumes nothing.
+use Rattle.model.specs.Types.{Ok, Err, Checked}
 use Rattle.std.specs.Prelude.{ℕ, ◌≤◌, ◌<◌, List, ◌≡◌}
 use Rattle.model.specs.Check.{rows_inside_rule, row_usable, instruction_rule}
 use Rattle.model.specs.Device.{Outcome, end_stores, head_sound, named_row, open_sound, head_is, body_sound, act}
@@ -8,7 +9,6 @@ use Rattle.model.specs.Program.{word, tasks, bodies, body_number, effect_at}
 use Rattle.model.specs.Store.{Store}
 use Rattle.model.specs.Test.{must, ◌then◌}
 use Rattle.model.specs.declared.Body.{Body}
-use Rattle.model.specs.declared.Checked.{Checked}
 use Rattle.model.specs.declared.Device.{Device}
 use Rattle.model.specs.declared.Effect.{Effect}
 use Rattle.model.specs.declared.Place.{Place}

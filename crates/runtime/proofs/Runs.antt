@@ -1,4 +1,5 @@
 -- The laws of a run: a step that is refused ends it and changes nothing, one that isn't leaves the rest of the run. Assumes nothing.
+use Rattle.model.specs.Types.{Ok, Err, Checked}
 use Prim.Native.Nat.{ℕ, suc, ◌+◌, ◌≤◌}
 use mathlib.Core.Bool.{true, false}
 use mathlib.Core.List.{List}
@@ -12,9 +13,7 @@ use Rattle.model.specs.Calls.{RunOutcome, Step, call, unless_refused, is_refusal
 use Rattle.model.specs.Device.{Outcome, refuse, step}
 use Rattle.model.specs.Store.{memory_at, settled, stored_word}
 use Rattle.model.specs.declared.Answer.{Answer}
-use Rattle.model.specs.declared.Checked.{Checked}
 use Rattle.model.specs.declared.Device.{Device}
-use Rattle.model.specs.declared.Ended.{Ended}
 use Rattle.model.specs.declared.Refusal.{Refusal}
 use Rattle.model.specs.declared.Totals.{Totals}
 use Rattle.totals.proofs.CountLaws.{counted_is}

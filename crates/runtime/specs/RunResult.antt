@@ -1,16 +1,14 @@
 -- What a run leaves, from the code's result, as the value that is defined for it; what it promises is that the two are equal. Assumes
 -- nothing.
+use Rattle.model.specs.Types.{Ok, Err, Checked}
 use Rattle.std.specs.Prelude.{ℕ, Bool, true, false, List, ◌≡◌}
 use Rattle.device.specs.Result.{Result, device_with, of_outcome}
 use Rattle.device.specs.declared.Core.{Core}
 use Rattle.model.specs.Calls.{RunOutcome as Defined, run}
 use Rattle.model.specs.Device.{step}
 use Rattle.model.specs.declared.Answer.{Answer}
-use Rattle.model.specs.declared.Checked.{Checked}
 use Rattle.model.specs.declared.Device.{Device}
-use Rattle.model.specs.declared.Ended.{Ended}
 use Rattle.model.specs.declared.Handler.{Handler}
-use Rattle.model.specs.declared.Stored.{Stored}
 use Rattle.model.specs.declared.Totals.{Totals}
 use Rattle.runtime.specs.declared.CoreRunResult.{CoreRunResult}
 use Rattle.runtime.specs.declared.RunResult.{RunResult}

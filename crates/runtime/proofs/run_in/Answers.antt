@@ -1,5 +1,6 @@
 -- `run_in` meets its contract. The loop's invariant: what is left of the run, from here, is the run; where the early checks are known
 -- to pass, they do; before the first step, the step from here is the step, and after it, it is made. Assumes nothing.
+use Rattle.model.specs.Types.{Err}
 use Prim.Native.Nat.{ℕ, suc, ◌+◌, ◌-◌}
 use mathlib.Core.Path.{◌≡◌, refl, sym, ap, ◌∙◌}
 use native.Mathlib.Omega.{arith}
@@ -8,7 +9,6 @@ use Rattle.device.specs.Result.{Result, device_with}
 use Rattle.model.proofs.Words.{settled-length}
 use Rattle.model.specs.Calls.{run, run_from}
 use Rattle.model.specs.Device.{look, step}
-use Rattle.model.specs.declared.Ended.{Ended}
 use Rattle.model.specs.declared.Totals.{Totals}
 use Rattle.runtime.proofs.Runs.{unrefused, control-there, refusal_of, ended, run_spent, run_stops, run_goes}
 use Rattle.model.proofs.LookStays.{look_stays}

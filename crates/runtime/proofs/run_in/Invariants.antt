@@ -1,5 +1,6 @@
 -- `run_in` meets its contract. The loop's invariant: what is left of the run, from here, is the run; where the early checks are known
 -- to pass, they do; before the first step, the step from here is the step, and after it, it is made. Assumes nothing.
+use Rattle.model.specs.Types.{Ok}
 use Prim.Native.Nat.{ℕ, ◌-◌, ◌≤◌}
 use mathlib.Core.Bool.{true}
 use mathlib.Core.List.{List}
@@ -9,9 +10,7 @@ use Rattle.device.specs.Result.{Eight, Result, device_with, of_outcome}
 use Rattle.model.specs.Calls.{run, run_from}
 use Rattle.model.specs.Device.{look, step}
 use Rattle.model.specs.declared.Answer.{Answer}
-use Rattle.model.specs.declared.Checked.{Checked}
 use Rattle.model.specs.declared.Device.{Device}
-use Rattle.model.specs.declared.Stored.{Stored}
 use Rattle.runtime.proofs.run_in.Given as goal
 
 abbrev pub leaving : Answer → Stored → Device → List ℕ → Result

@@ -1,4 +1,5 @@
 -- `step_known` meets its contract: the early checks, made or known to pass, then the step. Assumes nothing.
+use Rattle.model.specs.Types.{Ok}
 use mathlib.Core.Path.{◌≡◌, sym, ap, ◌∙◌}
 use Rattle.device.specs.Result.{device_with, of_step, of_outcome}
 use Rattle.device.specs.declared.StepResult.{StepResult}
@@ -9,7 +10,6 @@ use Rattle.model.specs.Store.{settled, stored_word}
 use Rattle.runtime.proofs.step_known.Goals as goal
 use Rattle.runtime.proofs.step_known.Goals.{then-not-known+in_default, else-not-known}
 use Rattle.model.specs.Device.{look}
-use Rattle.model.specs.declared.Checked.{Checked}
 
 pub returns-in-Refused : goal.returns-in-Refused
 unfolding settled stored_word
