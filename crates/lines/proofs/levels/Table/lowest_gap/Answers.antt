@@ -1,8 +1,7 @@
 -- `levels::Table::lowest_gap` meets its contract: where no row covers a level it is the lowest, and a row that does is left behind. Assumes nothing.
-use Rattle.std.proofs.Common.{◌≡◌, ℕ, ◌+◌, ◌*◌, ◌<◌, ◌≤◌, arith}
+use Rattle.std.proofs.Common.{arith}
 use Rattle.model.proofs.TestLaws.{below_or}
 use Rattle.lines.proofs.LineLaws.{some-found, none-found, least-gap}
-use Rattle.lines.specs.Claims.{Covers}
 use Rattle.lines.specs.Lines.{levels}
 use Rattle.lines.proofs.levels.Table.lowest_gap.Goals as goal
 
