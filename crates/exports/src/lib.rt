@@ -60,6 +60,7 @@ pub fn runtime_boot(program: &[u16], store: &[u16], device: &mut [u16; 26], answ
 }
 
 // post: 1, 2, 3, 6, 7, 25, 22, then 8, 20, 21. It is a burst of one.
+#[tactic(auto, unfolding(model::specs::Burst::records_at, model::specs::Store::slot))]
 pub fn runtime_post(
     program: &[u16],
     store: &[u16],
@@ -110,6 +111,7 @@ pub fn runtime_cut(device: &mut [u16; 26], answer: &mut [u16; 5])
     tell(calls::cut(), device, answer);
 }
 
+#[tactic(auto, unfolding(crate::specs::Exported::totals_of))]
 fn totals_of(words: &[u32; 3]) -> Totals
     ensures { result ≡ totals_of words.now }
 {
@@ -120,6 +122,7 @@ fn totals_of(words: &[u32; 3]) -> Totals
     }
 }
 
+#[tactic(auto, unfolding(crate::specs::Exported::totals_words))]
 fn write_totals(words: &mut [u32; 3], totals: Totals)
     ensures { words.new ≡ totals_words totals }
 {
@@ -184,6 +187,7 @@ pub fn runtime_lines_check(table: &[u16], answer: &mut [u16; 5])
 }
 
 // Raising a line: 30, 31, 32; then nothing is posted, or the row's event is, with the level as data.
+#[tactic(auto, unfolding(words::specs::Words::checked_words))]
 pub fn runtime_raise(
     program: &[u16],
     store: &[u16],
