@@ -4,13 +4,22 @@
 // searches for a line and 65 for a row, of 64 looks each, and 2,016 pairs.
 ghost use Rattle.std.specs.Prelude.{◌+◌, ◌*◌, ◌<◌, ◌≤◌, eqb, ltb, Ok, Some, None, unwrap_or, true, ◌≡◌};
 ghost use Rattle.model.specs.Test.{pick};
-ghost use Rattle.lines.specs.Inside.{Whole, Partitioned, Least, Gap, SharedAt, SharedBelow, follows};
+ghost use Rattle.lines.specs.Inside.{Whole, Partitioned, Least, Gap, SharedAt, SharedBelow, follows, row_at};
 ghost use Rattle.lines.specs.Lines.{rows, covers, named, row_of, event_of, no_event, levels, gap_rule, overlap_rule, line_rule, line_rules};
 
 use model::Refusal;
 
 // The event of a row that posts nothing.
 const NO_EVENT: u16 = 65535;
+
+// A row: a line, its levels from the low to the high one, and their event.
+#[derive(Clone, Copy)]
+struct Row {
+    line: u16,
+    low: u16,
+    high: u16,
+    event: u16,
+}
 
 // A table that 30 accepts.
 #[derive(Clone, Copy)]
@@ -37,18 +46,30 @@ impl Table<'_> {
         self.words.len() / 4
     }
 
+    // A row by its number.
+    fn row(&self, i: usize) -> Row
+        requires { i < rows self.now.words.now }
+        ensures { result ≡ row_at self.now.words.now i }
+    {
+        Row {
+            line: self.words[4 * i],
+            low: self.words[4 * i + 1],
+            high: self.words[4 * i + 2],
+            event: self.words[4 * i + 3],
+        }
+    }
+
     // Whether a row goes on where the rows before it end: all of lines below `from`, the last of them of the levels below `next`.
     #[tactic(auto, using(model::proofs::TestLaws::tests), unfolding(crate::specs::Inside::follows, model::specs::Test::pick, model::specs::Test::both))]
     fn follows(&self, row: usize, from: u16, next: u32) -> bool
         requires { row < rows self.now.words.now }
         ensures { result ≡ follows self.now.words.now row from next }
     {
-        let line = self.words[4 * row];
-        let low = self.words[4 * row + 1];
+        let row = self.row(row);
         if next == 65536 {
-            line >= from && low == 0
+            row.line >= from && row.low == 0
         } else {
-            line + 1 == from && low as u32 == next
+            row.line + 1 == from && row.low as u32 == next
         }
     }
 
@@ -62,8 +83,9 @@ impl Table<'_> {
             if !self.follows(row, from, next) {
                 return false;
             }
-            from = self.words[4 * row] + 1;
-            next = self.words[4 * row + 2] as u32 + 1;
+            let row = self.row(row);
+            from = row.line + 1;
+            next = row.high as u32 + 1;
         }
         next == 65536
     }
@@ -74,8 +96,8 @@ impl Table<'_> {
         requires { row < rows self.now.words.now }
         ensures { result ≡ covers self.now.words.now line level row }
     {
-        let at = 4 * row;
-        self.words[at] == line && self.words[at + 1] <= level && level <= self.words[at + 2]
+        let row = self.row(row);
+        row.line == line && row.low <= level && level <= row.high
     }
 
     // The row that covers a level of a line, if there is one.
@@ -97,7 +119,7 @@ impl Table<'_> {
         ensures { result ≡ pick (eqb (event_of self.now.words.now line level) no_event) None (Some (event_of self.now.words.now line level)) }
     {
         let row = self.row_of(line, level)?;
-        let event = self.words[4 * row + 3];
+        let event = self.row(row).event;
         if event == NO_EVENT { None } else { Some(event) }
     }
 
@@ -106,7 +128,7 @@ impl Table<'_> {
         ensures { result ≡ named self.now.words.now line }
     {
         for row in 0..self.rows() {
-            if self.words[4 * row] == line {
+            if self.row(row).line == line {
                 return true;
             }
         }
@@ -123,7 +145,7 @@ impl Table<'_> {
             let Some(row) = self.row_of(line, level) else {
                 return Some(level);
             };
-            level = self.words[4 * row + 2].checked_add(1)?;
+            level = self.row(row).high.checked_add(1)?;
         }
     }
 
@@ -157,13 +179,12 @@ impl Table<'_> {
         requires { (row < rows self.now.words.now) × (other < rows self.now.words.now) }
         ensures { Least (SharedAt self.now.words.now row other) 1048576 result }
     {
-        let at = 4 * row;
-        let other_at = 4 * other;
-        let line = self.words[at];
-        let low = self.words[at + 1].max(self.words[other_at + 1]);
-        let high = self.words[at + 2].min(self.words[other_at + 2]);
-        if line == self.words[other_at] && low <= high {
-            place(line, low)
+        let row = self.row(row);
+        let other = self.row(other);
+        let low = row.low.max(other.low);
+        let high = row.high.min(other.high);
+        if row.line == other.line && low <= high {
+            place(row.line, low)
         } else {
             PAST_ALL
         }

@@ -7,7 +7,8 @@ use Rattle.lines.proofs.levels.Table.in_order.Goals as goal
 
 pub loop-row-preserved : goal.loop-row-preserved
 loop-row-preserved c =
-    let there : c.loop-row.row < rows c.args.self.now.words.now = omega arith in (
+    let there : c.loop-row.row < rows c.args.self.now.words.now = omega arith in
+    rw c.row-row.ensures (
       c.loop-row.invariant.0,
       ordered_next c.args.self.now.words.now _ _ _ c.loop-row.invariant.1 there (c.args.self.now.whole.in_order _ there) (sym c.follows.ensures ∙ c.if-not-follows.false),
     )
