@@ -13,7 +13,7 @@ ghost use Rattle.machine.specs.Makes.{made_of, told_as};
 
 use crate::Called;
 
-// No word was stored.
+// No word was stored: the answer's sixth word, as include/runtime.h has it.
 const NOTHING: u16 = 65535;
 
 // What is told in five words tells no store.
