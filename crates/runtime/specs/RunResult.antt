@@ -1,7 +1,7 @@
 -- What a run leaves, from the code's result, as the value that is defined for it; what it promises is that the two are equal. Assumes
 -- nothing.
 use Rattle.model.specs.Types.{Option, Checked}
-use Rattle.std.specs.Prelude.{ℕ, Bool, true, false, List, ◌≡◌}
+use Rattle.std.specs.Prelude.{ℕ, List, ◌≡◌}
 use Rattle.device.specs.Result.{Result, device_with, of_outcome}
 use Rattle.device.specs.declared.Core.{Core}
 use Rattle.model.specs.Calls.{RunOutcome as Defined, run}

@@ -1,6 +1,6 @@
 -- `run_in` meets its contract. The loop's invariant: what is left of the run, from here, is the run; where the early checks are known
 -- to pass, they do; before the first step, the step from here is the step, and after it, it is made. Assumes nothing.
-use Rattle.model.specs.Types.{Err}
+use Rattle.model.specs.Types.{Ok, Err}
 use Prim.Native.Nat.{ℕ, suc, ◌+◌, ◌-◌}
 use mathlib.Core.Path.{◌≡◌, refl, sym, ap, ◌∙◌}
 use native.Mathlib.Omega.{arith}
@@ -101,7 +101,10 @@ returns c =
     let n = c.loop-steps.steps in
     let d = device_with c.loop-steps.core c.loop-steps.registers c.loop-steps.handler c.loop-steps.burst in
     let e : 0 ≡ c.args.budget - n = omega (arith, c.loop-steps-test.false) in
+    let all : n ≡ c.args.budget = omega (arith, c.loop-steps-test.false, c.loop-steps.invariant.in_range) in
     record {
-      run = (sym (run_spent p n c.loop-steps.store d c.loop-steps.totals) ∙ ap (λ (k : ℕ). run_from p k n c.loop-steps.store d c.loop-steps.totals) e ∙ c.loop-steps.invariant.rest);
+      run =
+          ap (λ (m : ℕ). ended m (Ok tt) c.loop-steps.store d c.loop-steps.totals) (sym all)
+          ∙ (sym (run_spent p n c.loop-steps.store d c.loop-steps.totals) ∙ ap (λ (k : ℕ). run_from p k n c.loop-steps.store d c.loop-steps.totals) e ∙ c.loop-steps.invariant.rest);
       single = λ one. (c.loop-steps.invariant.behind_first (omega (arith, one, c.loop-steps-test.false, c.loop-steps.invariant.in_range)));
     }
