@@ -51,7 +51,7 @@ fn target(jumps: bool, operand: u16, place: u16) -> u16
 #[tactic(auto, unfolding(model::specs::Program::effect))]
 pub fn effect(instruction: Instruction, registers: &[u16; 8], place: u16) -> Effect
     requires registers { Registers instruction }
-    requires place_bound { place < 65535 }
+    requires has_next_place { place < 65535 }
     ensures { result ≡ effect instruction registers.now place }
 {
     match instruction {

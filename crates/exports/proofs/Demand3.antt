@@ -16,7 +16,7 @@ use Rattle.model.proofs.AllOrNone.{bursts_come_whole}
 use Rattle.model.proofs.Turns.{bodies-take-turns}
 use Rattle.model.proofs.Observed.{observed}
 use Rattle.model.proofs.Words.{fresh-device-words, words_stay_words, format_stays_words}
-use Rattle.model.specs.Burst.{single as singlePost}
+use Rattle.model.specs.Burst.{single as single_post}
 use Rattle.model.specs.Calls.{Call, Boot, Step, Cut, Post, Now, call, after_calls, steps, no_totals, counted, totals_after, RunOutcome as Defined, run}
 use Rattle.model.specs.Claims.{TypedWords, TypedDevice, TypedCall, IsSteps, AreCounts}
 use Rattle.model.specs.Demand3.{Left, recovery_steps, recovering}
@@ -174,8 +174,8 @@ module _ (p : List ℕ) (ps : TypedWords p) (l q : ℕ) (before : List ℕ) (e :
     did_raise v a g (Err r) u w (said, device) store totals = (said, at-unchanged g device store totals)
     did_raise v a g (Ok None) u w (said, device) store totals = (said, at-unchanged g device store totals)
     did_raise v a g (Ok (Some e)) u w posts store totals =
-        let o = did_single (Post (singlePost e v)) a g (posts, store, totals, (w, u, tt)) in
-        (o.answered, at-single (Post (singlePost e v)) a g (w, u, tt) o)
+        let o = did_single (Post (single_post e v)) a g (posts, store, totals, (w, u, tt)) in
+        (o.answered, at-single (Post (single_post e v)) a g (w, u, tt) o)
 
     -- ---- an exported call
 

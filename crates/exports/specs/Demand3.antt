@@ -8,7 +8,7 @@ use Rattle.std.specs.Prelude.{ℕ, ◌^◌, ◌<◌, replicate, List, [], ◌∷
 use Rattle.exports.specs.Exported.{HostState, host_state, Formats, Boots, Posts, Cuts, Steps, Runs, Raises, words_of, totals_of}
 use Rattle.lines.specs.Lines.{Posting, posting, raise_calls}
 use Rattle.model.specs.AllOrNone.{ComeWhole}
-use Rattle.model.specs.Burst.{single as singlePost}
+use Rattle.model.specs.Burst.{single as single_post}
 use Rattle.model.specs.Calls.{Call, Boot, Step, Cut, Post, call, after_calls, steps, no_totals, totals_after, run}
 use Rattle.model.specs.Claims.{TypedWords, TypedCall, AreCounts}
 use Rattle.model.specs.Demand3.{Left, recovery_steps, Observed}
@@ -62,7 +62,7 @@ AnsweredCall p s cs c a =
 abbrev pub AnsweredPosting : List ℕ → List ℕ → List Call → ℕ → List ℕ → Posting → Type 0
 AnsweredPosting p s cs v a (Err r) = a ≡ refused_words r
 AnsweredPosting p s cs v a (Ok None) = a ≡ nothing_posted_words
-AnsweredPosting p s cs v a (Ok (Some e)) = AnsweredCall p s cs (Post (singlePost e v)) a
+AnsweredPosting p s cs v a (Ok (Some e)) = AnsweredCall p s cs (Post (single_post e v)) a
 
 abbrev pub Answered : List ℕ → List ℕ → List Call → Exchange → Type 0
 Answered p s cs (single c a) = AnsweredCall p s cs c a

@@ -15,7 +15,7 @@ use Rattle.model.specs.declared.Answer.{Answer}
 use Rattle.model.specs.declared.Device.{Device}
 use Rattle.model.specs.declared.Totals.{Totals}
 use Rattle.words.specs.Words.{device_of, known, unknown, device_words, answer_words, ended_words, refused_words, checked_words, unknown_words, nothing_posted_words, step_words, unknown_step_words}
-use Rattle.lines.specs.Lines.{Posting, check as linesCheck, posting}
+use Rattle.lines.specs.Lines.{Posting, check as lines_check, posting}
 
 -- what a host holds: the store's words, the device's 26 words and the totals' three numbers
 pub record HostState : Type 0 where
@@ -80,7 +80,7 @@ Posts p s x rs a y = OnDevice x (λ d. TellsCall (Post rs) s (post p s d rs) a y
 
 -- runtime_lines_check of a line table
 abbrev pub LinesChecks : List ℕ → List ℕ → Type 0
-LinesChecks table a = a ≡ checked_words (linesCheck table)
+LinesChecks table a = a ≡ checked_words (lines_check table)
 
 -- runtime_raise of a line at level v: runtime_post, of the event that the table has there with v as its data; where the table is refused or has
 -- no event there, the answer says so, and the device words stay whatever they are

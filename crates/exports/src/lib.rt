@@ -111,6 +111,7 @@ pub fn runtime_cut(device: &mut [u16; 26], answer: &mut [u16; 5])
     tell(calls::cut(), device, answer);
 }
 
+// Totals and their words. Both types are other crates', so no `From` can stand here.
 #[tactic(auto, unfolding(crate::specs::Exported::totals_of))]
 fn totals_of(words: &[u32; 3]) -> Totals
     ensures { result ≡ totals_of words.now }

@@ -4,7 +4,7 @@ use Rattle.model.specs.Types.{Err, None, Ok, Some}
 use Rattle.model.specs.declared.Record.{Record}
 use Rattle.std.specs.Prelude.{ℕ, zero, suc, ◌+◌, ◌-◌, ◌*◌, ◌%◌, min, List, [], ◌∷◌, ◌++◌, eqb, length, take, drop, set, replicate}
 use Rattle.exports.specs.Exported.{HostState, host_state, totals_of, totals_words}
-use Rattle.lines.specs.Lines.{Posting, check as linesCheck, posting}
+use Rattle.lines.specs.Lines.{Posting, check as lines_check, posting}
 use Rattle.model.specs.Burst.{carried, single}
 use Rattle.model.specs.Calls.{counted, run}
 use Rattle.model.specs.Check.{check}
@@ -114,7 +114,7 @@ calls p h kind ns =
     (pick (eqb kind post_call) (posts p h (single (word ns 0) (word ns 1)))
     (pick (eqb kind burst_call) (posts p h (carried (drop 1 ns) (word ns 0)))
     (pick (eqb kind run_call) (runs p h (word ns 0))
-    (pick (eqb kind lines_check_call) (answered (checked_words (linesCheck ns)) h)
+    (pick (eqb kind lines_check_call) (answered (checked_words (lines_check ns)) h)
     (raises p h (drop 2 ns) (word ns 0) (word ns 1))))))))))
 
 -- ---- "damage"

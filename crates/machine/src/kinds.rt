@@ -1,9 +1,9 @@
 // A call of each kind, made by the exported library on program, store, device words and totals.
 ghost use Rattle.std.specs.Prelude.{length, drop, ◌≡◌};
 ghost use Rattle.exports.specs.Exported.{host_state};
-ghost use Rattle.lines.specs.Lines.{check as linesCheck};
+ghost use Rattle.lines.specs.Lines.{check as table_check_of};
 ghost use Rattle.model.specs.Burst.{carried, single};
-ghost use Rattle.model.specs.Check.{check as checkOf};
+ghost use Rattle.model.specs.Check.{check as check_of};
 ghost use Rattle.model.specs.Device.{off};
 ghost use Rattle.model.specs.Program.{word as word_of};
 ghost use Rattle.model.specs.declared.Answer.{Answer};
@@ -13,7 +13,7 @@ ghost use Rattle.machine.specs.Makes.{made_of, told_as};
 
 use crate::Called;
 
-// No word was stored.
+// No word was stored: the answer's sixth word, as include/runtime.h has it.
 const NOTHING: u16 = 65535;
 
 // What is told in five words tells no store.
@@ -31,7 +31,7 @@ fn told(answer: [u16; 5], steps: u32, device: [u16; 26], totals: [u32; 3]) -> Ca
 }
 
 pub fn check(program: &[u16], device: [u16; 26], totals: [u32; 3]) -> Called
-    ensures { result ≡ told_as (checked_words (checkOf program.now)) 0 device totals }
+    ensures { result ≡ told_as (checked_words (check_of program.now)) 0 device totals }
 {
     let mut answer = [0u16; 5];
     exports::runtime_check(program, &mut answer);
@@ -152,7 +152,7 @@ pub fn run(
 }
 
 pub fn lines_check(table: &[u16], device: [u16; 26], totals: [u32; 3]) -> Called
-    ensures { result ≡ told_as (checked_words (linesCheck table.now)) 0 device totals }
+    ensures { result ≡ told_as (checked_words (table_check_of table.now)) 0 device totals }
 {
     let mut answer = [0u16; 5];
     exports::runtime_lines_check(table, &mut answer);

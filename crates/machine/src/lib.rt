@@ -55,7 +55,7 @@ impl From<u64> for Kind {
     }
 }
 
-// A call of the runtime, on the words of program and store.
+// A call of the runtime, on the words of program and store. Its number is taken as a list has it: any number is some call.
 pub fn call(
     kind: u64,
     budget: u32,

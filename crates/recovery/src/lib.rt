@@ -3,7 +3,7 @@
 #![tactic(auto)]
 
 ghost use Rattle.std.specs.Prelude.{◌≡◌};
-ghost use Rattle.model.specs.Calls.{finish as finishOf, recovery};
+ghost use Rattle.model.specs.Calls.{finish as finish_of, recovery};
 ghost use Rattle.model.specs.Demand3.{recovery_steps};
 ghost use Rattle.model.specs.Program.{word as word_of};
 ghost use Rattle.model.specs.Store.{view};
@@ -40,7 +40,7 @@ fn finish(
     device: Device,
     allowed: u32,
 ) -> Result<Option<u32>, Refusal>
-    ensures { recovery_of result store.new ≡ finishOf program.now allowed 0 store.old device }
+    ensures { recovery_of result store.new ≡ finish_of program.now allowed 0 store.old device }
 {
     let mut state = device;
     for made in 0..allowed {

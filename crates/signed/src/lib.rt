@@ -33,8 +33,8 @@ fn power(exponent: u16) -> i32
 
 // A number divided by a power of two, rounded down.
 fn divided(number: i32, exponent: u16) -> i32
-    requires number_bound { mag number < 32768 }
-    requires exponent_bound { exponent < 16 }
+    requires small_number { mag number < 32768 }
+    requires small_exponent { exponent < 16 }
     ensures { result ≡ shr_z number (2 ^ exponent) }
 {
     number.div_euclid(power(exponent))

@@ -1,5 +1,6 @@
 // Device states, answers and refusals as words and back, for a boundary that no enum crosses. specs/Words.antt has both tables.
 // Every contract is an equation for all inputs: of 26 words it is told whether they are a device state's.
+// Each conversion is a function and no `From`: the types are crate model's and arrays are std's, so no impl of theirs can stand here.
 
 #![tactic(auto)]
 
@@ -292,6 +293,8 @@ pub fn write_checked(words: &mut [u16; 5], found: Result<(), Refusal>)
         Err(why) => refused_words(why),
     };
 }
+
+// The next two differ in a number. It is the C interface's: each has a name, so that no caller writes one.
 
 // A raise posts nothing.
 #[tactic(auto, unfolding(crate::specs::Words::nothing_posted_words))]
