@@ -8,7 +8,7 @@ use Rattle.recovery.proofs.recover.Goals as goal
 
 pub returns-in_err-refusal : goal.returns-in_err-refusal
 unfolding fresh
-returns-in_err-refusal c = sym (recovery_stops _ _ _ c.boot-booted.ensures (sym c.refusal.ensures ∙ c.in_err-refusal.was))
+returns-in_err-refusal c = rw c.from_residual.ensures (sym (recovery_stops _ _ _ c.boot-booted.ensures (sym c.refusal.ensures ∙ c.in_err-refusal.was)))
 
 pub returns : goal.returns
 unfolding fresh
