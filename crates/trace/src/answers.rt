@@ -3,60 +3,50 @@ ghost use Rattle.std.specs.Prelude.{◌+◌, ◌≤◌, length, get_or, [], ◌�
 ghost use Rattle.model.specs.Test.{pick};
 ghost use Rattle.script.specs.Script.{names};
 ghost use Rattle.text.specs.Puts.{Puts};
-ghost use Rattle.text.specs.Text.{spaced as spacedOf};
+ghost use Rattle.text.specs.Text.{spaced as spaced_of};
 ghost use Rattle.trace.specs.Trace.{shown_numbers, call_text, body_text, accepted_text, refused_text, answer_text, answer_cell};
 
-use crate::layout::{field, less};
+use crate::layout::field;
 use text::{decimal, put, spaced};
 
 const RUN: u64 = 11;
 
 const SET_PROGRAM: u64 = 14;
 
-// The name of call n + 1 where it is no call of the runtime; nothing behind the last.
-fn other_name(text: &mut [u8], at: usize, n: usize) -> usize
-    requires { (at + 14 ≤ length text.old) × (13 ≤ n) }
-    ensures puts { Puts text.old at text.new result (get_or names n []) }
-    ensures upper_bound { result ≤ at + 14 }
-{
-    match n {
-        13 => put(text, at, b"set-program"),
-        14 => put(text, at, b"set-store"),
-        15 => put(text, at, b"program-length"),
-        16 => put(text, at, b"store-length"),
-        17 => put(text, at, b"set-device"),
-        18 => put(text, at, b"set-totals"),
-        19 => put(text, at, b"keep"),
-        20 => put(text, at, b"restore"),
-        _ => at,
-    }
-}
-
 // The name of call n + 1; nothing behind the last.
-fn call_name(text: &mut [u8], at: usize, n: usize) -> usize
-    requires { at + 14 ≤ length text.old }
-    ensures puts { Puts text.old at text.new result (get_or names n []) }
-    ensures upper_bound { result ≤ at + 14 }
+#[tactic(auto, unfolding(script::specs::Script::names))]
+fn call_name(n: usize) -> &'static [u8]
+    ensures name { result.now ≡ get_or names n [] }
+    ensures length_bound { length result.now ≤ 14 }
 {
     match n {
-        0 => put(text, at, b"program"),
-        1 => put(text, at, b"sizes"),
-        2 => put(text, at, b"totals"),
-        3 => put(text, at, b"check"),
-        4 => put(text, at, b"format"),
-        5 => put(text, at, b"boot"),
-        6 => put(text, at, b"step"),
-        7 => put(text, at, b"cut"),
-        8 => put(text, at, b"post"),
-        9 => put(text, at, b"burst"),
-        10 => put(text, at, b"run"),
-        11 => put(text, at, b"lines-check"),
-        12 => put(text, at, b"raise"),
-        13.. => other_name(text, at, n),
+        0 => b"program",
+        1 => b"sizes",
+        2 => b"totals",
+        3 => b"check",
+        4 => b"format",
+        5 => b"boot",
+        6 => b"step",
+        7 => b"cut",
+        8 => b"post",
+        9 => b"burst",
+        10 => b"run",
+        11 => b"lines-check",
+        12 => b"raise",
+        13 => b"set-program",
+        14 => b"set-store",
+        15 => b"program-length",
+        16 => b"store-length",
+        17 => b"set-device",
+        18 => b"set-totals",
+        19 => b"keep",
+        20 => b"restore",
+        21.. => b"",
     }
 }
 
 // How many of its numbers are shown.
+#[tactic(auto, unfolding(crate::specs::Trace::shown_numbers, crate::specs::Trace::shown_counts))]
 fn shown_numbers(kind: usize) -> u8
     ensures { result ≡ shown_numbers kind }
 {
@@ -65,9 +55,10 @@ fn shown_numbers(kind: usize) -> u8
 }
 
 // A number behind a space, if it is shown.
+#[tactic(auto, using(text::proofs::TextLaws::puts), unfolding(text::specs::Text::spaced, model::specs::Test::pick))]
 fn shown(text: &mut [u8], at: usize, used: bool, n: u64) -> usize
     requires { at + 21 ≤ length text.old }
-    ensures puts { Puts text.old at text.new result (pick used (spacedOf n) []) }
+    ensures puts { Puts text.old at text.new result (pick used (spaced_of n) []) }
     ensures upper_bound { result ≤ at + 21 }
 {
     if used {
@@ -77,17 +68,19 @@ fn shown(text: &mut [u8], at: usize, used: bool, n: u64) -> usize
     at
 }
 
+#[tactic(auto, using(text::proofs::TextLaws::puts), unfolding(crate::specs::Trace::call_text))]
 pub fn call_text(text: &mut [u8], at: usize, kind: u64, first: u64, second: u64) -> usize
     requires { at + 56 ≤ length text.old }
     ensures puts { Puts text.old at text.new result (call_text kind first second) }
     ensures upper_bound { result ≤ at + 56 }
 {
     let count = shown_numbers(kind as usize);
-    let end = call_name(text, at, less(kind as usize, 1));
+    let end = put(text, at, call_name((kind as usize).saturating_sub(1)));
     let end = shown(text, end, 1 <= count, first);
     shown(text, end, 2 <= count, second)
 }
 
+#[tactic(auto, using(text::proofs::TextLaws::puts, model::proofs::TestLaws::tests), unfolding(crate::specs::Trace::body_text, crate::specs::Trace::field, model::specs::Test::pick))]
 fn body_text(text: &mut [u8], at: usize, answer: &[u16; 6]) -> usize
     requires { at + 27 ≤ length text.old }
     ensures puts { Puts text.old at text.new result (body_text answer.now) }
@@ -99,6 +92,7 @@ fn body_text(text: &mut [u8], at: usize, answer: &[u16; 6]) -> usize
     field(text, at, b" event", answer[2])
 }
 
+#[tactic(auto, using(text::proofs::TextLaws::puts, model::proofs::TestLaws::tests), unfolding(crate::specs::Trace::accepted_text, model::specs::Test::pick))]
 fn accepted_text(text: &mut [u8], at: usize, answer: &[u16; 6]) -> usize
     requires { at + 59 ≤ length text.old }
     ensures puts { Puts text.old at text.new result (accepted_text answer.now) }
@@ -112,6 +106,7 @@ fn accepted_text(text: &mut [u8], at: usize, answer: &[u16; 6]) -> usize
     put(text, at, b"accepted")
 }
 
+#[tactic(auto, using(text::proofs::TextLaws::puts), unfolding(crate::specs::Trace::refused_text))]
 fn refused_text(text: &mut [u8], at: usize, answer: &[u16; 6]) -> usize
     requires { at + 70 ≤ length text.old }
     ensures puts { Puts text.old at text.new result (refused_text answer.now) }
@@ -150,6 +145,7 @@ fn answer_text(text: &mut [u8], at: usize, answer: &[u16; 6]) -> usize
 }
 
 // What a call of this kind answered, a run behind its steps; nothing of what is no call of the runtime.
+#[tactic(auto, using(text::proofs::TextLaws::puts, model::proofs::TestLaws::tests), unfolding(crate::specs::Trace::answer_cell, model::specs::Test::pick))]
 pub fn answer_cell(text: &mut [u8], at: usize, kind: u64, steps: u32, answer: &[u16; 6]) -> usize
     requires { at + 98 ≤ length text.old }
     ensures puts { Puts text.old at text.new result (answer_cell kind steps answer.now) }
