@@ -1,5 +1,5 @@
 // The names of a list's lines.
-ghost use Rattle.std.specs.Prelude.{◌≡◌};
+ghost use Rattle.std.specs.Prelude.{◌≤◌, ◌≡◌, length};
 ghost use Rattle.script.specs.Script.{name_number, same as same_bytes};
 ghost use Rattle.script.specs.Reads.{kind_of, text_of};
 
@@ -57,7 +57,8 @@ impl Name {
     // Its bytes in a list.
     #[tactic(auto, unfolding(crate::specs::Reads::text_of, crate::specs::Reads::number_of, crate::specs::Script::names))]
     pub fn text(self) -> &'static [u8]
-        ensures { result.now ≡ text_of self }
+        ensures text { result.now ≡ text_of self }
+        ensures length_bound { length result.now ≤ 14 }
     {
         match self {
             Name::Program => b"program",

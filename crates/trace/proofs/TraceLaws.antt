@@ -1,46 +1,15 @@
--- Laws of what is printed: a text that is chosen by a test, or put at the beginning of a text of its own; how many names there are; a cell more, a
--- line more. Assumes nothing.
+-- Laws of what is printed: a cell more, a line more. Assumes nothing.
 use Prim.Native.Nat.{ℕ, ◌+◌, ◌<◌}
 use mathlib.Core.Bool.{Bool}
 use mathlib.Core.List.{List, [], ◌∷◌, ◌++◌, append_assoc, append-nil}
 use mathlib.Core.Path.{◌≡◌, refl, sym, ap, ◌∙◌}
 use native.Mathlib.Numerals.{add-one}
-use native.Mathlib.Omega.{arith}
 use lib.ListN.{length, get_or, take}
 use lib.Seq.{take-suc}
-use Rattle.script.specs.Script.{names}
 use Rattle.text.proofs.TextLaws.{puts_as, puts_nothing, puts_then}
 use Rattle.text.specs.Puts.{Puts}
 use Rattle.text.specs.Text.{decimal}
-use Rattle.trace.specs.Trace.{tab, decimal_cells, memory_line, memory_lines, line, control_names, wrong_texts, answer_texts}
-
--- ---- a text that was put at the beginning of a text of its own
-
-pub own_length : {t u : List ℕ} {m : ℕ} {xs : List ℕ} → Puts t 0 u m xs → length (take m u) ≡ m
-own_length {xs = xs} a = ap length a.text ∙ omega (arith, a.ends)
-
--- ---- how many names, answers and mistakes there are
-
-pub names-length : length names ≡ 21
-unfolding names
-names-length = refl
-
-pub controls-length : length control_names ≡ 9
-unfolding control_names
-controls-length = refl
-
-pub wrongs_length : length wrong_texts ≡ 6
-unfolding wrong_texts
-wrongs_length = refl
-
-pub answers-length : (a : List ℕ) → length (answer_texts a) ≡ 9
-unfolding answer_texts
-answers-length a = refl
-
--- ---- a line by its texts
-
-pub same_line : {call call' answer answer' : List ℕ} (tabs : Bool) (n : ℕ) (s : List ℕ) (i : ℕ) → call ≡ call' → answer ≡ answer' → line tabs n call answer s i ≡ line tabs n call' answer' s i
-same_line tabs n s i e f = rw (e, f)
+use Rattle.trace.specs.Trace.{tab, decimal_cells, memory_line, memory_lines}
 
 -- ---- one cell more, one line more
 

@@ -1,83 +1,53 @@
 // A call as it is printed, and its answer, each put at a place of the text; a function answers where what it put ends.
-ghost use Rattle.std.specs.Prelude.{◌+◌, ◌≤◌, length, get_or, [], ◌≡◌};
-ghost use Rattle.model.specs.Test.{pick};
-ghost use Rattle.script.specs.Script.{names};
+ghost use Rattle.std.specs.Prelude.{◌+◌, ◌≤◌, length, ◌≡◌};
+ghost use Rattle.script.specs.Reads.{number_of};
 ghost use Rattle.text.specs.Puts.{Puts};
 ghost use Rattle.text.specs.Text.{spaced as spaced_of};
 ghost use Rattle.trace.specs.Trace.{shown_numbers, call_text, body_text, accepted_text, refused_text, answer_text, answer_cell};
 
 use crate::layout::field;
+use script::Name;
 use text::{decimal, put, spaced};
 
-const RUN: u64 = 11;
-
-const SET_PROGRAM: u64 = 14;
-
-// The name of call n + 1; nothing behind the last.
-#[tactic(auto, unfolding(script::specs::Script::names))]
-fn call_name(n: usize) -> &'static [u8]
-    ensures name { result.now ≡ get_or names n [] }
-    ensures length_bound { length result.now ≤ 14 }
+// How many of its numbers are shown.
+#[tactic(auto, unfolding(crate::specs::Trace::shown_numbers, crate::specs::Trace::shown_counts, script::specs::Reads::number_of))]
+fn shown_numbers(name: Name) -> u8
+    ensures { result ≡ shown_numbers (number_of name) }
 {
-    match n {
-        0 => b"program",
-        1 => b"sizes",
-        2 => b"totals",
-        3 => b"check",
-        4 => b"format",
-        5 => b"boot",
-        6 => b"step",
-        7 => b"cut",
-        8 => b"post",
-        9 => b"burst",
-        10 => b"run",
-        11 => b"lines-check",
-        12 => b"raise",
-        13 => b"set-program",
-        14 => b"set-store",
-        15 => b"program-length",
-        16 => b"store-length",
-        17 => b"set-device",
-        18 => b"set-totals",
-        19 => b"keep",
-        20 => b"restore",
-        21.. => b"",
+    match name {
+        Name::Format | Name::Post | Name::Raise | Name::SetProgram | Name::SetStore => 2,
+        Name::Burst | Name::Run | Name::ProgramLength | Name::StoreLength => 1,
+        _ => 0,
     }
 }
 
-// How many of its numbers are shown.
-#[tactic(auto, unfolding(crate::specs::Trace::shown_numbers, crate::specs::Trace::shown_counts))]
-fn shown_numbers(kind: usize) -> u8
-    ensures { result ≡ shown_numbers kind }
-{
-    let shown = [0u8, 0, 0, 0, 0, 2, 0, 0, 0, 2, 1, 1, 0, 2, 2, 2, 1, 1];
-    if kind < 18 { shown[kind] } else { 0 }
-}
-
-// A number behind a space, if it is shown.
-#[tactic(auto, using(text::proofs::TextLaws::puts), unfolding(text::specs::Text::spaced, model::specs::Test::pick))]
-fn shown(text: &mut [u8], at: usize, used: bool, n: u64) -> usize
+// A number behind a space.
+#[tactic(auto, using(text::proofs::TextLaws::puts), unfolding(text::specs::Text::spaced))]
+fn shown(text: &mut [u8], at: usize, n: u64) -> usize
     requires { at + 21 ≤ length text.old }
-    ensures puts { Puts text.old at text.new result (pick used (spaced_of n) []) }
+    ensures puts { Puts text.old at text.new result (spaced_of n) }
     ensures upper_bound { result ≤ at + 21 }
 {
-    if used {
-        let end = put(text, at, b" ");
-        return decimal(text, end, n);
-    }
-    at
+    let end = put(text, at, b" ");
+    decimal(text, end, n)
 }
 
-#[tactic(auto, using(text::proofs::TextLaws::puts), unfolding(crate::specs::Trace::call_text))]
-pub fn call_text(text: &mut [u8], at: usize, kind: u64, first: u64, second: u64) -> usize
+#[tactic(auto, using(text::proofs::TextLaws::puts, model::proofs::TestLaws::tests), unfolding(crate::specs::Trace::call_text, script::specs::Reads::text_of, model::specs::Test::pick))]
+pub fn call_text(text: &mut [u8], at: usize, name: Name, first: u64, second: u64) -> usize
     requires { at + 56 ≤ length text.old }
-    ensures puts { Puts text.old at text.new result (call_text kind first second) }
+    ensures puts { Puts text.old at text.new result (call_text (number_of name) first second) }
     ensures upper_bound { result ≤ at + 56 }
 {
-    let count = shown_numbers(kind as usize);
-    let end = put(text, at, call_name((kind as usize).saturating_sub(1)));
-    let end = shown(text, end, 1 <= count, first);
-    shown(text, end, 2 <= count, second)
+    let count = shown_numbers(name);
+    let end = put(text, at, name.text());
+    if count < 1 {
+        return end;
+    }
+    let end = shown(text, end, first);
+    if count < 2 {
+        return end;
+    }
+    shown(text, end, second)
 }
 
 #[tactic(auto, using(text::proofs::TextLaws::puts, model::proofs::TestLaws::tests), unfolding(crate::specs::Trace::body_text, crate::specs::Trace::field, model::specs::Test::pick))]
@@ -118,6 +88,7 @@ fn refused_text(text: &mut [u8], at: usize, answer: &[u16; 6]) -> usize
     spaced(text, end, answer[4])
 }
 
+#[tactic(auto, using(text::proofs::TextLaws::puts), unfolding(crate::specs::Trace::answer_text, crate::specs::Trace::answer_texts))]
 fn answer_text(text: &mut [u8], at: usize, answer: &[u16; 6]) -> usize
     requires { at + 70 ≤ length text.old }
     ensures puts { Puts text.old at text.new result (answer_text answer.now) }
@@ -144,20 +115,22 @@ fn answer_text(text: &mut [u8], at: usize, answer: &[u16; 6]) -> usize
     }
 }
 
-// What a call of this kind answered, a run behind its steps; nothing of what is no call of the runtime.
-#[tactic(auto, using(text::proofs::TextLaws::puts, model::proofs::TestLaws::tests), unfolding(crate::specs::Trace::answer_cell, model::specs::Test::pick))]
-pub fn answer_cell(text: &mut [u8], at: usize, kind: u64, steps: u32, answer: &[u16; 6]) -> usize
+// What a call of this name answered, a run behind its steps; nothing of what is no call of the runtime.
+#[tactic(auto, using(text::proofs::TextLaws::puts), unfolding(crate::specs::Trace::answer_cell, script::specs::Reads::number_of, model::specs::Test::pick))]
+pub fn answer_cell(text: &mut [u8], at: usize, name: Name, steps: u32, answer: &[u16; 6]) -> usize
     requires { at + 98 ≤ length text.old }
-    ensures puts { Puts text.old at text.new result (answer_cell kind steps answer.now) }
+    ensures puts { Puts text.old at text.new result
+        (answer_cell (number_of name) steps answer.now) }
     ensures upper_bound { result ≤ at + 98 }
 {
-    if SET_PROGRAM <= kind {
-        return at;
+    match name {
+        Name::Run => {
+            let end = decimal(text, at, steps as u64);
+            let end = put(text, end, b" steps, ");
+            answer_text(text, end, answer)
+        }
+        Name::SetProgram | Name::SetStore | Name::ProgramLength | Name::StoreLength => at,
+        Name::SetDevice | Name::SetTotals | Name::Keep | Name::Restore => at,
+        _ => answer_text(text, at, answer),
     }
-    if kind == RUN {
-        let end = decimal(text, at, steps as u64);
-        let end = put(text, end, b" steps, ");
-        return answer_text(text, end, answer);
-    }
-    answer_text(text, at, answer)
 }

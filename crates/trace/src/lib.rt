@@ -2,12 +2,14 @@
 
 #![tactic(auto)]
 
-ghost use Rattle.std.specs.Prelude.{◌+◌, ◌≤◌, length, get_or, [], ◌≡◌};
+ghost use Rattle.std.specs.Prelude.{◌+◌, ◌-◌, ◌≤◌, length, get_or, [], ◌≡◌};
+ghost use Rattle.script.specs.Reads.{number_of, number_of_mistake};
 ghost use Rattle.text.specs.Puts.{Puts};
 ghost use Rattle.trace.specs.Trace.{columns, cells, line, call_line, wrong_texts, unread_line, header};
 
 use answers::{answer_cell, call_text};
 use layout::{aligned, padded};
+use script::{Mistake, Name};
 use stored::{NOTHING, stored_cells, stored_column};
 use text::{decimal, put};
 
@@ -100,7 +102,7 @@ pub fn call_line(
     at: usize,
     tabs: bool,
     number: u64,
-    kind: u64,
+    name: Name,
     first: u64,
     second: u64,
     steps: u32,
@@ -109,13 +111,13 @@ pub fn call_line(
 ) -> usize
     requires { at + 512 ≤ length text.old }
     ensures puts { Puts text.old at text.new result
-        (call_line tabs number kind first second steps answer.now store.now) }
+        (call_line tabs number (number_of name) first second steps answer.now store.now) }
     ensures upper_bound { result ≤ at + 512 }
 {
     let mut call = [0u8; 56];
-    let call_end = call_text(&mut call, 0, kind, first, second);
+    let call_end = call_text(&mut call, 0, name, first, second);
     let mut told = [0u8; 98];
-    let told_end = answer_cell(&mut told, 0, kind, steps, answer);
+    let told_end = answer_cell(&mut told, 0, name, steps, answer);
     line(
         text,
         at,
@@ -128,28 +130,28 @@ pub fn call_line(
     )
 }
 
-// What is wrong, by its number less 1; nothing behind the last.
+// What is told of a mistake.
 #[tactic(auto, unfolding(crate::specs::Trace::wrong_texts))]
-fn wrong_text(n: usize) -> &'static [u8]
-    ensures text { result.now ≡ get_or wrong_texts n [] }
+fn wrong_text(mistake: Mistake) -> &'static [u8]
+    ensures text { result.now ≡ get_or wrong_texts (number_of_mistake mistake - 1) [] }
     ensures length_bound { length result.now ≤ 28 }
 {
-    match n {
-        0 => b"no call has this name",
-        1 => b"one number too many",
-        2 => b"a number has only digits",
-        3 => b"a number is too large",
-        4 => b"a number is missing",
-        5 => b"this stands before the calls",
-        6.. => b"",
+    match mistake {
+        Mistake::NameUnknown => b"no call has this name",
+        Mistake::NumberMany => b"one number too many",
+        Mistake::NumberForm => b"a number has only digits",
+        Mistake::NumberLarge => b"a number is too large",
+        Mistake::NumberMissing => b"a number is missing",
+        Mistake::HeadingLate => b"this stands before the calls",
     }
 }
 
 // The line of what can't be read.
 #[tactic(auto, unfolding(crate::specs::Trace::unread_line))]
-pub fn unread_line(text: &mut [u8], at: usize, tabs: bool, number: u64, wrong: u64) -> usize
+pub fn unread_line(text: &mut [u8], at: usize, tabs: bool, number: u64, mistake: Mistake) -> usize
     requires { at + 512 ≤ length text.old }
-    ensures puts { Puts text.old at text.new result (unread_line tabs number wrong) }
+    ensures puts { Puts text.old at text.new result
+        (unread_line tabs number (number_of_mistake mistake)) }
     ensures upper_bound { result ≤ at + 512 }
 {
     line(
@@ -158,7 +160,7 @@ pub fn unread_line(text: &mut [u8], at: usize, tabs: bool, number: u64, wrong: u
         tabs,
         number,
         b"unread",
-        wrong_text((wrong as usize).saturating_sub(1)),
+        wrong_text(mistake),
         &[],
         NOTHING,
     )

@@ -7,7 +7,7 @@ ghost use Rattle.trace.specs.Trace.{control_names, pair_name, word_name, name_in
 use crate::layout::{field, tabbed};
 use text::{decimal, put, spaced};
 
-// No word's index: nothing was stored.
+// No word's index: nothing was stored. It stays a number, as the answer's words have it (the C interface).
 pub const NOTHING: u16 = 65535;
 
 // A word of the store; 0 where there is none.
