@@ -87,8 +87,14 @@ fn row(
     call: Call,
     mistake: Mistake,
 ) -> io::Result<Runs> {
-    let right = node::call(program, right_store, before.right, call, None);
-    let mistaken = node::call(program, mistaken_store, before.mistaken, call, Some(mistake));
+    let right = node::make(program, right_store, before.right, call, None);
+    let mistaken = node::make(
+        program,
+        mistaken_store,
+        before.mistaken,
+        call,
+        Some(mistake),
+    );
     cells::number(out, before.right.steps, call)?;
     cells::call(out, call, 7)?;
     performed(out, right_store, mistaken_store, right, mistaken)?;
@@ -107,7 +113,15 @@ fn rows(
     let mut runs = first;
     for name in calls {
         let call = Call::named(*name);
-        runs = row(out, program, right_store, mistaken_store, runs, call, mistake)?;
+        runs = row(
+            out,
+            program,
+            right_store,
+            mistaken_store,
+            runs,
+            call,
+            mistake,
+        )?;
     }
     Ok(runs)
 }
@@ -116,7 +130,8 @@ fn memory(out: &impl Print, right: &[u16], mistaken: &[u16]) -> io::Result<()> {
     text::put(out, b"memory    ")?;
     cells::memory(out, right)?;
     text::spaces(out, 24)?;
-    let differ = (0..2).any(|address| words::memory(right, address) != words::memory(mistaken, address));
+    let differ = (0..2).any(|address| words::memory(right, address)
+        != words::memory(mistaken, address));
     bar(out, differ)?;
     cells::memory(out, mistaken)?;
     text::put(out, b"\n")
@@ -139,7 +154,7 @@ fn waiting(out: &impl Print, right: &[u16], mistaken: &[u16]) -> io::Result<()> 
     text::put(out, b"\n")
 }
 
-// Calls that aren't shown, in both runs.
+// Lists that aren't shown, in both runs.
 fn calls(
     program: &[u16],
     right_store: &mut [u16],
@@ -163,7 +178,7 @@ fn left(out: &impl Print, right: &[u16], mistaken: &[u16]) -> io::Result<()> {
 
 // The calls before the first row, in rows, and behind the last.
 #[derive(Clone, Copy)]
-pub struct Calls<'a> {
+pub struct Lists<'a> {
     pub before: &'a [u8],
     pub shown: &'a [u8],
     pub behind: &'a [u8],
@@ -177,7 +192,7 @@ fn table(
     mistaken: &mut [u16],
     first: Runs,
     mistake: Mistake,
-    lists: Calls<'_>,
+    lists: Lists<'_>,
 ) -> io::Result<()> {
     text::line(
         out,
@@ -199,7 +214,7 @@ pub fn beside<const WORDS: usize>(
     program: &[u16],
     queue_records: u16,
     mistake: Mistake,
-    lists: Calls<'_>,
+    lists: Lists<'_>,
 ) -> io::Result<()> {
     let mut right = [0u16; WORDS];
     let mut mistaken = [0u16; WORDS];
@@ -209,7 +224,22 @@ pub fn beside<const WORDS: usize>(
         right: node::off(),
         mistaken: node::off(),
     };
-    let first = calls(program, &mut right, &mut mistaken, off, lists.before, mistake);
+    let first = calls(
+        program,
+        &mut right,
+        &mut mistaken,
+        off,
+        lists.before,
+        mistake,
+    );
     listed::before(out, lists.before)?;
-    table(out, program, &mut right, &mut mistaken, first, mistake, lists)
+    table(
+        out,
+        program,
+        &mut right,
+        &mut mistaken,
+        first,
+        mistake,
+        lists,
+    )
 }

@@ -4,7 +4,7 @@
 
 #![tactic(auto)]
 
-use beside::Calls;
+use beside::Lists;
 use mistakes::Mistake;
 use std::io;
 
@@ -125,7 +125,7 @@ fn beside_one(
     out: &impl Print,
     program: &[u16],
     mistake: Mistake,
-    lists: Calls<'_>,
+    lists: Lists<'_>,
 ) -> io::Result<()> {
     beside::beside::<25>(out, program, 1, mistake, lists)
 }
@@ -141,7 +141,7 @@ fn head_plus_one(out: &impl Print) -> io::Result<()> {
         &program,
         2,
         Mistake::HeadPlusOneOnRedo,
-        Calls {
+        Lists {
             before: b"b7sss8ssssssss",
             shown: b"ssscbsssss",
             behind: b"",
@@ -159,7 +159,7 @@ fn tail_before_data(out: &impl Print) -> io::Result<()> {
         out,
         &program,
         Mistake::TailBeforeData,
-        Calls {
+        Lists {
             before: b"b7sssssssssssss8sssssssssssss",
             shown: b"9sscbs",
             behind: b"sssssssss",
@@ -177,7 +177,7 @@ fn phase_before_task(out: &impl Print) -> io::Result<()> {
         out,
         &program,
         Mistake::PhaseBeforeTask,
-        Calls {
+        Lists {
             before: b"bsssssssss",
             shown: b"ssscbsss",
             behind: b"ssssssssssssssssssssssss",
@@ -195,7 +195,7 @@ fn lost_count(out: &impl Print) -> io::Result<()> {
         out,
         &program,
         Mistake::CountFromLostState,
-        Calls {
+        Lists {
             before: b"bsssssssss",
             shown: b"scbsssss",
             behind: b"",
@@ -213,7 +213,7 @@ fn lost_open(out: &impl Print) -> io::Result<()> {
         out,
         &program,
         Mistake::EventInOpenTransaction,
-        Calls {
+        Lists {
             before: b"bsssssssssssssss",
             shown: b"7ssscbs",
             behind: b"ssssssssssssssssssssss",

@@ -58,7 +58,11 @@ fn head_plus_one(program: &[u16], store: &mut [u16], node: Node) -> Node {
     }
     let pending = words::word(store, 12);
     let head = words::head(store);
-    let next = if head == words::tail(store) { head } else { words::slot_after(store, head) };
+    let next = if head == words::tail(store) {
+        head
+    } else {
+        words::slot_after(store, head)
+    };
     words::set(store, 12, next);
     let left = node::step(program, store, node);
     words::set(store, 12, pending);

@@ -66,7 +66,7 @@ pub fn one_more(steps: u32) -> u32 {
     if steps < 99 { steps + 1 } else { steps }
 }
 
-pub fn call(
+pub fn make(
     program: &[u16],
     store: &mut [u16],
     node: Node,
@@ -100,7 +100,7 @@ pub fn all_calls(
 ) -> Node {
     let mut node = first;
     for name in calls {
-        node = call(program, store, node, Call::named(*name), mistake);
+        node = make(program, store, node, Call::named(*name), mistake);
     }
     node
 }

@@ -38,12 +38,12 @@ fn left(out: &impl Print, program: &[u16], store: [u16; 25], recovered: Node) ->
 // Uncut recovery of a copy of the store: a cut, a boot, then steps while the phase isn't 0.
 fn recovered(out: &impl Print, program: &[u16], store: [u16; 25]) -> io::Result<()> {
     let mut copy = store;
-    let mut node = node::call(program, &mut copy, node::off(), Call::Boot, None);
+    let mut node = node::make(program, &mut copy, node::off(), Call::Boot, None);
     for _ in 0..99u16 {
         if words::phase(&copy) == 0 {
             break;
         }
-        node = node::call(program, &mut copy, node, Call::Step, None);
+        node = node::make(program, &mut copy, node, Call::Step, None);
     }
     left(out, program, copy, node)
 }
@@ -73,7 +73,7 @@ fn row(
 ) -> io::Result<Node> {
     cells::number(out, before.steps, call)?;
     cells::runs(out, program, store, before.device, call)?;
-    let node = node::call(program, store, before, call, None);
+    let node = node::make(program, store, before, call, None);
     done(out, program, store, node)?;
     Ok(node)
 }
