@@ -1,5 +1,6 @@
 -- The laws of a running body: what the early checks give, a fetch check by check, and `place_step` from what
 -- is fetched. Assumes nothing.
+use Rattle.model.specs.Types.{Ok, Err, Checked}
 use Prim.Native.Nat.{ℕ, ◌<◌}
 use mathlib.Core.Bool.{Bool, true, false}
 use mathlib.Core.List.{List}
@@ -14,15 +15,13 @@ use Rattle.model.specs.Program.{word, instructions, body_number, effect_at}
 use Rattle.model.specs.Store.{Store, view}
 use Rattle.model.specs.Test.{pick, ◌and◌, must, ◌then◌, in_turn, both}
 use Rattle.model.specs.declared.Body.{Body}
-use Rattle.model.specs.declared.Checked.{Checked}
 use Rattle.model.specs.declared.Device.{Device}
 use Rattle.model.specs.declared.Effect.{Effect}
 use Rattle.model.specs.declared.Place.{Place}
 use Rattle.model.specs.declared.Place.TheVariants.{Free, Run, Half}
 use Rattle.model.specs.declared.Refusal.{Refusal}
 use Rattle.model.proofs.ProgramLaws.{inside-passed, used_passed}
-use Rattle.body.specs.Running.{Running, Fetches, OfBody, row_sound, last_sound, does, fetched, fetched_at, FetchesAt, body_at, instruction_at}
-use Rattle.body.specs.declared.Fetched.{Fetched}
+use Rattle.body.specs.Running.{Running, Fetches, OfBody, row_sound, last_sound, does, fetched, fetched_at, FetchesAt, body_at, instruction_at, Fetched}
 
 -- ---- what the early checks give
 
@@ -98,21 +97,21 @@ module _ (p : List ℕ) (v : Store) (r : List ℕ) (b : Body) (j : ℕ) where
   unfolding fetched body_sound place_fits
   fetched_is = ap (λ (x : Checked). does x at) (row_first _ _ _ _)
 
-  pub fetched-row : {x : Refusal} → row_sound p v b ≡ Err x → Fetched.Refused x ≡ fetched p v r b j
+  pub fetched-row : {x : Refusal} → row_sound p v b ≡ Err x → Err x ≡ fetched p v r b j
   unfolding does in_turn
   fetched-row e = rw fetched_is (rw e)
 
   module _ (row : row_sound p v b ≡ Ok tt) where
-    pub gone_open : {x : Refusal} → there ≡ false → open_sound p v b ≡ Err x → Fetched.Refused x ≡ fetched p v r b j
+    pub gone_open : {x : Refusal} → there ≡ false → open_sound p v b ≡ Err x → Err x ≡ fetched p v r b j
     unfolding does in_turn pick
     gone_open t o = rw fetched_is (simp (row, t, o))
 
-    pub gone : there ≡ false → open_sound p v b ≡ Ok tt → Fetched.Refused Refusal.State ≡ fetched p v r b j
+    pub gone : there ≡ false → open_sound p v b ≡ Ok tt → Err Refusal.State ≡ fetched p v r b j
     unfolding does in_turn pick must both
     gone t o = rw fetched_is (simp (row, t, o))
 
     module _ (t : there ≡ true) where
-      pub fetched-code : {x : Refusal} → code_checks ≡ Err x → Fetched.Refused x ≡ fetched p v r b j
+      pub fetched-code : {x : Refusal} → code_checks ≡ Err x → Err x ≡ fetched p v r b j
       unfolding does in_turn pick
       fetched-code c = rw fetched_is (simp (row, t, c))
 
@@ -136,26 +135,26 @@ row-given p s b h e =
 
 -- ---- from the checks to what is fetched, and back
 
-pub does_stop : {x : Refusal} {m : Checked} (f : Effect) → m ≡ Err x → Fetched.Refused x ≡ does m f
+pub does_stop : {x : Refusal} {m : Checked} (f : Effect) → m ≡ Err x → Err x ≡ does m f
 unfolding does
 does_stop f e = rw e
 
-pub does_go : {m : Checked} (f g : Effect) → m ≡ Ok tt → f ≡ g → Fetched.Does f ≡ does m g
+pub does_go : {m : Checked} (f g : Effect) → m ≡ Ok tt → f ≡ g → Ok f ≡ does m g
 unfolding does
 does_go f g e h = rw (e, h)
 
-pub does-same : {f g : Effect} → Fetched.Does f ≡ Fetched.Does g → f ≡ g
+pub does-same : {f g : Effect} → ◌≡◌ {A = Fetched} (Ok f) (Ok g) → f ≡ g
 does-same e = cc
 
-pub never {ℓ} : {X : Type ℓ} {x : Refusal} {f : Effect} → Fetched.Refused x ≡ Fetched.Does f → X
+pub never {ℓ} : {X : Type ℓ} {x : Refusal} {f : Effect} → Err x ≡ Ok f → X
 never e = impossible (cc)
 
-pub does-refused : {x : Refusal} (f : Effect) (m : Checked) → does m f ≡ Fetched.Refused x → m ≡ Err x
+pub does-refused : {x : Refusal} (f : Effect) (m : Checked) → does m f ≡ Err x → m ≡ Err x
 unfolding does
 does-refused f (Ok _) e = cc
 does-refused f (Err r) e = cc
 
-pub does-accepted : {g : Effect} (f : Effect) (m : Checked) → does m f ≡ Fetched.Does g → (m ≡ Ok tt) × (f ≡ g)
+pub does-accepted : {g : Effect} (f : Effect) (m : Checked) → does m f ≡ Ok g → (m ≡ Ok tt) × (f ≡ g)
 unfolding does
 does-accepted f (Ok _) e = (refl, cc)
 does-accepted f (Err r) e = (cc, cc)
@@ -182,23 +181,23 @@ module _ (p : List ℕ) (v : Store) (d : Device) (b : Body) (j : ℕ) where
   abbrev effect_here : Effect
   effect_here = effect_at p (body_number p b) j d.registers
 
-  refused-at : {x : Refusal} (y : Place) → fetched p v d.registers b j ≡ Fetched.Refused x → body_sound p v y b j effect_here ≡ Err x
+  refused-at : {x : Refusal} (y : Place) → fetched p v d.registers b j ≡ Err x → body_sound p v y b j effect_here ≡ Err x
   unfolding fetched in_turn
   refused-at y e = rw (placed, does-refused _ _ e)
 
-  judged-fits : {g : Effect} (y : Place) (o : Effect → Outcome) → fetched p v d.registers b j ≡ Fetched.Does g → judged (body_sound p v y b j effect_here) d (o effect_here) ≡ judged (must (place_fits y g) Refusal.State) d (o g)
+  judged-fits : {g : Effect} (y : Place) (o : Effect → Outcome) → fetched p v d.registers b j ≡ Ok g → judged (body_sound p v y b j effect_here) d (o effect_here) ≡ judged (must (place_fits y g) Refusal.State) d (o g)
   unfolding fetched in_turn
   judged-fits y o e = let k = does-accepted _ _ e in rw (placed, k.0, k.1)
 
-  pub run-refused : {x : Refusal} (n : ℕ) → fetched p v d.registers b j ≡ Fetched.Refused x → place_step p v d (Run b j n) ≡ refuse d x
+  pub run-refused : {x : Refusal} (n : ℕ) → fetched p v d.registers b j ≡ Err x → place_step p v d (Run b j n) ≡ refuse d x
   unfolding place_step judged
   run-refused n e = rw (refused-at (Run b j n) e)
 
-  pub half_refused : {x : Refusal} → fetched p v d.registers b j ≡ Fetched.Refused x → place_step p v d (Half b j) ≡ refuse d x
+  pub half_refused : {x : Refusal} → fetched p v d.registers b j ≡ Err x → place_step p v d (Half b j) ≡ refuse d x
   unfolding place_step judged
   half_refused e = rw (refused-at (Half b j) e)
 
-  module _ {f : Effect} (e : fetched p v d.registers b j ≡ Fetched.Does f) where
+  module _ {f : Effect} (e : fetched p v d.registers b j ≡ Ok f) where
     pub run_unfit : (n : ℕ) → place_fits (Run b j n) f ≡ false → place_step p v d (Run b j n) ≡ refuse d Refusal.State
     unfolding place_step judged must
     run_unfit n h = judged-fits (Run b j n) (act p v d b j n) e ∙ rw h
@@ -231,14 +230,14 @@ module _ (p : List ℕ) (x : Place) {b : Body} {j : ℕ} (body : b ≡ body_at x
   pub fetches_there : {f : Effect} → Fetches p b j f → FetchesAt p x f
   fetches_there h = rw (sym body, sym instruction) h
 
-pub there-refused : (p : List ℕ) (v : Store) (d : Device) {x : Refusal} (y : Place) → OfBody y → fetched_at p v d.registers y ≡ Fetched.Refused x → place_step p v d y ≡ refuse d x
+pub there-refused : (p : List ℕ) (v : Store) (d : Device) {x : Refusal} (y : Place) → OfBody y → fetched_at p v d.registers y ≡ Err x → place_step p v d y ≡ refuse d x
 unfolding body_at instruction_at
 there-refused p v d (Free n) has e = absurd (has n refl)
 there-refused p v d (Run b j n) has e = run-refused p v d b j n e
 there-refused p v d (Half b j) has e = half_refused p v d b j e
 
 module _ (p : List ℕ) (v : Store) (d : Device) (y : Place) where
-  module _ {f : Effect} (e : fetched_at p v d.registers y ≡ Fetched.Does f) where
+  module _ {f : Effect} (e : fetched_at p v d.registers y ≡ Ok f) where
     pub there_unfit : (b : Body) (j n : ℕ) → y ≡ Run b j n → place_fits (Run b j n) f ≡ false → place_step p v d y ≡ refuse d Refusal.State
     unfolding body_at instruction_at
     there_unfit b j n q h = rw q (run_unfit p v d b j (rw q at e) n h)

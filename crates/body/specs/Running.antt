@@ -1,6 +1,7 @@
 -- A body at an instruction: what its steps rest on, what fetching its instruction gives. A fetch makes the
 -- checks of `body_sound` that hold for every place: those of a free place, which asks nothing of the instruction's effect.
 -- proofs/Running.antt has the laws that lead from the early checks to `Running`, and from a fetch to `place_step`. Assumes nothing.
+use Rattle.model.specs.Types.{Result, Ok, Err, Checked}
 use Rattle.std.specs.Prelude.{ℕ, ◌≤◌, ◌<◌, List, ◌≡◌}
 use Rattle.model.specs.Check.{rows_inside_rule, row_usable, instruction_rule}
 use Rattle.model.specs.Device.{Outcome, end_stores, head_sound, named_row, open_sound, head_is, body_sound, act}
@@ -8,14 +9,12 @@ use Rattle.model.specs.Program.{word, tasks, bodies, body_number, effect_at}
 use Rattle.model.specs.Store.{Store}
 use Rattle.model.specs.Test.{must, ◌then◌}
 use Rattle.model.specs.declared.Body.{Body}
-use Rattle.model.specs.declared.Checked.{Checked}
 use Rattle.model.specs.declared.Device.{Device}
 use Rattle.model.specs.declared.Effect.{Effect}
 use Rattle.model.specs.declared.Place.{Place}
 use Rattle.model.specs.declared.Place.TheVariants.{Free, Run, Half}
 use Rattle.model.specs.declared.Refusal.{Refusal}
 use Rattle.model.specs.Accepted.{Contents, HasInstruction, LegalEffect, ShapedFor}
-use Rattle.body.specs.declared.Fetched.{Fetched}
 
 -- body b may run: there is such a body, word 9's task and word 14's slot are there
 pub record Running (p s : List ℕ) (b : Body) : Type 0 where
@@ -45,9 +44,13 @@ row_sound p v b = head_sound p v b then rows_inside_rule p then row_usable p (bo
 abbrev pub last_sound : List ℕ → Store → Body → Checked
 last_sound p v b = open_sound p v b then must (head_is v b) Refusal.State
 
+-- a refusal, or what the instruction does
+abbrev pub Fetched : Type 0
+Fetched = Result Effect Refusal
+
 unfoldable pub does : Checked → Effect → Fetched
-does (Ok _) f = Fetched.Does f
-does (Err r) f = Fetched.Refused r
+does (Ok _) f = Ok f
+does (Err r) f = Err r
 
 -- of the instruction alone, with the registers r
 abbrev pub instruction_fetched : List ℕ → List ℕ → ℕ → ℕ → Fetched

@@ -7,36 +7,35 @@ ghost use Rattle.model.specs.Accepted.{Shaped, Looked};
 ghost use Rattle.device.specs.Result.{device, of_core, leaves, OnAnyRegisters, place_step_of};
 ghost use Rattle.body.specs.Running.{Running, Fetches, OfBody, acts, fetched_at, FetchesAt};
 
-use super::{Fetched, ending};
+use super::ending;
 use device::{Core, CoreResult, results};
-use model::{Body, Effect, Found, Place, Refusal};
+use model::{Body, Effect, Place, Refusal};
 use store::{log, memory};
 
 // "a commit begun in phase 0 without a body at GO or DONE"
+#[tactic(auto, using(model::proofs::TestLaws::tests), unfolding(model::specs::Device::place_fits, model::specs::Test::either))]
 fn fits(made: u16, effect: Effect) -> bool
     ensures { (b : Body) (j : ℕ) → result ≡ place_fits (Place.Run b j made) effect }
 {
-    if made == 0 {
-        return true;
-    }
-    ending::ends(effect)
+    made == 0 || ending::ends(effect)
 }
 
 // What an address shows: the log's value for it, if there is one, else memory's.
+#[tactic(auto, unfolding(model::specs::Device::shown))]
 fn shown(store: &[u16], log_count: u16, address: u16) -> u16
     requires shaped { Shaped store.now }
     requires log_count_bound { log_count ≤ word store.now 2 }
     requires address_bound { address < word store.now 1 }
     ensures { result ≡ (let v = view store.now in shown v (find v.log log_count address) address) }
 {
-    let found = log::find(store, log_count, address);
-    let Some(pair) = found else {
-        return memory::read(store, address);
-    };
-    log::value(store, pair)
+    match log::find(store, log_count, address) {
+        Some(pair) => log::value(store, pair),
+        None => memory::read(store, address),
+    }
 }
 
 // A read of an address into a register. "23: address k + b not below M."
+#[tactic(auto, using(model::proofs::TestLaws::tests), unfolding(model::specs::Device::act, model::specs::Device::with_place, model::specs::Test::pick, model::specs::Store::settled, model::specs::Store::stored_word))]
 fn load(
     program: &[u16],
     store: &[u16],
@@ -62,6 +61,7 @@ fn load(
 }
 
 // A SAVE to an address that isn't in the log. "24: .. with L pairs there."
+#[tactic(auto, using(model::proofs::TestLaws::tests), unfolding(model::specs::Device::save_step, model::specs::Device::with_place, model::specs::Test::pick, model::specs::Store::settled, model::specs::Store::stored_word))]
 fn append(store: &mut [u16], core: Core, body: Body, instruction: u16, address: u16) -> CoreResult
     requires { Shaped store.old }
     ensures { OnAnyRegisters core result store.new
@@ -76,6 +76,7 @@ fn append(store: &mut [u16], core: Core, body: Body, instruction: u16, address: 
 }
 
 // A SAVE of a value to an address.
+#[tactic(auto, using(model::proofs::TestLaws::tests), unfolding(model::specs::Device::act, model::specs::Device::save_step, model::specs::Device::with_place, model::specs::Test::pick, model::specs::Store::settled, model::specs::Store::stored_word))]
 fn save(
     program: &[u16],
     store: &mut [u16],
@@ -95,16 +96,17 @@ fn save(
         return results::refused(core, Refusal::Address);
     }
     let address = address as u16;
-    let log_count = core.count;
-    let found = log::find(store, log_count, address);
-    let Some(pair) = found else {
-        return append(store, core, body, instruction, address);
-    };
-    let word = log::write_value(store, pair, value);
-    results::stored(core, Place::Run(body, instruction + 1, 0), log_count, word)
+    match log::find(store, core.count, address) {
+        Some(pair) => {
+            let word = log::write_value(store, pair, value);
+            results::stored(core, Place::Run(body, instruction + 1, 0), core.count, word)
+        }
+        None => append(store, core, body, instruction, address),
+    }
 }
 
 // The value of half a SAVE, "without looking again at address or log".
+#[tactic(auto, unfolding(model::specs::Device::save_rest, model::specs::Device::with_place, model::specs::Store::settled, model::specs::Store::stored_word))]
 fn save_rest(
     store: &mut [u16],
     core: Core,
@@ -119,9 +121,6 @@ fn save_rest(
         (leaves (λ v d. save_rest d body instruction effect) store.old) }
 {
     match effect {
-        Effect::Compute(_, _) => results::refused(core, Refusal::State),
-        Effect::Jump(_) => results::refused(core, Refusal::State),
-        Effect::Load(_, _) => results::refused(core, Refusal::State),
         Effect::Save(_, value) => {
             let log_count = core.count;
             let word = log::write_value(store, log_count, value);
@@ -132,13 +131,12 @@ fn save_rest(
                 word,
             )
         }
-        Effect::EndTask(_) => results::refused(core, Refusal::State),
-        Effect::EndEvent => results::refused(core, Refusal::State),
-        Effect::Unknown => results::refused(core, Refusal::State),
+        _ => results::refused(core, Refusal::State),
     }
 }
 
 // What an instruction does, the one at number `at` of its body, and the step's store.
+#[tactic(auto, unfolding(model::specs::Device::act, model::specs::Device::with_place, model::specs::Store::settled, model::specs::Store::stored_word))]
 fn act(
     program: &[u16],
     store: &mut [u16],
@@ -184,7 +182,7 @@ pub fn perform(
 ) -> CoreResult
     requires looked { Looked program.now store.old (device core registers.old) }
     requires of_body { OfBody core.place }
-    requires place_value { fetched_at program.now (view store.old) registers.old core.place ≡ Fetched.Does effect }
+    requires fetched { fetched_at program.now (view store.old) registers.old core.place ≡ Ok effect }
     requires fetches_at { FetchesAt program.now core.place effect }
     ensures { of_core result registers.new store.new
         ≡ leaves (place_step_of program.now) store.old (device core registers.old) }

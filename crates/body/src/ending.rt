@@ -8,26 +8,20 @@ ghost use Rattle.body.specs.Running.{Running, Fetches, acts};
 
 use super::fetching;
 use device::{Core, CoreResult, results};
-use model::{Answer, Body, Effect, Place, Stored};
+use model::{Answer, Body, Effect, Place};
 use program::rows;
 use store::queue;
 
 // GO and DONE end a body.
+#[tactic(auto, unfolding(model::specs::Device::ends))]
 pub fn ends(effect: Effect) -> bool
     ensures { result ≡ ends effect }
 {
-    match effect {
-        Effect::Compute(_, _) => false,
-        Effect::Jump(_) => false,
-        Effect::Load(_, _) => false,
-        Effect::Save(_, _) => false,
-        Effect::EndTask(_) => true,
-        Effect::EndEvent => true,
-        Effect::Unknown => false,
-    }
+    matches!(effect, Effect::EndTask(_) | Effect::EndEvent)
 }
 
 // "The new open number is the ended task's if that isn't 0 and the next task has the same; otherwise 0."
+#[tactic(auto, using(model::proofs::TestLaws::tests), unfolding(model::specs::Program::new_open, model::specs::Test::pick))]
 fn new_open(ended: u16, next: u16) -> u16
     ensures { result ≡ new_open ended next }
 {
@@ -35,6 +29,7 @@ fn new_open(ended: u16, next: u16) -> u16
 }
 
 // The next store of GO: "11 is n, 12 the next task, 13 the new open number, 8 becomes 1 (the commit store)".
+#[tactic(auto, using(model::proofs::TestLaws::tests), unfolding(model::specs::Device::act, model::specs::Device::with_place, model::specs::Device::storing, model::specs::Device::task_stores, model::specs::Test::pick, model::specs::Store::settled, model::specs::Store::stored_word))]
 pub fn end_task(
     program: &[u16],
     store: &mut [u16],
@@ -75,6 +70,7 @@ pub fn end_task(
 }
 
 // The next store of DONE: "11, 12 with the slot after head, 8 becomes 2".
+#[tactic(auto, using(model::proofs::TestLaws::tests), unfolding(model::specs::Device::act, model::specs::Device::with_place, model::specs::Device::storing, model::specs::Device::event_stores, model::specs::Test::pick, model::specs::Store::settled, model::specs::Store::stored_word))]
 pub fn end_event(
     store: &mut [u16],
     registers: &mut [u16; 8],

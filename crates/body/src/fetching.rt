@@ -6,14 +6,14 @@ ghost use Rattle.model.specs.Store.{view};
 ghost use Rattle.model.specs.Accepted.{Contents, RowsInside, HasBody, HasInstruction, LegalEffect, Shaped};
 ghost use Rattle.body.specs.Running.{Running, Fetches, row_sound, last_sound, instruction_fetched, fetched, body_at, instruction_at};
 
-use super::Fetched;
 use control::single;
 use effects;
-use model::{Body, Checked, Effect, Place, Refusal};
+use model::{Body, Effect, Place, Refusal};
 use program::{code, rows};
 use store::queue;
 
 // A body's number among all: tasks first.
+#[tactic(auto, unfolding(model::specs::Program::body_number))]
 pub fn body_number(program: &[u16], body: Body) -> u16
     requires contents { Contents program.now }
     requires body_bound { body_number program.now body < bodies program.now }
@@ -26,6 +26,7 @@ pub fn body_number(program: &[u16], body: Body) -> u16
 }
 
 // The body of a place, and the number of its instruction; a place without one has task 0's first.
+#[tactic(auto, unfolding(crate::specs::Running::body_at))]
 pub fn body_at(place: Place) -> Body
     ensures { result ≡ body_at place }
 {
@@ -36,6 +37,7 @@ pub fn body_at(place: Place) -> Body
     }
 }
 
+#[tactic(auto, unfolding(crate::specs::Running::instruction_at))]
 pub fn instruction_at(place: Place) -> u16
     ensures { result ≡ instruction_at place }
 {
@@ -47,6 +49,7 @@ pub fn instruction_at(place: Place) -> u16
 }
 
 // The record at head, for a running event.
+#[tactic(auto, unfolding(model::specs::Device::head_sound))]
 fn head_sound(program: &[u16], store: &[u16], body: Body) -> Result<(), Refusal>
     requires { Running program.now store.now body }
     ensures { result ≡ head_sound program.now (view store.now) body }
@@ -58,6 +61,7 @@ fn head_sound(program: &[u16], store: &[u16], body: Body) -> Result<(), Refusal>
 }
 
 // Word 10, for a running task.
+#[tactic(auto, unfolding(model::specs::Device::open_sound))]
 fn open_sound(program: &[u16], store: &[u16], body: Body) -> Result<(), Refusal>
     requires running { Running program.now store.now body }
     requires rows_inside { RowsInside program.now }
@@ -70,6 +74,7 @@ fn open_sound(program: &[u16], store: &[u16], body: Body) -> Result<(), Refusal>
 }
 
 // Is a running event that of the record at head?
+#[tactic(auto, using(model::proofs::TestLaws::tests), unfolding(model::specs::Device::head_is))]
 fn head_is(store: &[u16], body: Body) -> bool
     requires shaped { Shaped store.now }
     requires store_bound { word store.now 14 ≤ word store.now 3 }
@@ -82,23 +87,20 @@ fn head_is(store: &[u16], body: Body) -> bool
 }
 
 // "at GO task k's row (4)"
+#[tactic(auto, unfolding(model::specs::Device::named_row))]
 fn named_row(program: &[u16], effect: Effect) -> Result<(), Refusal>
     requires rows_inside { RowsInside program.now }
-    requires by_index { (k : ℕ) → effect ≡ Effect.EndTask k → k < tasks program.now }
+    requires task_bound { (k : ℕ) → effect ≡ Effect.EndTask k → k < tasks program.now }
     ensures { result ≡ named_row program.now effect }
 {
     match effect {
-        Effect::Compute(_, _) => Ok(()),
-        Effect::Jump(_) => Ok(()),
-        Effect::Load(_, _) => Ok(()),
-        Effect::Save(_, _) => Ok(()),
         Effect::EndTask(task) => rows::usable(program, task),
-        Effect::EndEvent => Ok(()),
-        Effect::Unknown => Ok(()),
+        _ => Ok(()),
     }
 }
 
 // The checks of a body's record and of its row.
+#[tactic(auto, using(model::proofs::TestLaws::in_a_row, model::proofs::Passed::gives), unfolding(model::specs::Test::in_turn))]
 fn row_sound(program: &[u16], store: &[u16], body: Body) -> Result<(), Refusal>
     requires { Running program.now store.now body }
     ensures value { result ≡ row_sound program.now (view store.now) body }
@@ -110,29 +112,25 @@ fn row_sound(program: &[u16], store: &[u16], body: Body) -> Result<(), Refusal>
 }
 
 // An instruction of a body: its rule, the row that it names, and what it does.
+#[tactic(auto, using(model::proofs::TestLaws::in_a_row), unfolding(crate::specs::Running::does, model::specs::Test::in_turn))]
 fn instruction_effect(
     program: &[u16],
     registers: &[u16; 8],
     body_number: u16,
     instruction: u16,
-) -> Fetched
+) -> Result<Effect, Refusal>
     requires { HasInstruction program.now body_number instruction }
     ensures value { result ≡ instruction_fetched program.now registers.now body_number instruction }
-    ensures given { (f : Effect) → result ≡ Fetched.Does f → LegalEffect program.now body_number instruction f }
+    ensures given { (f : Effect) → result ≡ Ok f → LegalEffect program.now body_number instruction f }
 {
-    let found = code::rule(program, body_number, instruction);
-    if let Err(why) = found {
-        return Fetched::Refused(why);
-    }
+    code::rule(program, body_number, instruction)?;
     let effect = effects::effect_at(program, body_number, instruction, registers);
-    let named = named_row(program, effect);
-    if let Err(why) = named {
-        return Fetched::Refused(why);
-    }
-    Fetched::Does(effect)
+    named_row(program, effect)?;
+    Ok(effect)
 }
 
 // Word 10's rule, and that a running event is that of the record at head.
+#[tactic(auto, using(model::proofs::TestLaws::in_a_row, model::proofs::TestLaws::tests), unfolding(model::specs::Test::must))]
 fn last_sound(program: &[u16], store: &[u16], body: Body) -> Result<(), Refusal>
     requires running { Running program.now store.now body }
     requires rows_inside { RowsInside program.now }
@@ -152,30 +150,18 @@ pub fn fetch(
     registers: &[u16; 8],
     body: Body,
     instruction: u16,
-) -> Fetched
+) -> Result<Effect, Refusal>
     requires { Running program.now store.now body }
     ensures value { result ≡ fetched program.now (view store.now) registers.now body instruction }
-    ensures given { (f : Effect) → result ≡ Fetched.Does f → Fetches program.now body instruction f }
+    ensures given { (f : Effect) → result ≡ Ok f → Fetches program.now body instruction f }
 {
-    let found = row_sound(program, store, body);
-    if let Err(why) = found {
-        return Fetched::Refused(why);
-    }
+    row_sound(program, store, body)?;
     let number = body_number(program, body);
     if instruction >= rows::instructions(program, number) {
-        let open = open_sound(program, store, body);
-        if let Err(why) = open {
-            return Fetched::Refused(why);
-        }
-        return Fetched::Refused(Refusal::State);
+        open_sound(program, store, body)?;
+        return Err(Refusal::State);
     }
-    let got = instruction_effect(program, registers, number, instruction);
-    let Fetched::Does(effect) = got else {
-        return got;
-    };
-    let last = last_sound(program, store, body);
-    if let Err(why) = last {
-        return Fetched::Refused(why);
-    }
-    Fetched::Does(effect)
+    let effect = instruction_effect(program, registers, number, instruction)?;
+    last_sound(program, store, body)?;
+    Ok(effect)
 }

@@ -9,18 +9,10 @@ ghost use Rattle.device.specs.Result.{device, of_core, leaves, place_step_of};
 ghost use Rattle.body.specs.Running.{OfBody};
 
 use device::{Core, CoreResult, results};
-use model::{Effect, Refusal};
 
 mod acting;
 mod ending;
 mod fetching;
-
-// What fetching a body's instruction gives: a refusal, or what the instruction does.
-#[derive(Clone, Copy)]
-enum Fetched {
-    Refused(Refusal),
-    Does(Effect),
-}
 
 // The step of a body at its place: what is fetched is refused or performed. One call of `fetch` serves both places.
 pub fn body_step(
@@ -34,12 +26,10 @@ pub fn body_step(
     ensures { of_core result registers.new store.new
         ≡ leaves (place_step_of program.now) store.old (device core registers.old) }
 {
-    let place = core.place;
-    let body = fetching::body_at(place);
-    let instruction = fetching::instruction_at(place);
-    let got = fetching::fetch(program, store, registers, body, instruction);
-    match got {
-        Fetched::Refused(why) => results::refused(core, why),
-        Fetched::Does(effect) => acting::perform(program, store, registers, core, effect),
+    let body = fetching::body_at(core.place);
+    let instruction = fetching::instruction_at(core.place);
+    match fetching::fetch(program, store, registers, body, instruction) {
+        Ok(effect) => acting::perform(program, store, registers, core, effect),
+        Err(why) => results::refused(core, why),
     }
 }

@@ -6,11 +6,12 @@ ghost use Rattle.model.specs.Program.{word, tasks};
 ghost use Rattle.model.specs.Store.{view};
 ghost use Rattle.model.specs.Accepted.{Contents, RowsInside, Shaped, ShapedFor};
 
-use model::{Checked, Refusal};
+use model::Refusal;
 use program::rows;
 use store::{log, queue};
 
 // "a chosen record (7)", the record at head.
+#[tactic(auto, using(model::proofs::TestLaws::tests), unfolding(model::specs::Device::record_sound, model::specs::Test::must))]
 pub fn record_at_head(program: &[u16], store: &[u16]) -> Result<(), Refusal>
     requires contents { Contents program.now }
     requires shaped_for { ShapedFor program.now store.now }
@@ -24,6 +25,7 @@ pub fn record_at_head(program: &[u16], store: &[u16]) -> Result<(), Refusal>
 }
 
 // Word 10 in phase 0: "0 or the transaction number of task 9".
+#[tactic(auto, using(model::proofs::TestLaws::tests), unfolding(model::specs::Control::open_rule, model::specs::Control::task_rule, model::specs::Control::obey, model::specs::Test::must, model::specs::Test::both, model::specs::Test::either))]
 pub fn open_number(program: &[u16], store: &[u16]) -> Result<(), Refusal>
     requires rows_inside { RowsInside program.now }
     requires shaped { Shaped store.now }
@@ -40,6 +42,7 @@ pub fn open_number(program: &[u16], store: &[u16]) -> Result<(), Refusal>
 }
 
 // "the first n log addresses below M", that of one pair.
+#[tactic(auto, using(model::proofs::TestLaws::tests), unfolding(model::specs::Device::pair_sound, model::specs::Test::must))]
 pub fn pair_address(program: &[u16], store: &[u16], pair: u16) -> Result<(), Refusal>
     requires contents { Contents program.now }
     requires shaped_for { ShapedFor program.now store.now }

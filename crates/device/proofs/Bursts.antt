@@ -1,4 +1,7 @@
 -- Laws of a burst as the code goes through it: event by event, and word by word. Assumes nothing.
+use Rattle.model.specs.declared.Record.{Record}
+use Rattle.std.specs.Prelude.{is_ok}
+use Rattle.model.specs.Types.{Ok, Err}
 use Prim.Native.Nat.{ℕ, zero, suc, ◌+◌, ◌-◌, ◌*◌, ◌≤◌, ◌<◌}
 use mathlib.Core.Bool.{Bool, true, false, not}
 use mathlib.Core.List.{List, [], ◌∷◌}
@@ -8,7 +11,7 @@ use native.Mathlib.Omega.{arith}
 use borrow.Author.Tests.{lt-ltb, le-ltb, le-leb, lt-leb, eq-eqb, ne_eqb}
 use lib.Dec.{ltb, leb, eqb}
 use lib.ListN.{length}
-use Rattle.model.proofs.TestLaws.{pick_true, pick-false, impossible, below_or, then_first, then_rest, then_skip, must-passed, must-true}
+use Rattle.model.proofs.TestLaws.{pick_true, pick-false, below_or, then_first, then_rest, then_skip, must-passed, must-true}
 use Rattle.model.proofs.BurstLaws.{burst-passed, carried-length}
 use Rattle.model.proofs.Passed.{look-passed}
 use Rattle.model.proofs.RingLaws.{record_stores_lem}
@@ -16,9 +19,8 @@ use Rattle.model.specs.Accepted.{Shaped}
 use Rattle.model.specs.Burst.{is_burst, records_at, carried, record_words, burst_words, known_events, events_rule}
 use Rattle.model.specs.Device.{fits, records_sound, may_drop, takes, post_check, set_to_work}
 use Rattle.model.specs.Program.{word, events}
-use Rattle.model.specs.Store.{Store, Record, slot, full, room}
+use Rattle.model.specs.Store.{Store, slot, full, room}
 use Rattle.model.specs.Test.{pick, ◌and◌, must, ◌then◌, in_turn, both, either}
-use Rattle.model.specs.declared.Checked.{Checked}
 use Rattle.model.specs.declared.Device.{Device}
 use Rattle.model.specs.declared.Handler.TheVariants.{Storing, Dropping}
 use Rattle.model.specs.declared.Refusal.{Refusal}
@@ -36,41 +38,34 @@ module _ (p ws : List ℕ) (n i : ℕ) (l : i < n) where
   unfolding events_rule records_at slot
   first_is = ap (λ (k : ℕ). events_rule p i (records_at ws i k)) one_less
 
-  pub event-refused : events p ≤ word ws (2 * i) → events_rule p i rest ≡ Err (Refusal.NoEvent i)
+  pub event_refused : events p ≤ word ws (2 * i) → Err (Refusal.NoEvent i) ≡ events_rule p i rest
   unfolding must in_turn
-  event-refused m = first_is ∙ ap (λ (b : Bool). must b (Refusal.NoEvent i) then events_rule p (suc i) (records_at ws (suc i) (n - (i + 1)))) (le-ltb _ _ m)
+  event_refused m = sym (first_is ∙ ap (λ (b : Bool). must b (Refusal.NoEvent i) then events_rule p (suc i) (records_at ws (suc i) (n - (i + 1)))) (le-ltb _ _ m))
 
-  pub event-passed : word ws (2 * i) < events p → events_rule p i rest ≡ events_rule p (i + 1) (records_at ws (i + 1) (n - (i + 1)))
-  event-passed m =
+  pub event_passed : word ws (2 * i) < events p → events_rule p (i + 1) (records_at ws (i + 1) (n - (i + 1))) ≡ events_rule p i rest
+  event_passed m =
       let next : suc i ≡ i + 1 = omega arith in
-      first_is
+      sym (first_is
       ∙ then_skip _ (must-true _ (lt-ltb _ _ m))
-      ∙ ap (λ (k : ℕ). events_rule p k (records_at ws k (n - (i + 1)))) next
+      ∙ ap (λ (k : ℕ). events_rule p k (records_at ws k (n - (i + 1)))) next)
 
 -- none left
-pub events-left : (p ws : List ℕ) (n i : ℕ) → n ≤ i → events_rule p i (records_at ws i (n - i)) ≡ Ok tt
+pub events_left : (p ws : List ℕ) (n i : ℕ) → n ≤ i → Ok tt ≡ events_rule p i (records_at ws i (n - i))
 unfolding events_rule records_at
-events-left p ws n i l = let none : n - i ≡ 0 = omega arith in ap (λ (k : ℕ). events_rule p i (records_at ws i k)) none
+events_left p ws n i l = let none : n - i ≡ 0 = omega arith in sym (ap (λ (k : ℕ). events_rule p i (records_at ws i k)) none)
+
+pub ruleset by_event = (event_refused, event_passed, events_left)
 
 -- ---- the same test in 25
 
-pub known_so : (p : List ℕ) (i : ℕ) (rs : List Record) → events_rule p i rs ≡ Ok tt → known_events p rs ≡ true
+pub known_is : (p : List ℕ) (i : ℕ) (rs : List Record) → known_events p rs ≡ is_ok (events_rule p i rs)
 unfolding events_rule known_events must in_turn both
-known_so p i [] e = refl
-known_so p i (r ∷ rs) e = by_first (ltb r.event (events p)) refl (known_so p (suc i) rs)
+known_is p i [] = refl
+known_is p i (r ∷ rs) = by_first (ltb r.event (events p)) (known_is p (suc i) rs)
   where
-    by_first : (b : Bool) → ltb r.event (events p) ≡ b → (events_rule p (suc i) rs ≡ Ok tt → known_events p rs ≡ true) → (ltb r.event (events p) and known_events p rs) ≡ true
-    by_first true q f = rw q (f (sym (then_skip _ (must-true _ q)) ∙ e))
-    by_first false q f = impossible (cc)
-
-pub unknown_so : (p : List ℕ) (i : ℕ) (rs : List Record) (r : Refusal) → events_rule p i rs ≡ Err r → known_events p rs ≡ false
-unfolding events_rule known_events must in_turn both
-unknown_so p i [] f e = impossible (cc)
-unknown_so p i (r ∷ rs) f e = by_first (ltb r.event (events p)) refl (unknown_so p (suc i) rs f)
-  where
-    by_first : (b : Bool) → ltb r.event (events p) ≡ b → (events_rule p (suc i) rs ≡ Err f → known_events p rs ≡ false) → (ltb r.event (events p) and known_events p rs) ≡ false
-    by_first true q g = rw q (g (sym (then_skip _ (must-true _ q)) ∙ e))
-    by_first false q g = rw q refl
+    by_first : (b : Bool) → known_events p rs ≡ is_ok (events_rule p (suc i) rs) → (b and known_events p rs) ≡ is_ok (must b (Refusal.NoEvent i) then events_rule p (suc i) rs)
+    by_first true e = e
+    by_first false e = refl
 
 -- ---- the words that a handler keeps
 
@@ -100,13 +95,18 @@ leb-ltb a b =
     below_or a (b + 1) (λ l. let m : a ≤ b = omega arith in le-leb _ _ m ∙ sym (lt-ltb _ _ l))
     (λ l. let m : b < a = omega arith in lt-leb _ _ m ∙ sym (le-ltb _ _ l))
 
-pub sound_by : (p : List ℕ) (v : Store) (c : ℕ) (ws : List ℕ) (n : ℕ)
-    → records_sound p v c (carried ws n) ≡ ((leb 1 n and leb n 4) and known_events p (carried ws n) and leb n (room v) and leb c (2 * n))
-unfolding records_sound fits is_burst
-sound_by p v c ws n =
+pub sound_by : (p : List ℕ) (v : Store) (c : ℕ) (ws : List ℕ) (n : ℕ) {b : Bool}
+    → b ≡ (leb 1 n and leb n 4 and is_ok (events_rule p 0 (carried ws n)) and leb n (room v) and leb c (2 * n))
+    → b ≡ records_sound p v c (carried ws n)
+unfolding records_sound fits is_burst both
+sound_by p v c ws n e =
     let many = carried-length ws 0 n in
     let stores = record_stores_lem v.queue_records (carried ws n) v.tail ∙ ap (λ (k : ℕ). 2 * k + 1) many in
-    rw (stores, many, leb-ltb c (2 * n))
+    e ∙ sym (rw (stores, many, leb-ltb c (2 * n), known_is p 0 (carried ws n)) (grouped (leb 1 n) _ _))
+  where
+    grouped : (a b r : Bool) → ((a and b) and r) ≡ (a and b and r)
+    grouped true b r = refl
+    grouped false b r = refl
 
 -- ---- may a record be dropped, test by test
 
@@ -167,3 +167,11 @@ unfolding post_check
 posted_ring p s d rs e =
     let l = look-passed p s d (then_first _ _ e) in
     (l.shaped.shaped, (l.control.head_in, l.control.tail_in))
+
+-- ---- as sets of rules
+
+pub ruleset dropping = (not_full, event-begun, phase-asked)
+
+pub ruleset taking = (takes-fits, takes-many, takes_one, works_storing, works_dropping)
+
+pub ruleset by_length = (burst_by, takes_by, posted_few, posted_ring)

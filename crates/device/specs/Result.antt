@@ -1,17 +1,18 @@
 -- How the code's values stand for the definitions': the device from its core and its registers, and what a call leaves (answer, which
 -- word it stored, device and store) as one value, from the code's result and from a defined outcome. Document 01: "the contract equates the
 -- answer, the store, the device state .. after the call with defined ones"; so a promise is one equation. Assumes nothing.
+use Rattle.model.specs.declared.Record.{Record}
+use Rattle.model.specs.Types.{Option}
 use Rattle.std.specs.Prelude.{ℕ, true, List, ◌≡◌, length}
 use Rattle.model.specs.Burst.{no_burst}
 use Rattle.model.specs.Device.{Outcome, boot, post, place_step, next_step, step}
-use Rattle.model.specs.Store.{Store, Record, view, settled, stored_word}
+use Rattle.model.specs.Store.{Store, view, settled, stored_word}
 use Rattle.model.specs.declared.Answer.{Answer}
 use Rattle.model.specs.declared.Device.{Device}
 use Rattle.model.specs.declared.Handler.{Handler}
 use Rattle.model.specs.declared.Handler.TheVariants.{Resting}
 use Rattle.model.specs.declared.Place.{Place}
 use Rattle.model.specs.declared.Place.TheVariants.{Free}
-use Rattle.model.specs.declared.Stored.{Stored}
 use Rattle.device.specs.declared.CallResult.{CallResult}
 use Rattle.device.specs.declared.Core.{Core}
 use Rattle.device.specs.declared.CoreResult.{CoreResult}
@@ -41,17 +42,17 @@ core_at c x l = record { on = c.on; place = x; count = l }
 abbrev pub on_core : Core
 on_core = record { on = true; place = Free 0; count = 0 }
 
-abbrev pub core_result : Answer → Stored → Core → CoreResult
+abbrev pub core_result : Answer → Option ℕ → Core → CoreResult
 core_result a w c = record { answer = a; stored = w; core = c }
 
-abbrev pub step_result : Answer → Stored → Handler → Core → StepResult
+abbrev pub step_result : Answer → Option ℕ → Handler → Core → StepResult
 step_result a w h c = record { answer = a; stored = w; handler = h; core = c }
 
 -- ---- What a call leaves
 
 pub record Result : Type 0 where
   pub answer : Answer
-  pub stored : Stored
+  pub stored : Option ℕ
   pub device : Device
   pub store : List ℕ
 

@@ -4,26 +4,25 @@ ghost use Rattle.model.specs.Accepted.{Contents};
 ghost use Rattle.model.specs.Burst.{carried, burst_words, events_rule};
 ghost use Rattle.model.specs.Test.{pick};
 
-use model::{Checked, Refusal};
+use model::Refusal;
 
 // "8 at its first bad event (place: position from 0)", of so many records.
+#[tactic(auto, using(crate::proofs::Bursts::by_event))]
 pub fn events(program: &[u16], burst: &[u16; 8], length: u16) -> Result<(), Refusal>
     requires contents { Contents program.now }
     requires length_len_bound { length ≤ 4 }
     ensures { result ≡ events_rule program.now 0 (carried burst.now length) }
 {
-    let mut position: u16 = 0;
-    while position < length {
-        let event = burst[2 * (position as usize)];
-        if event >= program[2] {
+    for position in 0..length {
+        if burst[2 * (position as usize)] >= program[2] {
             return Err(Refusal::NoEvent(position));
         }
-        position += 1;
     }
     Ok(())
 }
 
 // A word of a record, or 0 behind the last one.
+#[tactic(auto, using(model::proofs::TestLaws::tests), unfolding(model::specs::Test::pick))]
 fn kept(word: u16, number: u16, length: u16) -> u16
     ensures { result ≡ pick (ltb number length) word 0 }
 {

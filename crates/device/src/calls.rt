@@ -8,37 +8,34 @@ ghost use Rattle.model.specs.Store.{view, none};
 ghost use Rattle.device.specs.Result.{of_call, OnAnyStore, BootPerforms, PostPerforms};
 
 use super::{CallResult, burst, look};
-use model::{Answer, Body, Checked, Device, Handler, Place, Refusal, Stored};
+use model::{Answer, Body, Device, Handler, Place, Refusal};
 use store::{contents, queue};
 
 // "Boot .. turns that value on."
+#[tactic(auto, unfolding(model::specs::Device::fresh))]
 fn turned_on() -> Device
     ensures { result ≡ turned_on }
 {
-    let mut device = Device::OFF;
-    device.on = true;
-    device
+    Device {
+        on: true,
+        ..Device::OFF
+    }
 }
 
-// A call that stores nothing: once it is checked the device is `next`, and a refusal leaves it as it was.
-fn judge(found: Result<(), Refusal>, device: Device, next: Device) -> CallResult
-    ensures { OnAnyStore (of_call result) (judged found device (out none next Answer.Done)) }
+// What a call that stores nothing answers, and the device after it.
+#[tactic(auto, unfolding(model::specs::Store::settled, model::specs::Store::stored_word))]
+fn storing_nothing(answer: Answer, device: Device) -> CallResult
+    ensures { OnAnyStore (of_call result) (out none device answer) }
 {
-    match found {
-        Ok(()) => CallResult {
-            answer: Answer::Done,
-            stored: None,
-            device: next,
-        },
-        Err(why) => CallResult {
-            answer: Answer::Refused(why),
-            stored: None,
-            device,
-        },
+    CallResult {
+        answer,
+        stored: None,
+        device,
     }
 }
 
 // "boot 1 to 7, 26"
+#[tactic(auto, using(model::proofs::TestLaws::in_a_row, model::proofs::TestLaws::tests, model::proofs::Passed::gives), unfolding(model::specs::Device::boot_check, model::specs::Test::must, model::specs::Test::in_turn))]
 fn boot_check(program: &[u16], store: &[u16], device: Device) -> Result<(), Refusal>
     ensures value { result ≡ boot_check program.now store.now device }
     ensures given { result ≡ Ok tt → Bootable program.now store.now }
@@ -53,20 +50,19 @@ fn boot_check(program: &[u16], store: &[u16], device: Device) -> Result<(), Refu
 }
 
 // A device turned on that runs a body at its first instruction, "registers as at choosing".
+#[tactic(auto, unfolding(model::specs::Device::fresh, model::specs::Device::with_place, model::specs::Program::first_registers))]
 fn started(body: Body, datum: u16) -> Device
     ensures { result ≡ with_place turned_on (first_registers datum) (Place.Run body 0 0) 0 }
 {
     Device {
-        on: true,
         registers: [datum, 0, 0, 0, 0, 0, 0, 0],
         place: Place::Run(body, 0, 0),
-        count: 0,
-        handler: Handler::Resting,
-        burst: [0; 8],
+        ..turned_on()
     }
 }
 
 // "a boot in phase 0 takes up the begun body": the current task, or the event of the record at head.
+#[tactic(auto, using(model::proofs::TestLaws::tests), unfolding(model::specs::Device::taken_up, model::specs::Device::begun_of, model::specs::Device::started, model::specs::Device::data_for, model::specs::Device::fresh, model::specs::Test::pick))]
 fn taken_up(store: &[u16]) -> Device
     requires shaped { Shaped store.now }
     requires store_bound { word store.now 14 ≤ word store.now 3 }
@@ -86,17 +82,18 @@ fn taken_up(store: &[u16]) -> Device
 }
 
 // Boot: a device that is off is turned on, and no word of the store changes.
+#[tactic(auto, unfolding(model::specs::Device::boot, model::specs::Device::judged))]
 pub fn boot(program: &[u16], store: &[u16], device: Device) -> CallResult
     ensures { BootPerforms program.now store.now device result }
 {
-    let found = boot_check(program, store, device);
-    let Ok(()) = found else {
-        return judge(found, device, device);
-    };
-    judge(found, device, taken_up(store))
+    match boot_check(program, store, device) {
+        Ok(()) => storing_nothing(Answer::Done, taken_up(store)),
+        Err(why) => storing_nothing(Answer::Refused(why), device),
+    }
 }
 
 // "post then 8, 20, 21", and 33 "just before 8".
+#[tactic(auto, using(model::proofs::TestLaws::in_a_row, model::proofs::TestLaws::tests, model::proofs::Passed::gives, crate::proofs::Bursts::by_length), unfolding(model::specs::Device::post_check, model::specs::Test::must, model::specs::Test::in_turn, model::specs::Test::both, model::specs::Burst::is_burst))]
 pub fn post_check(
     program: &[u16],
     store: &[u16],
@@ -107,15 +104,11 @@ pub fn post_check(
     ensures { result ≡ post_check program.now store.now device (carried words.now length) }
 {
     look::look_whole(program, store, device)?;
-    if length < 1 {
-        return Err(Refusal::BurstLength);
-    }
-    if length > 4 {
+    if length < 1 || length > 4 {
         return Err(Refusal::BurstLength);
     }
     burst::events(program, words, length)?;
-    let handler = device.handler;
-    if !look::at_rest(handler) {
+    if !look::at_rest(device.handler) {
         return Err(Refusal::HandlerBusy);
     }
     if !takes(store, length) {
@@ -125,49 +118,31 @@ pub fn post_check(
 }
 
 // Does the queue take so many records: is there room for them, or may a single one drop the oldest?
+#[tactic(auto, using(crate::proofs::Bursts::taking))]
 fn takes(store: &[u16], length: u16) -> bool
     requires shaped { Shaped store.now }
     requires store_bound { (word store.now 14 ≤ word store.now 3) × (word store.now 15 ≤ word store.now 3) }
     ensures { result ≡ takes (view store.now) length }
 {
-    if length <= queue::room(store) {
-        return true;
-    }
-    if length != 1 {
-        return false;
-    }
-    look::may_drop(store)
+    length <= queue::room(store) || length == 1 && look::may_drop(store)
 }
 
 // The handler for so many records that the queue takes: where there is no room for them, one that drops the oldest.
+#[tactic(auto, using(crate::proofs::Bursts::taking))]
 pub fn set_to_work(store: &[u16], length: u16) -> Handler
     requires shaped { Shaped store.now }
     requires store_bound { (word store.now 14 ≤ word store.now 3) × (word store.now 15 ≤ word store.now 3) }
     ensures { result ≡ set_to_work (view store.now) length }
 {
     if queue::room(store) < length {
-        return Handler::Dropping;
-    }
-    Handler::Storing(length, 0)
-}
-
-// The device with another handler and its burst.
-fn with_handler(device: Device, handler: Handler, burst: [u16; 8]) -> Device
-    ensures { result ≡ with_handler device handler burst }
-{
-    let registers = device.registers;
-    let place = device.place;
-    Device {
-        on: device.on,
-        registers,
-        place,
-        count: device.count,
-        handler,
-        burst,
+        Handler::Dropping
+    } else {
+        Handler::Storing(length, 0)
     }
 }
 
 // A post of a burst: the handler is set to work on so many records, and no word of the store changes. The words behind them aren't looked at.
+#[tactic(auto, using(crate::proofs::Bursts::by_length), unfolding(model::specs::Device::post, model::specs::Device::judged, model::specs::Device::with_handler))]
 pub fn burst(
     program: &[u16],
     store: &[u16],
@@ -177,19 +152,21 @@ pub fn burst(
 ) -> CallResult
     ensures { PostPerforms program.now store.now device (carried words.now length) result }
 {
-    let found = post_check(program, store, device, length, words);
-    let Ok(()) = found else {
-        return judge(found, device, device);
-    };
-    let kept = burst::words(words, length);
-    judge(
-        found,
-        device,
-        with_handler(device, set_to_work(store, length), kept),
-    )
+    match post_check(program, store, device, length, words) {
+        Ok(()) => {
+            let at_work = Device {
+                handler: set_to_work(store, length),
+                burst: burst::words(words, length),
+                ..device
+            };
+            storing_nothing(Answer::Done, at_work)
+        }
+        Err(why) => storing_nothing(Answer::Refused(why), device),
+    }
 }
 
 // "A single post is a burst of one."
+#[tactic(auto, unfolding(model::specs::Burst::records_at, model::specs::Store::slot))]
 pub fn post(program: &[u16], store: &[u16], device: Device, event: u16, datum: u16) -> CallResult
     ensures { PostPerforms program.now store.now device (single event datum) result }
 {
@@ -198,12 +175,9 @@ pub fn post(program: &[u16], store: &[u16], device: Device, event: u16, datum: u
 }
 
 // Cut: the device is off, whatever it was. "A cut refuses nothing", and no word of a store changes.
+#[tactic(auto, unfolding(model::specs::Device::cut, model::specs::Device::fresh))]
 pub fn cut() -> CallResult
     ensures { OnAnyStore (of_call result) cut }
 {
-    CallResult {
-        answer: Answer::Done,
-        stored: None,
-        device: Device::OFF,
-    }
+    storing_nothing(Answer::Done, Device::OFF)
 }

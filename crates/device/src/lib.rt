@@ -8,7 +8,7 @@
 ghost use Rattle.std.specs.Prelude.{◌≡◌};
 ghost use Rattle.device.specs.Result.{core_of};
 
-use model::{Answer, Device, Handler, Place, Stored};
+use model::{Answer, Device, Handler, Place};
 
 pub mod burst;
 pub mod calls;
@@ -53,10 +53,9 @@ pub struct CallResult {
 pub fn core_of(device: Device) -> Core
     ensures { result ≡ core_of device }
 {
-    let place = device.place;
     Core {
         on: device.on,
-        place,
+        place: device.place,
         count: device.count,
     }
 }

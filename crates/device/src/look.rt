@@ -9,10 +9,11 @@ ghost use Rattle.model.specs.Store.{view};
 ghost use Rattle.device.specs.Result.{device_with};
 
 use super::{Core, burst, core_of};
-use model::{Body, Checked, Device, Handler, Place, Refusal};
+use model::{Body, Device, Handler, Place, Refusal};
 use store::{contents, queue};
 
 // How many stores follow the copies of a commit.
+#[tactic(auto, using(model::proofs::TestLaws::tests), unfolding(model::specs::Device::last_stores, model::specs::Device::task_last_stores, model::specs::Device::event_last_stores, model::specs::Test::pick))]
 pub fn last_stores(store: &[u16]) -> u16
     requires { Shaped store.now }
     ensures { result ≡ length (last_stores (view store.now)) }
@@ -21,6 +22,7 @@ pub fn last_stores(store: &[u16]) -> u16
 }
 
 // How many stores GO makes up to the commit store, and DONE.
+#[tactic(auto, unfolding(model::specs::Device::end_stores))]
 pub fn end_stores(body: Body) -> u16
     ensures { result ≡ end_stores body }
 {
@@ -31,34 +33,22 @@ pub fn end_stores(body: Body) -> u16
 }
 
 // In phase 0: word 9's task, or an event below E while no transaction is open and a record waits; and of the kind that word 16 says.
+#[tactic(auto, using(model::proofs::TestLaws::tests), unfolding(model::specs::Device::may_run, model::specs::Device::eligible, model::specs::Device::kind_of, model::specs::Test::both))]
 fn may_run(program: &[u16], store: &[u16], body: Body) -> bool
     requires contents { Contents program.now }
     requires shaped { Shaped store.now }
     ensures { result ≡ may_run program.now (view store.now) body }
 {
     match body {
-        Body::Task(task) => {
-            if task != store[9] {
-                return false;
-            }
-            store[16] == 1
-        }
+        Body::Task(task) => task == store[9] && store[16] == 1,
         Body::Event(event) => {
-            if event >= program[2] {
-                return false;
-            }
-            if store[10] != 0 {
-                return false;
-            }
-            if queue::is_empty(store) {
-                return false;
-            }
-            store[16] == 2
+            event < program[2] && store[10] == 0 && !queue::is_empty(store) && store[16] == 2
         }
     }
 }
 
 // Does the place fit the phase, with this log count?
+#[tactic(auto, using(model::proofs::TestLaws::tests), unfolding(model::specs::Device::place_sound, model::specs::Test::both, model::specs::Test::pick))]
 fn place_sound(program: &[u16], store: &[u16], log_count: u16, place: Place) -> bool
     requires contents { Contents program.now }
     requires shaped { Shaped store.now }
@@ -68,59 +58,38 @@ fn place_sound(program: &[u16], store: &[u16], log_count: u16, place: Place) -> 
     match place {
         Place::Free(made) => {
             if store[8] == 0 {
-                if made != 0 {
-                    return false;
-                }
-                return store[16] == 0;
+                made == 0 && store[16] == 0
+            } else {
+                made < store[11] + last_stores(store)
             }
-            made < store[11] + last_stores(store)
         }
         Place::Run(body, _, made) => {
-            if store[8] != 0 {
-                return false;
-            }
-            if !may_run(program, store, body) {
-                return false;
-            }
-            made < end_stores(body)
+            store[8] == 0 && may_run(program, store, body) && made < end_stores(body)
         }
         Place::Half(body, _) => {
-            if store[8] != 0 {
-                return false;
-            }
-            if !may_run(program, store, body) {
-                return false;
-            }
-            log_count < store[2]
+            store[8] == 0 && may_run(program, store, body) && log_count < store[2]
         }
     }
 }
 
 // A handler at work on so many records, so many of whose stores are made: one to four, all of their events below E, room for all of them in
 // the queue, and a store left to make.
+#[tactic(auto, using(model::proofs::TestLaws::tests, crate::proofs::Bursts::sound_by), unfolding(model::specs::Test::both))]
 fn records_sound(program: &[u16], store: &[u16], burst: &[u16; 8], length: u16, made: u16) -> bool
     requires contents { Contents program.now }
     requires shaped { Shaped store.now }
     requires controlled { Controlled program.now (view store.now) }
     ensures { result ≡ records_sound program.now (view store.now) made (carried burst.now length) }
 {
-    if length < 1 {
-        return false;
-    }
-    if length > 4 {
-        return false;
-    }
-    let found = burst::events(program, burst, length);
-    if let Err(_) = found {
-        return false;
-    }
-    if queue::room(store) < length {
-        return false;
-    }
-    made <= 2 * length
+    1 <= length
+        && length <= 4
+        && burst::events(program, burst, length).is_ok()
+        && length <= queue::room(store)
+        && made <= 2 * length
 }
 
 // A handler at rest has no burst.
+#[tactic(auto, using(model::proofs::TestLaws::tests), unfolding(model::specs::Device::handler_sound, model::specs::Burst::records_at, model::specs::Burst::known_events, model::specs::Store::slot, model::specs::Test::both))]
 fn handler_sound(program: &[u16], store: &[u16], burst: &[u16; 8], handler: Handler) -> bool
     requires contents { Contents program.now }
     requires shaped { Shaped store.now }
@@ -130,58 +99,37 @@ fn handler_sound(program: &[u16], store: &[u16], burst: &[u16; 8], handler: Hand
     match handler {
         Handler::Resting => zeros(burst),
         Handler::Storing(length, made) => records_sound(program, store, burst, length, made),
-        Handler::Dropping => {
-            if burst[0] >= program[2] {
-                return false;
-            }
-            may_drop(store)
-        }
+        Handler::Dropping => burst[0] < program[2] && may_drop(store),
         Handler::Replacing(made) => records_sound(program, store, burst, 1, made),
     }
 }
 
 // May the record at head be dropped: of a full queue, and no event begun or being committed?
+#[tactic(auto, using(model::proofs::TestLaws::tests), unfolding(model::specs::Device::may_drop, model::specs::Test::both))]
 pub fn may_drop(store: &[u16]) -> bool
     requires shaped { Shaped store.now }
     requires store_bound { word store.now 15 ≤ word store.now 3 }
     ensures { result ≡ may_drop (view store.now) }
 {
-    if !queue::is_full(store) {
-        return false;
-    }
-    if store[16] == 2 {
-        return false;
-    }
-    store[8] != 2
+    queue::is_full(store) && store[16] != 2 && store[8] != 2
 }
 
+#[tactic(auto, unfolding(model::specs::Device::is_at_rest))]
 pub fn at_rest(handler: Handler) -> bool
     ensures { result ≡ is_at_rest handler }
 {
-    match handler {
-        Handler::Resting => true,
-        Handler::Storing(_, _) => false,
-        Handler::Dropping => false,
-        Handler::Replacing(_) => false,
-    }
+    matches!(handler, Handler::Resting)
 }
 
+#[tactic(auto, using(model::proofs::TestLaws::tests), unfolding(model::specs::Device::is_fresh, model::specs::Test::both))]
 fn is_fresh(place: Place, handler: Handler) -> bool
     ensures { result ≡ is_fresh place handler }
 {
-    match place {
-        Place::Free(made) => {
-            if made != 0 {
-                return false;
-            }
-            at_rest(handler)
-        }
-        Place::Run(_, _, _) => false,
-        Place::Half(_, _) => false,
-    }
+    matches!(place, Place::Free(0)) && at_rest(handler)
 }
 
 // Are all words 0? Asked of their bits together, which is one test for eight.
+#[tactic(auto, using(model::proofs::TestLaws::both_zero), unfolding(model::specs::Device::zeros, model::specs::Test::both))]
 fn zeros(words: &[u16; 8]) -> bool
     ensures { result ≡ zeros words.now 8 }
 {
@@ -197,6 +145,7 @@ fn zeros(words: &[u16; 8]) -> bool
 }
 
 // Refusal 25, without what needs a row, an instruction, a log pair or a record.
+#[tactic(auto, using(model::proofs::TestLaws::tests), unfolding(model::specs::Device::device_sound, model::specs::Test::both, model::specs::Test::pick))]
 fn device_sound(
     program: &[u16],
     store: &[u16],
@@ -211,29 +160,17 @@ fn device_sound(
     ensures { result ≡ device_sound program.now (view store.now)
         (device_with core registers.now handler burst.now) }
 {
-    let place = core.place;
     if core.on {
-        if core.count > store[2] {
-            return false;
-        }
-        if !place_sound(program, store, core.count, place) {
-            return false;
-        }
-        return handler_sound(program, store, burst, handler);
+        core.count <= store[2]
+            && place_sound(program, store, core.count, core.place)
+            && handler_sound(program, store, burst, handler)
+    } else {
+        zeros(registers) && core.count == 0 && is_fresh(core.place, handler) && zeros(burst)
     }
-    if !zeros(registers) {
-        return false;
-    }
-    if core.count != 0 {
-        return false;
-    }
-    if !is_fresh(place, handler) {
-        return false;
-    }
-    zeros(burst)
 }
 
 // What step and post look at: refusals 1, 2, 3, 6, 7, 25 and 22.
+#[tactic(auto, using(model::proofs::TestLaws::in_a_row, model::proofs::TestLaws::tests, model::proofs::Passed::gives), unfolding(model::specs::Device::look, model::specs::Test::must, model::specs::Test::in_turn))]
 pub fn look(
     program: &[u16],
     store: &[u16],
@@ -264,8 +201,12 @@ pub fn look_whole(program: &[u16], store: &[u16], device: Device) -> Result<(), 
     ensures value { result ≡ look program.now store.now device }
     ensures given { result ≡ Ok tt → Looked program.now store.now device }
 {
-    let registers = device.registers;
-    let burst = device.burst;
-    let handler = device.handler;
-    look(program, store, &registers, &burst, handler, core_of(device))
+    look(
+        program,
+        store,
+        &device.registers,
+        &device.burst,
+        device.handler,
+        core_of(device),
+    )
 }

@@ -5,16 +5,16 @@ ghost use Rattle.model.specs.Program.{first_registers};
 ghost use Rattle.device.specs.Result.{core_at, on_core, core_result};
 
 use super::{Core, CoreResult};
-use model::{Answer, Body, Place, Refusal, Stored};
+use model::{Answer, Body, Place, Refusal};
 
 // Another place and another log count.
 pub fn at_place(core: Core, place: Place, log_count: u16) -> Core
     ensures { result ≡ core_at core place log_count }
 {
     Core {
-        on: core.on,
         place,
         count: log_count,
+        ..core
     }
 }
 

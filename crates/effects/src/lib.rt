@@ -22,23 +22,24 @@ fn reg(registers: &[u16; 8], register: u16) -> u16
 fn sum(left: u16, right: u16) -> u16
     ensures { result ≡ (left + right) % 65536 }
 {
-    std::num::wrapping_add_u16(left, right)
+    left.wrapping_add(right)
 }
 
 fn difference(left: u16, right: u16) -> u16
     ensures { result ≡ (left + (65536 - right)) % 65536 }
 {
-    std::num::wrapping_sub_u16(left, right)
+    left.wrapping_sub(right)
 }
 
 // "k + b as a whole number"
 fn address(operand: u16, offset: u16) -> u32
     ensures { result ≡ operand + offset }
 {
-    operand as u32 + offset as u32
+    u32::from(operand) + u32::from(offset)
 }
 
 // Where a jump goes, from the instruction with this number.
+#[tactic(auto, unfolding(model::specs::Test::pick))]
 fn target(jumps: bool, operand: u16, place: u16) -> u16
     requires { place < 65535 }
     ensures { result ≡ pick jumps operand (place + 1) }
@@ -47,6 +48,7 @@ fn target(jumps: bool, operand: u16, place: u16) -> u16
 }
 
 // An instruction with this number in its body.
+#[tactic(auto, unfolding(model::specs::Program::effect))]
 pub fn effect(instruction: Instruction, registers: &[u16; 8], place: u16) -> Effect
     requires registers { Registers instruction }
     requires place_bound { place < 65535 }
@@ -85,6 +87,7 @@ pub fn effect(instruction: Instruction, registers: &[u16; 8], place: u16) -> Eff
 }
 
 // The instruction with this number of a body.
+#[tactic(auto, unfolding(model::specs::Program::effect_at))]
 pub fn effect_at(
     program: &[u16],
     body_number: u16,

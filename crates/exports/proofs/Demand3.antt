@@ -1,16 +1,16 @@
 -- Demand 3 of the exported functions: each exported call tells what the definition's call does; the rest is model's `observed`. It cites:
 -- words_stay_words, back, run_is_steps, totals_are_counts, observed. Assumes nothing.
+use Rattle.model.specs.Types.{Checked, Err, None, Ok, Some}
 use Prim.Native.Nat.{ℕ, zero, suc, ◌^◌, ◌<◌}
 use mathlib.Core.Bool.{false}
 use mathlib.Core.List.{List, [], ◌∷◌, ◌++◌, append_assoc, append-nil}
 use mathlib.Core.Logic.{◌≢◌}
 use mathlib.Core.Path.{◌≡◌, refl, sym, ap, ◌∙◌, subst}
 use native.Mathlib.Omega.{arith}
-use Rattle.exports.specs.Demand3.{Exchange, single, run_of, raise_of_lem, AnsweredPosting, Makes, MakesAll, calls_of, all_calls, Answered, AllAnswered, RecoversTo, ExportsObserved, at_first, Demand3OfExports}
+use Rattle.exports.specs.Demand3.{Exchange, single, run_of, raise_made, AnsweredPosting, Makes, MakesAll, calls_of, all_calls, Answered, AllAnswered, RecoversTo, ExportsObserved, at_first, Demand3OfExports}
 use Rattle.exports.specs.Exported.{HostState, TellsCall, TellsRun, PostsAs, totals_of, totals_words}
 use Rattle.lines.proofs.RaiseLaws.{TypedPosting, posting_typed}
-use Rattle.lines.specs.Lines.{posting, posting_calls, raise_calls}
-use Rattle.lines.specs.declared.Posting.{Posting}
+use Rattle.lines.specs.Lines.{Posting, posting, posting_calls, raise_calls}
 use Rattle.model.proofs.CallLaws.{after_append, totals-append, boot_counts_nothing, cut_counts_nothing, post_counts_nothing, run_is_steps, totals_are_counts}
 use Rattle.model.proofs.AllOrNone.{bursts_come_whole}
 use Rattle.model.proofs.Turns.{bodies-take-turns}
@@ -22,7 +22,6 @@ use Rattle.model.specs.Claims.{TypedWords, TypedDevice, TypedCall, IsSteps, AreC
 use Rattle.model.specs.Demand3.{Left, recovery_steps, recovering}
 use Rattle.model.specs.Device.{Outcome, fresh, off, boot, cut, post, step}
 use Rattle.model.specs.Store.{view, settled, format, format_check}
-use Rattle.model.specs.declared.Checked.{Checked}
 use Rattle.model.specs.declared.Device.{Device}
 use Rattle.model.specs.declared.Totals.{Totals}
 use Rattle.words.proofs.Words.{back}
@@ -172,9 +171,9 @@ module _ (p : List ℕ) (ps : TypedWords p) (l q : ℕ) (before : List ℕ) (e :
     did_raise : (v : ℕ) (a : List ℕ) (g : HostState) (q : Posting) → v < 2 ^ 16 → TypedPosting q → PostsAs p h.store h.device v a g.device q
         → g.store ≡ h.store → g.totals ≡ h.totals → AnsweredPosting p s cs v a q × At p s (cs ++ posting_calls v q) g
     unfolding posting_calls
-    did_raise v a g (Posting.Refused r) u w (said, device) store totals = (said, at-unchanged g device store totals)
-    did_raise v a g Posting.Nothing u w (said, device) store totals = (said, at-unchanged g device store totals)
-    did_raise v a g (Posting.Event e) u w posts store totals =
+    did_raise v a g (Err r) u w (said, device) store totals = (said, at-unchanged g device store totals)
+    did_raise v a g (Ok None) u w (said, device) store totals = (said, at-unchanged g device store totals)
+    did_raise v a g (Ok (Some e)) u w posts store totals =
         let o = did_single (Post (singlePost e v)) a g (posts, store, totals, (w, u, tt)) in
         (o.answered, at-single (Post (singlePost e v)) a g (w, u, tt) o)
 
@@ -186,7 +185,7 @@ module _ (p : List ℕ) (ps : TypedWords p) (l q : ℕ) (before : List ℕ) (e :
         let o = did_single c a g m in
         (o.answered, at-single c a g (single-words c a g m) o)
     one (run_of b n a) g m = did_run b n a g (run-read b n a g m)
-    one (raise_of_lem table line v a) g (posts, store, totals, ws, u) =
+    one (raise_made table line v a) g (posts, store, totals, ws, u) =
         did_raise v a g (posting table line v) u (posting_typed table line v ws) posts store totals
 
   -- ---- a list of them

@@ -1,41 +1,43 @@
--- From what `words::is_state` and `words::state_of` tell to a promise by the device words. Assumes nothing.
-use mathlib.Core.Bool.{Bool, true, false, not}
-use mathlib.Core.List.{List}
-use mathlib.Core.Path.{◌≡◌, refl, ap, subst, ◌∙◌}
-use Prim.Native.Nat.{ℕ}
+-- From what `words::read_device` finds to a promise by the device words. Assumes nothing.
+use Rattle.std.proofs.Common.{◌≡◌, Bool, true, false, List, ℕ, refl, sym, ap, subst, ◌∙◌}
 use Rattle.exports.specs.Exported.{OnDevice}
-use Rattle.model.proofs.TestLaws.{clash, passed, failed}
+use Rattle.model.proofs.TestLaws.{clash, impossible, pick_true, pick-false}
 use Rattle.model.specs.Test.{pick}
+use Rattle.model.specs.Types.{None, Option, Some}
 use Rattle.model.specs.declared.Device.{Device}
 use Rattle.words.specs.Words.{Read, device_of, is_state, state_of, known, unknown}
 
-module _ (w : List ℕ) (K : Device → Type 0) (U : Type 0) (r : Read) (is : r ≡ device_of w) where
-  on-state : not r.found ≡ false → K r.device → OnDevice w K U
-  on-state f k =
+-- what is found of the words w
+abbrev pub Finds : List ℕ → Option Device → Type 0
+Finds w r = r ≡ pick (is_state w) (Some (state_of w)) None
+
+pub found-state : (w : List ℕ) (e : Device) → Finds w (Some e) → (is_state w ≡ true) × (e ≡ state_of w)
+found-state w e f = go (is_state w) refl
+  where
+    go : (b : Bool) → is_state w ≡ b → (is_state w ≡ true) × (e ≡ state_of w)
+    go true t = let found : Some e ≡ Some (state_of w) = f ∙ pick_true _ _ t in (t, cc)
+    go false t = let none : Some e ≡ None = f ∙ pick-false _ _ t in impossible (cc)
+
+pub found-none : (w : List ℕ) → Finds w None → is_state w ≡ false
+found-none w f = go (is_state w) refl
+  where
+    go : (b : Bool) → is_state w ≡ b → is_state w ≡ false
+    go true t = let found : None ≡ Some (state_of w) = f ∙ pick_true _ _ t in impossible (cc)
+    go false t = t
+
+module _ (w : List ℕ) (K : Device → Type 0) (U : Type 0) where
+  pub state-read : {e : Device} → Finds w (Some e) → K e → OnDevice w K U
+  unfolding device_of
+  state-read {e} f k =
+      let (holds, same) = found-state w e f in
+      let is : device_of w ≡ known (state_of w) = pick_true _ _ holds in
       record {
-        state = λ d e. subst K (ap (λ (x : Read). x.device) (is ∙ e)) k;
-        none = λ e. clash (ap (λ (x : Read). not x.found) (is ∙ e)) f;
+        state = λ d q. subst K (same ∙ ap (λ (x : Read). x.device) (sym is ∙ q)) k;
+        none = λ q. clash refl (ap (λ (x : Read). x.found) (sym is ∙ q));
       }
 
-  on_none : not r.found ≡ true → U → OnDevice w K U
-  on_none f u =
-      record {
-        state = λ d e. clash f (ap (λ (x : Read). not x.found) (is ∙ e));
-        none = λ e. u;
-      }
-
--- from the test b and the state e that the words are read as
-module _ (w : List ℕ) (K : Device → Type 0) (U : Type 0) {b : Bool} (is : b ≡ is_state w) where
-  read_known : (e : Device) → not b ≡ false → e ≡ state_of w → known e ≡ device_of w
-  unfolding device_of pick
-  read_known e f q = simp (passed is f, q)
-
-  read_none : not b ≡ true → unknown ≡ device_of w
-  unfolding device_of pick
-  read_none f = simp (failed is f)
-
-  pub state-read : {e : Device} → not b ≡ false → e ≡ state_of w → K e → OnDevice w K U
-  state-read {e} f q k = on-state w K U (known e) (read_known e f q) refl k
-
-  pub none_read : not b ≡ true → U → OnDevice w K U
-  none_read f u = on_none w K U unknown (read_none f) refl u
+  pub none_read : Finds w None → U → OnDevice w K U
+  unfolding device_of
+  none_read f u =
+      let is : device_of w ≡ unknown = pick-false _ _ (found-none w f) in
+      record { state = λ d q. clash refl (ap (λ (x : Read). x.found) (sym q ∙ is)); none = λ q. u }

@@ -1,4 +1,6 @@
 -- From what a call leaves in code to what is told of it in words. Assumes nothing.
+use Rattle.model.specs.Types.{Err, Ok}
+use Rattle.model.specs.declared.Record.{Record}
 use Prim.Native.Nat.{ℕ}
 use mathlib.Core.List.{List}
 use mathlib.Core.Bool.{true}
@@ -10,8 +12,7 @@ use Rattle.exports.specs.Exported.{host_state, words_of, totals_words, TellsCall
 use Rattle.model.specs.Burst.{burst_words}
 use Rattle.model.specs.Calls.{Call, Post, RunOutcome as Defined}
 use Rattle.model.specs.Device.{Outcome, judged, post_check, set_to_work, post, with_handler}
-use Rattle.model.specs.Store.{Record, view, settled, stored_word}
-use Rattle.model.specs.declared.Checked.{Checked}
+use Rattle.model.specs.Store.{view, settled, stored_word}
 use Rattle.model.specs.declared.Device.{Device}
 use Rattle.model.specs.declared.Refusal.{Refusal}
 use Rattle.runtime.specs.RunResult.{of_run}

@@ -3,10 +3,10 @@
 -- Demand3.antt speaks: same answers, same store, same device state; so what recovery by the same functions leaves is the serial run's. A raise
 -- that posts is a post of that list; one that posts nothing, or whose table is refused, is none of its calls and changes nothing.
 -- Assumes nothing.
+use Rattle.model.specs.Types.{Err, None, Ok, Some}
 use Rattle.std.specs.Prelude.{ℕ, ◌^◌, ◌<◌, replicate, List, [], ◌∷◌, ◌++◌, ◌≢◌, ◌≡◌}
 use Rattle.exports.specs.Exported.{HostState, host_state, Formats, Boots, Posts, Cuts, Steps, Runs, Raises, words_of, totals_of}
-use Rattle.lines.specs.Lines.{posting, raise_calls}
-use Rattle.lines.specs.declared.Posting.{Posting}
+use Rattle.lines.specs.Lines.{Posting, posting, raise_calls}
 use Rattle.model.specs.AllOrNone.{ComeWhole}
 use Rattle.model.specs.Burst.{single as singlePost}
 use Rattle.model.specs.Calls.{Call, Boot, Step, Cut, Post, call, after_calls, steps, no_totals, totals_after, run}
@@ -16,7 +16,6 @@ use Rattle.model.specs.Device.{off}
 use Rattle.model.specs.Serial.{Serial}
 use Rattle.model.specs.Store.{view, stored_word}
 use Rattle.model.specs.Turns.{TakesTurns}
-use Rattle.model.specs.declared.Checked.{Checked}
 use Rattle.words.specs.Words.{device_words, ended_words, refused_words, checked_words, nothing_posted_words}
 
 -- an exported call with its answer: runtime_boot, runtime_step, runtime_post or runtime_burst with the records that it posts, or runtime_cut; or
@@ -24,7 +23,7 @@ use Rattle.words.specs.Words.{device_words, ended_words, refused_words, checked_
 pub data Exchange : Type 0 where
   single : Call → (answer : List ℕ) → Exchange
   run_of : (budget made : ℕ) (answer : List ℕ) → Exchange
-  raise_of_lem : (table : List ℕ) (line level : ℕ) (answer : List ℕ) → Exchange
+  raise_made : (table : List ℕ) (line level : ℕ) (answer : List ℕ) → Exchange
 
 -- the promise of a call that a host makes, holding h before and g after it. What a function isn't lent stays.
 abbrev pub Makes : List ℕ → HostState → Exchange → HostState → Type 0
@@ -34,7 +33,7 @@ Makes p h (single Cut a) g = Cuts a g.device × (g.store ≡ h.store) × (g.tota
 Makes p h (single (Post rs) a) g =
     Posts p h.store h.device rs a g.device × (g.store ≡ h.store) × (g.totals ≡ h.totals) × TypedCall (Post rs)
 Makes p h (run_of b n a) g = Runs p h b n a g
-Makes p h (raise_of_lem table line v a) g =
+Makes p h (raise_made table line v a) g =
     Raises p h.store h.device table line v a g.device × (g.store ≡ h.store) × (g.totals ≡ h.totals) × TypedWords table × (v < 2 ^ 16)
 
 -- a list of them, from h to g
@@ -47,7 +46,7 @@ MakesAll p h (x ∷ xs) g = (k : HostState) × Makes p h x k × MakesAll p k xs 
 unfoldable pub calls_of : Exchange → List Call
 calls_of (single c a) = c ∷ []
 calls_of (run_of b n a) = steps n
-calls_of (raise_of_lem table line v a) = raise_calls table line v
+calls_of (raise_made table line v a) = raise_calls table line v
 
 unfoldable pub all_calls : List Exchange → List Call
 all_calls [] = []
@@ -61,16 +60,16 @@ AnsweredCall p s cs c a =
 
 -- that of a raise at level v is the post's, or says why none was made
 abbrev pub AnsweredPosting : List ℕ → List ℕ → List Call → ℕ → List ℕ → Posting → Type 0
-AnsweredPosting p s cs v a (Posting.Refused r) = a ≡ refused_words r
-AnsweredPosting p s cs v a Posting.Nothing = a ≡ nothing_posted_words
-AnsweredPosting p s cs v a (Posting.Event e) = AnsweredCall p s cs (Post (singlePost e v)) a
+AnsweredPosting p s cs v a (Err r) = a ≡ refused_words r
+AnsweredPosting p s cs v a (Ok None) = a ≡ nothing_posted_words
+AnsweredPosting p s cs v a (Ok (Some e)) = AnsweredCall p s cs (Post (singlePost e v)) a
 
 abbrev pub Answered : List ℕ → List ℕ → List Call → Exchange → Type 0
 Answered p s cs (single c a) = AnsweredCall p s cs c a
 Answered p s cs (run_of b n a) =
     (n ≡ (run p b (after_calls p s off cs).store (after_calls p s off cs).device (totals_after p s off cs no_totals)).steps)
     × (a ≡ ended_words (run p b (after_calls p s off cs).store (after_calls p s off cs).device (totals_after p s off cs no_totals)).ended)
-Answered p s cs (raise_of_lem table line v a) = AnsweredPosting p s cs v a (posting table line v)
+Answered p s cs (raise_made table line v a) = AnsweredPosting p s cs v a (posting table line v)
 
 unfoldable pub AllAnswered : List ℕ → List ℕ → List Call → List Exchange → Type 0
 AllAnswered p s cs [] = Unit {0}

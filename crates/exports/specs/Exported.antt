@@ -2,20 +2,20 @@
 -- three numbers; a step's answer tells which word it stored, too. A call reads its device words first: where they stand for a device
 -- state, what is defined for the call is told in words; where they stand for none, the answer says so and nothing is changed.
 -- Assumes nothing.
+use Rattle.model.specs.Types.{Err, None, Ok, Option, Some}
+use Rattle.model.specs.declared.Record.{Record}
 use Rattle.std.specs.Prelude.{ℕ, List, [], ◌∷◌, ◌≡◌}
 use Rattle.model.specs.Burst.{single}
 use Rattle.model.specs.Calls.{Call, Boot, Step, Cut, Post, RunOutcome as Defined, counted, run}
 use Rattle.model.specs.Check.{check}
 use Rattle.model.specs.Device.{Outcome, boot, post, step, off}
 use Rattle.model.specs.Program.{word}
-use Rattle.model.specs.Store.{Record, settled, stored_word, format_check, format}
+use Rattle.model.specs.Store.{settled, stored_word, format_check, format}
 use Rattle.model.specs.declared.Answer.{Answer}
 use Rattle.model.specs.declared.Device.{Device}
-use Rattle.model.specs.declared.Stored.{Stored}
 use Rattle.model.specs.declared.Totals.{Totals}
 use Rattle.words.specs.Words.{device_of, known, unknown, device_words, answer_words, ended_words, refused_words, checked_words, unknown_words, nothing_posted_words, step_words, unknown_step_words}
-use Rattle.lines.specs.Lines.{check as linesCheck, posting}
-use Rattle.lines.specs.declared.Posting.{Posting}
+use Rattle.lines.specs.Lines.{Posting, check as linesCheck, posting}
 
 -- what a host holds: the store's words, the device's 26 words and the totals' three numbers
 pub record HostState : Type 0 where
@@ -39,7 +39,7 @@ unfoldable pub totals_words : Totals → List ℕ
 totals_words t = t.committed ∷ t.accepted ∷ t.stores ∷ []
 
 -- a call's answer and the word that it stored, in words
-abbrev pub words_of : Call → Answer → Stored → List ℕ
+abbrev pub words_of : Call → Answer → Option ℕ → List ℕ
 words_of Boot a w = answer_words a
 words_of Step a w = step_words a w
 words_of Cut a w = answer_words a
@@ -85,9 +85,9 @@ LinesChecks table a = a ≡ checked_words (linesCheck table)
 -- runtime_raise of a line at level v: runtime_post, of the event that the table has there with v as its data; where the table is refused or has
 -- no event there, the answer says so, and the device words stay whatever they are
 abbrev pub PostsAs : List ℕ → List ℕ → List ℕ → ℕ → List ℕ → List ℕ → Posting → Type 0
-PostsAs p s x v a y (Posting.Refused r) = (a ≡ refused_words r) × (y ≡ x)
-PostsAs p s x v a y Posting.Nothing = (a ≡ nothing_posted_words) × (y ≡ x)
-PostsAs p s x v a y (Posting.Event e) = Posts p s x (single e v) a y
+PostsAs p s x v a y (Err r) = (a ≡ refused_words r) × (y ≡ x)
+PostsAs p s x v a y (Ok None) = (a ≡ nothing_posted_words) × (y ≡ x)
+PostsAs p s x v a y (Ok (Some e)) = Posts p s x (single e v) a y
 
 abbrev pub Raises : List ℕ → List ℕ → List ℕ → List ℕ → ℕ → ℕ → List ℕ → List ℕ → Type 0
 Raises p s x table line v a y = PostsAs p s x v a y (posting table line v)

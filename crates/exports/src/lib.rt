@@ -11,8 +11,7 @@ ghost use Rattle.model.specs.Burst.{carried, single};
 ghost use Rattle.words.specs.Words.{device_words, answer_words};
 
 use device::{CallResult, burst, calls};
-use lines::Posting;
-use model::{Checked, Totals};
+use model::Totals;
 use runtime;
 use store::format;
 
@@ -41,13 +40,11 @@ pub fn runtime_format(
 }
 
 // A result in words.
-fn tell(res: CallResult, device: &mut [u16; 26], answer: &mut [u16; 5])
-    ensures { (answer.new ≡ answer_words res.answer) × (device.new ≡ device_words res.device) }
+fn tell(left: CallResult, device: &mut [u16; 26], answer: &mut [u16; 5])
+    ensures { (answer.new ≡ answer_words left.answer) × (device.new ≡ device_words left.device) }
 {
-    let answered = res.answer;
-    let next = res.device;
-    words::write_answer(answer, answered);
-    words::write_device(device, next);
+    words::write_answer(answer, left.answer);
+    words::write_device(device, left.device);
 }
 
 // boot: 1 to 7, 26.
@@ -55,15 +52,15 @@ pub fn runtime_boot(program: &[u16], store: &[u16], device: &mut [u16; 26], answ
     ensures { Boots program.now store.now device.old
         answer.new device.new }
 {
-    if !words::is_state(device) {
+    let Some(state) = words::read_device(device) else {
         words::write_unknown(answer);
         return;
-    }
-    let state = words::state_of(device);
+    };
     tell(calls::boot(program, store, state), device, answer);
 }
 
 // post: 1, 2, 3, 6, 7, 25, 22, then 8, 20, 21. It is a burst of one.
+#[tactic(auto, unfolding(model::specs::Burst::records_at, model::specs::Store::slot))]
 pub fn runtime_post(
     program: &[u16],
     store: &[u16],
@@ -91,11 +88,10 @@ pub fn runtime_burst(
     ensures { Posts program.now store.now device.old (carried burst.now count)
         answer.new device.new }
 {
-    if !words::is_state(device) {
+    let Some(state) = words::read_device(device) else {
         words::write_unknown(answer);
         return;
-    }
-    let state = words::state_of(device);
+    };
     let found = calls::post_check(program, store, state, count, burst);
     words::write_checked(answer, found);
     match found {
@@ -115,6 +111,7 @@ pub fn runtime_cut(device: &mut [u16; 26], answer: &mut [u16; 5])
     tell(calls::cut(), device, answer);
 }
 
+#[tactic(auto, unfolding(crate::specs::Exported::totals_of))]
 fn totals_of(words: &[u32; 3]) -> Totals
     ensures { result ≡ totals_of words.now }
 {
@@ -125,6 +122,7 @@ fn totals_of(words: &[u32; 3]) -> Totals
     }
 }
 
+#[tactic(auto, unfolding(crate::specs::Exported::totals_words))]
 fn write_totals(words: &mut [u32; 3], totals: Totals)
     ensures { words.new ≡ totals_words totals }
 {
@@ -142,20 +140,20 @@ pub fn runtime_step(
     ensures { Steps program.now (host_state store.old device.old totals.old)
         answer.new (host_state store.new device.new totals.new) }
 {
-    if !words::is_state(device) {
+    let Some(state) = words::read_device(device) else {
         words::write_unknown_step(answer);
         return;
-    }
-    let state = words::state_of(device);
-    let handler = state.handler;
+    };
     let result = runtime::step(program, store, state);
-    let answered = result.answer;
-    let stored = result.stored;
-    let after = result.device;
-    let counted = totals::counted(totals_of(totals), handler, answered, stored);
+    let counted = totals::counted(
+        totals_of(totals),
+        state.handler,
+        result.answer,
+        result.stored,
+    );
     write_totals(totals, counted);
-    words::write_step(answer, answered, stored);
-    words::write_device(device, after);
+    words::write_step(answer, result.answer, result.stored);
+    words::write_device(device, result.device);
 }
 
 // run: steps up to the budget; returns the count of steps made.
@@ -170,18 +168,14 @@ pub fn runtime_run(
     ensures { Runs program.now (host_state store.old device.old totals.old) budget result
         answer.new (host_state store.new device.new totals.new) }
 {
-    if !words::is_state(device) {
+    let Some(state) = words::read_device(device) else {
         words::write_unknown(answer);
         return 0;
-    }
-    let state = words::state_of(device);
+    };
     let result = runtime::run(program, store, state, totals_of(totals), budget);
-    let ended = result.ended;
-    let after = result.device;
-    let counted = result.totals;
-    words::write_ended(answer, ended);
-    words::write_device(device, after);
-    write_totals(totals, counted);
+    words::write_ended(answer, result.ended);
+    words::write_device(device, result.device);
+    write_totals(totals, result.totals);
     result.steps
 }
 
@@ -193,6 +187,7 @@ pub fn runtime_lines_check(table: &[u16], answer: &mut [u16; 5])
 }
 
 // Raising a line: 30, 31, 32; then nothing is posted, or the row's event is, with the level as data.
+#[tactic(auto, unfolding(words::specs::Words::checked_words))]
 pub fn runtime_raise(
     program: &[u16],
     store: &[u16],
@@ -205,10 +200,9 @@ pub fn runtime_raise(
     ensures { Raises program.now store.now device.old table.now line level
         answer.new device.new }
 {
-    let posting = lines::posting_of(table, line, level);
-    match posting {
-        Posting::Refused(why) => words::write_checked(answer, Err(why)),
-        Posting::Nothing => words::write_nothing_posted(answer),
-        Posting::Event(event) => runtime_post(program, store, device, event, level, answer),
+    match lines::posting_of(table, line, level) {
+        Err(why) => words::write_checked(answer, Err(why)),
+        Ok(None) => words::write_nothing_posted(answer),
+        Ok(Some(event)) => runtime_post(program, store, device, event, level, answer),
     }
 }

@@ -1,17 +1,18 @@
 -- Laws of program.img's words: how many there are and which, and an image whose count of words isn't its word 5. Assumes nothing.
-use Prim.Native.Nat.{ℕ, zero, suc, ◌/◌, ◌%◌, ◌<◌, ◌≤◌}
+use Prim.Native.Nat.{ℕ, zero, suc, ◌+◌, ◌*◌, ◌/◌, ◌%◌, ◌<◌, ◌≤◌}
 use mathlib.Core.List.{List, [], ◌∷◌}
 use mathlib.Core.Logic.{◌≢◌}
 use mathlib.Core.Path.{◌≡◌, refl, sym, ◌∙◌}
 use native.Mathlib.Omega.{arith}
 use borrow.Author.Tests.{eq-eqb, ne_eqb, lt-leb, le-leb}
-use lib.ListN.{length, length-append, get_or-append}
-use lib.Seq.{get_or_at}
+use native.Mathlib.Numerals.{add-one}
+use lib.ListN.{length, length-append, get_or-append, set, take}
+use lib.Seq.{get_or_at, take-suc-set}
 use Rattle.model.proofs.TestLaws.{same_or, must_stop, must_go, then_rest}
 use Rattle.model.specs.Check.{contents_rule, check}
 use Rattle.model.specs.Program.{word, total}
 use Rattle.model.specs.Test.{must, in_turn}
-use Rattle.model.specs.declared.Checked.{Checked}
+use Rattle.model.specs.Types.{Ok, Err}
 use Rattle.model.specs.declared.Refusal.{Refusal}
 use Rattle.image.specs.Image.{low_first, first_words, program_of, image_check, LongIsRefused}
 
@@ -29,6 +30,12 @@ word_is image (suc n) i l =
     (λ differ.
     let inside : i < length (first_words image n) = omega (arith, words-length image n) in
     get_or-append (first_words image n) (low_first image n ∷ []) 0 i inside ∙ word_is image n i (omega arith))
+
+-- one word more is filled
+pub filled : (image words : List ℕ) (n x : ℕ) → n < length words → take n words ≡ first_words image n
+    → x ≡ word image (2 * n) + 256 * word image (2 * n + 1) → take (n + 1) (set words n x) ≡ first_words image (n + 1)
+unfolding first_words low_first
+filled image words n x l e v = rw add-one (take-suc-set words n x l ∙ rw (e, v))
 
 -- a program of fewer than 6 words, or whose count isn't its word 5, is refused as 1
 pub too_short : (p : List ℕ) → length p < 6 → Err Refusal.ProgramLength ≡ check p

@@ -4,7 +4,7 @@ use Rattle.model.specs.Check.{check}
 use Rattle.model.specs.Program.{word, memory_words}
 use Rattle.model.specs.Store.{store_length}
 use Rattle.model.specs.Test.{must, ◌then◌}
-use Rattle.model.specs.declared.Checked.{Checked}
+use Rattle.model.specs.Types.{Checked, Ok, Err}
 use Rattle.model.specs.declared.Refusal.{Refusal}
 use Rattle.image.specs.declared.Loaded.{Loaded}
 

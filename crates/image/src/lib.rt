@@ -3,13 +3,13 @@
 #![tactic(auto)]
 
 ghost use Rattle.std.specs.Prelude.{◌+◌, ◌*◌, ◌≤◌, length, take, ◌≡◌};
-ghost use Rattle.model.specs.Check.{check as checkOf};
 ghost use Rattle.image.specs.Image.{first_words};
 ghost use Rattle.image.specs.Image.{Loads, Reads, StoreWords};
 
-use model::{Checked, Refusal};
+use model::Refusal;
 
-// What the check says of an image, and how many words it has where the check accepts it.
+// What the check says of an image, and how many words it has where the check accepts it. No Result holds both: sheet/specs/Printed.antt speaks of
+// these words where the check refuses them, too.
 #[derive(Clone, Copy)]
 pub struct Loaded {
     pub checked: Result<(), Refusal>,
@@ -19,18 +19,17 @@ pub struct Loaded {
 fn low_first(low: u8, high: u8) -> u16
     ensures { result ≡ low + 256 * high }
 {
-    low as u16 + 256 * high as u16
+    u16::from_le_bytes([low, high])
 }
 
 // The first words, so many.
+#[tactic(auto, using(crate::proofs::ImageLaws::filled), unfolding(crate::specs::Image::first_words, crate::specs::Image::low_first))]
 fn fill(image: &[u8], words: &mut [u16], count: usize)
     requires { (2 * count ≤ length image.now) × (count ≤ length words.old) }
     ensures { take count words.new ≡ first_words image.now count }
 {
-    let mut i = 0;
-    while i < count {
+    for i in 0..count {
         words[i] = low_first(image[2 * i], image[2 * i + 1]);
-        i += 1;
     }
 }
 
@@ -38,22 +37,9 @@ fn fill(image: &[u8], words: &mut [u16], count: usize)
 pub fn read(image: &[u8], words: &mut [u16]) -> usize
     ensures { Reads image.now words.new result }
 {
-    let count = image.len() / 2;
-    let most = words.len();
-    if count > most {
-        fill(image, words, most);
-        return most;
-    }
+    let count = (image.len() / 2).min(words.len());
     fill(image, words, count);
     count
-}
-
-// The check of these words, so many.
-fn check(words: &[u16], count: usize) -> Result<(), Refusal>
-    requires { count ≤ length words.now }
-    ensures { result ≡ checkOf (take count words.now) }
-{
-    program::check(&words[..count])
 }
 
 // "an odd byte count is 1". More words than word 5 can say are 1, too, so that the others fit.
@@ -64,10 +50,7 @@ pub fn load(image: &[u8], words: &mut [u16; 65535]) -> Loaded
         checked: Err(Refusal::ProgramLength),
         length: 0,
     };
-    if image.len() % 2 != 0 {
-        return refused;
-    }
-    if image.len() < 12 {
+    if image.len() % 2 != 0 || image.len() < 12 {
         return refused;
     }
     let count = low_first(image[10], image[11]) as usize;
@@ -76,7 +59,7 @@ pub fn load(image: &[u8], words: &mut [u16; 65535]) -> Loaded
     }
     fill(image, words, count);
     Loaded {
-        checked: check(words, count),
+        checked: program::check(&words[..count]),
         length: count,
     }
 }
@@ -85,12 +68,8 @@ pub fn load(image: &[u8], words: &mut [u16; 65535]) -> Loaded
 pub fn store_words(program: &[u16]) -> usize
     ensures { StoreWords program.now result }
 {
-    if program.len() < 6 {
+    if program.len() < 6 || program[3] > 1024 {
         return 0;
     }
-    let memory = program[3];
-    if memory > 1024 {
-        return 0;
-    }
-    23 + memory as usize
+    23 + program[3] as usize
 }

@@ -6,9 +6,11 @@ use mathlib.Core.Path.{◌≡◌, refl, sym, subst, ◌∙◌}
 use native.Mathlib.Nat.{add-zero, zero-add}
 use native.Mathlib.Numerals.{add-one}
 use native.Mathlib.Omega.{arith}
+use borrow.Author.Tests.{lt-ltb, le-ltb, ltb-true, ltb-false}
+use lib.Dec.{ltb}
 use Rattle.model.proofs.TestLaws.{pick_true, pick-false, impossible, then_skip, then_passed, each-passed, same_or}
 use Rattle.model.specs.Test.{pick, ◌then◌, each, in_turn}
-use Rattle.model.specs.declared.Checked.{Checked}
+use Rattle.model.specs.Types.{Checked, Err, None, Ok, Some}
 use Rattle.model.specs.declared.Refusal.{Refusal}
 use Rattle.lines.specs.Lines.{count, first}
 
@@ -84,6 +86,9 @@ module _ (f : ℕ → Bool) where
     pub first-none : n ≤ i → i ≡ first f i (n - i)
     unfolding first
     first-none h = let e : n - i ≡ 0 = omega arith in rw e
+
+  -- the same as a set of rules
+  pub ruleset by_first = (first_hit, first_miss, first-none)
 
   -- where it ends before all are tried, the test is passed; where it doesn't, none passes
   pub first_passes : (i k : ℕ) → first f i k < i + k → f (first f i k) ≡ true
@@ -188,3 +193,23 @@ pub refused_first : (f : ℕ → Checked) (k : ℕ) (r : Refusal) → each f 0 k
 refused_first f k r e =
     let (j, h) = refused_from f 0 k r e in
     (j, record { there = h.there; refuses = rw zero-add at h.refuses; before = λ m l. rw zero-add at (h.before m l) })
+
+-- ---- a place r that is there where it is below n
+
+pub is_found : (r n i : ℕ) → i ≡ r → i < n → Some i ≡ pick (ltb r n) (Some r) None
+is_found r n i e l = rw e (sym (pick_true (Some r) None (lt-ltb r n (omega arith))))
+
+pub is_none : (r n : ℕ) → n ≤ r → None ≡ pick (ltb r n) (Some r) None
+is_none r n l = sym (pick-false (Some r) None (le-ltb r n l))
+
+pub found_is : (r n i : ℕ) → Some i ≡ pick (ltb r n) (Some r) None → (i ≡ r) × (r < n)
+found_is r n i h =
+    by_test (ltb r n)
+    (λ e. let s : Some i ≡ Some r = h ∙ pick_true (Some r) None e in (cc, ltb-true r n e))
+    (λ e. let s : Some i ≡ None = h ∙ pick-false (Some r) None e in impossible (cc))
+
+pub none-is : (r n : ℕ) → None ≡ pick (ltb r n) (Some r) None → n ≤ r
+none-is r n h =
+    by_test (ltb r n)
+    (λ e. let s : None ≡ Some r = h ∙ pick_true (Some r) None e in impossible (cc))
+    (λ e. ltb-false r n e)

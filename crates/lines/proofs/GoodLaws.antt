@@ -7,7 +7,7 @@ use native.Mathlib.Omega.{arith}
 use borrow.Author.Tests.{leb-true, leb-false}
 use Rattle.model.proofs.TestLaws.{impossible, below_or, must-passed, then_first, then_rest, then_passed}
 use Rattle.model.specs.Test.{must}
-use Rattle.model.specs.declared.Checked.{Checked}
+use Rattle.model.specs.Types.{Checked, Err, Ok}
 use Rattle.model.specs.declared.Refusal.{Refusal}
 use Rattle.lines.proofs.CountLaws.{by_test, all-accept, accepted-all, FirstRefuses, refused_first, then_refused}
 use Rattle.lines.proofs.LineLaws.{covered_counts, counted_covered, twice_counts, counted_twice, named-true, named_is, no_gap, no_overlap, unnamed_accepts, named-each, line-accepts}

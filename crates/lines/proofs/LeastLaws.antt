@@ -1,14 +1,10 @@
 -- Laws of the least number with a property (specs/Inside.antt): of none, of one more number, of two properties one after the other; and of the
 -- places that rows share. Assumes nothing.
-use Prim.Native.Nat.{ℕ, ◌+◌, ◌*◌, ◌≤◌}
+use Prim.Native.Nat.{ℕ, ◌+◌, ◌*◌, ◌≤◌, min}
 use mathlib.Core.List.{List}
 use mathlib.Core.Path.{◌≡◌, refl, subst}
-use lib.Dec.{ltb}
 use native.Mathlib.Omega.{arith}
-use borrow.Author.Tests.{ltb-true, ltb-false}
-use Rattle.model.proofs.TestLaws.{pick_true, pick-false, below_or, same_or}
-use Rattle.model.specs.Test.{pick}
-use Rattle.lines.proofs.CountLaws.{by_test}
+use Rattle.model.proofs.TestLaws.{below_or, same_or}
 use Rattle.lines.specs.Inside.{Least, Share, SharedAt, SharedBelow, SharedAmong}
 use Rattle.lines.specs.Lines.{line}
 
@@ -16,16 +12,11 @@ pub least_of_none : (P : ℕ → Type 0) (b : ℕ) → ((k : ℕ) → P k → �
 least_of_none P b none = record { most = omega arith; found = λ l. absurd (omega arith); least = λ k h. absurd (none k h) }
 
 -- the lesser of a bound l and the least number z
-pub least_lesser : (P : ℕ → Type 0) (b l z r : ℕ) → Least P b z → l ≤ b → r ≡ pick (ltb l z) l z → Least P l r
+pub least_lesser : (P : ℕ → Type 0) (b l z r : ℕ) → Least P b z → l ≤ b → r ≡ min l z → Least P l r
 least_lesser P b l z r h k e =
-    by_test (ltb l z)
-    (λ less.
-    let is = pick_true l z less in
-    let m = ltb-true l z less in
-    record { most = omega arith; found = λ u. absurd (omega arith); least = λ j p. let u = h.least j p in omega arith })
+    below_or l z
+    (λ less. record { most = omega arith; found = λ u. absurd (omega arith); least = λ j p. let u = h.least j p in omega arith })
     (λ not-less.
-    let is = pick-false l z not-less in
-    let m = ltb-false l z not-less in
     let same : z ≡ r = omega arith in
     record { most = omega arith; found = λ u. subst P same (h.found (omega arith)); least = λ j p. let u = h.least j p in omega arith })
 

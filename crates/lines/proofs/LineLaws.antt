@@ -3,14 +3,14 @@ use Prim.Native.Nat.{ℕ, ◌+◌, ◌*◌, ◌≤◌, ◌<◌}
 use mathlib.Core.Bool.{true, false}
 use mathlib.Core.List.{List}
 use mathlib.Core.Path.{◌≡◌, refl, sym, subst, ◌∙◌}
-use lib.Dec.{eqb, leb}
+use lib.Dec.{eqb, leb, ltb}
 use native.Mathlib.Omega.{arith}
 use borrow.Author.Tests.{eqb-true, leb-true, leb-false, le-leb, lt-leb, eq-eqb}
 use Rattle.model.proofs.TestLaws.{and_true, and_left, and_right, must-true, must_refuses, pick_true, pick-false, below_or}
-use Rattle.model.specs.Test.{◌and◌, each}
-use Rattle.model.specs.declared.Checked.{Checked}
+use Rattle.model.specs.Test.{pick, ◌and◌, each}
+use Rattle.model.specs.Types.{Checked, Err, None, Ok, Some}
 use Rattle.model.specs.declared.Refusal.{Refusal}
-use Rattle.lines.proofs.CountLaws.{by_test, one-counts, two-count, none-count, some_counted, two-counted, first_passes, none_passes, all-accept, first_refuses}
+use Rattle.lines.proofs.CountLaws.{by_test, one-counts, two-count, none-count, some_counted, two-counted, first_passes, none_passes, found_is, none-is, all-accept, first_refuses}
 use Rattle.lines.specs.Claims.{Named, Covers, Covered, CoveredTwice}
 use Rattle.lines.specs.Inside.{Least, Gap, Share, SharedAmong}
 use Rattle.lines.specs.Lines.{line, low, high, rows, count, is_of, named, covers, coverage, gap_rule, overlap_rule, lines, levels, line_rule, line_rules, row_of}
@@ -65,6 +65,13 @@ module _ (t : List ℕ) (n : ℕ) where
     row_missing l =
         none-count (covers t n x) (rows t)
         (λ i k. subst (λ (h : ℕ). covers t n x h ≡ false) (omega arith) (none_passes (covers t n x) 0 (rows t) i (omega arith) k))
+
+    -- the same of what a search that may find none finds
+    pub some-found : (r : ℕ) → Some r ≡ pick (ltb (row_of t n x) (rows t)) (Some (row_of t n x)) None → Covers t n x r
+    some-found r e = let at = found_is _ _ _ e in row-found r at.0 (omega arith)
+
+    pub none-found : None ≡ pick (ltb (row_of t n x) (rows t)) (Some (row_of t n x)) None → Gap t n x
+    none-found e = row_missing (none-is _ _ e)
 
   -- ---- a line's rows
 
@@ -146,6 +153,9 @@ module _ (t : List ℕ) (n r : ℕ) (h : Least (Gap t n) levels r) where
 
   pub gap-accepts : levels ≤ r → (Ok tt) ≡ line_rule t (gap_rule t) n
   gap-accepts l = sym (line-accepts t (gap_rule t) n (λ x _ k. no_gap t n x (below_covered x (omega arith))))
+
+-- what 31 is of a line, by whether it has rows and by its lowest gap
+pub ruleset by_gap = (unnamed_accepts, gap_refuses, gap-accepts)
 
 -- ---- 32, of the lowest place that rows share
 

@@ -13,14 +13,13 @@ use Rattle.model.specs.Claims.{TypedWords}
 use Rattle.model.specs.Device.{out, judged, post}
 use Rattle.model.specs.Store.{none, settled}
 use Rattle.model.specs.declared.Answer.{Answer}
-use Rattle.model.specs.declared.Checked.{Checked}
+use Rattle.model.specs.Types.{Checked, Err, None, Ok, Some}
 use Rattle.model.specs.declared.Device.{Device}
 use Rattle.model.specs.declared.Refusal.{Refusal}
 use Rattle.lines.proofs.GoodLaws.{accepted_is_good}
 use Rattle.lines.proofs.LineLaws.{covered_counts, row-found, row_missing}
 use Rattle.lines.specs.Claims.{Named, Covers, RaisePosts, RaisePostsNothing, RaiseChecksFirst, RaiseIsItsCalls}
-use Rattle.lines.specs.Lines.{event, rows, levels, no_event, check, row_of, event_of, posting_of, posting, raise_of, raise, posting_calls, raise_calls}
-use Rattle.lines.specs.declared.Posting.{Posting}
+use Rattle.lines.specs.Lines.{Posting, event, rows, levels, no_event, check, row_of, event_of, posting_of, posting, raise_of, raise, posting_calls, raise_calls}
 
 -- ---- what is posted
 
@@ -43,15 +42,15 @@ module _ (t : List ℕ) (n x : ℕ) where
       (λ l. let c = row-found t n x _ refl l in absurd (unnamed (row_of t n x, l, c.line_is)))
       (λ l. pick-false _ _ (le-ltb (row_of t n x) (rows t) l))
 
-  posts : (e : ℕ) → check t ≡ Ok tt → event_of t n x ≡ e → e ≢ no_event → posting t n x ≡ Posting.Event e
+  posts : (e : ℕ) → check t ≡ Ok tt → event_of t n x ≡ e → e ≢ no_event → posting t n x ≡ Ok (Some e)
   unfolding posting posting_of
   posts e accepted is some = rw (accepted, is) (pick-false _ _ (ne_eqb e no_event some))
 
-  posts_nothing : check t ≡ Ok tt → event_of t n x ≡ no_event → posting t n x ≡ Posting.Nothing
+  posts_nothing : check t ≡ Ok tt → event_of t n x ≡ no_event → posting t n x ≡ Ok None
   unfolding posting posting_of
   posts_nothing accepted is = rw (accepted, is) (pick_true _ _ (eq-eqb no_event no_event refl))
 
-  posts-refused : (r : Refusal) → check t ≡ Err r → posting t n x ≡ Posting.Refused r
+  posts-refused : (r : Refusal) → check t ≡ Err r → posting t n x ≡ Err r
   unfolding posting posting_of
   posts-refused r refused = rw refused
 
@@ -83,9 +82,9 @@ post_stores_nothing p s d e x = judged_stores_nothing _ d _ _ s
 posting_is_its_calls : (p s : List ℕ) (d : Device) (x : ℕ) (q : Posting)
     → after_calls p s d (posting_calls x q) ≡ record { store = s; device = (raise_of p s d x q).device }
 unfolding after_calls posting_calls raise_of call
-posting_is_its_calls p s d x (Posting.Refused r) = refl
-posting_is_its_calls p s d x Posting.Nothing = refl
-posting_is_its_calls p s d x (Posting.Event e) =
+posting_is_its_calls p s d x (Err r) = refl
+posting_is_its_calls p s d x (Ok None) = refl
+posting_is_its_calls p s d x (Ok (Some e)) =
     ap (λ (z : List ℕ). record { store = z; device = (post p s d (single e x)).device }) (post_stores_nothing p s d e x)
 
 pub raise_is_its_calls : RaiseIsItsCalls
@@ -95,9 +94,9 @@ raise_is_its_calls p s d t n x = posting_is_its_calls p s d x (posting t n x)
 -- ---- words
 
 abbrev pub TypedPosting : Posting → Type 0
-TypedPosting (Posting.Refused r) = Unit {0}
-TypedPosting Posting.Nothing = Unit {0}
-TypedPosting (Posting.Event e) = e < 2 ^ 16
+TypedPosting (Err r) = Unit {0}
+TypedPosting (Ok None) = Unit {0}
+TypedPosting (Ok (Some e)) = e < 2 ^ 16
 
 event_typed : (t : List ℕ) (n x : ℕ) → TypedWords t → event_of t n x < 2 ^ 16
 unfolding event_of no_event

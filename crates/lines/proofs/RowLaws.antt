@@ -6,7 +6,7 @@ use lib.ListN.{length}
 use native.Mathlib.Omega.{arith}
 use borrow.Author.Tests.{ltb-true, leb-true, lt-ltb, le-leb}
 use Rattle.model.proofs.TestLaws.{must_then, must-passed, must-true, then_passed, then_first, same_or}
-use Rattle.model.specs.declared.Checked.{Checked}
+use Rattle.model.specs.Types.{Ok}
 use Rattle.lines.proofs.CountLaws.{all-accept, accepted-all}
 use Rattle.lines.specs.Claims.{GoodRow}
 use Rattle.lines.specs.Inside.{Whole}
@@ -55,3 +55,6 @@ module _ (t : List ℕ) where
   pub check_whole : check t ≡ Ok tt → Whole t
   unfolding check
   check_whole e = rows_whole (then_first _ _ e)
+
+-- what an accepted row, and an accepted table, gives
+pub ruleset gives = (accepted-row, rows_whole, check_whole)

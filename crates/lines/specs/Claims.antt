@@ -6,11 +6,10 @@ use Rattle.model.specs.Burst.{single}
 use Rattle.model.specs.Calls.{after_calls}
 use Rattle.model.specs.Device.{post}
 use Rattle.model.specs.declared.Answer.{Answer}
-use Rattle.model.specs.declared.Checked.{Checked}
+use Rattle.model.specs.Types.{Err, None, Ok, Some}
 use Rattle.model.specs.declared.Device.{Device}
 use Rattle.model.specs.declared.Refusal.{Refusal}
 use Rattle.lines.specs.Lines.{line, low, high, event, rows, levels, no_event, check, raise_result, raise, raise_calls}
-use Rattle.lines.specs.declared.RaiseAnswer.{RaiseAnswer}
 
 -- ---- Good tables
 
@@ -94,19 +93,19 @@ RefusedIsBlamed = (t : List ℕ) (r : Refusal) → check t ≡ Err r → Blames 
 abbrev pub RaisePosts : Type 0
 RaisePosts =
     (p s : List ℕ) (d : Device) (t : List ℕ) (n x i : ℕ) → check t ≡ Ok tt → x < levels → Covers t n x i → event t i ≢ no_event
-    → raise p s d t n x ≡ raise_result (RaiseAnswer.Answered (post p s d (single (event t i) x)).answer) (post p s d (single (event t i) x)).device
+    → raise p s d t n x ≡ raise_result (Some (post p s d (single (event t i) x)).answer) (post p s d (single (event t i) x)).device
 
 -- "a line without rows, or event 65535, posts nothing and says so"
 abbrev pub RaisePostsNothing : Type 0
 RaisePostsNothing =
     (p s : List ℕ) (d : Device) (t : List ℕ) (n x : ℕ) → check t ≡ Ok tt → x < levels
-    → (Named t n → ⊥) ⊎ ((i : ℕ) × Covers t n x i × (event t i ≡ no_event)) → raise p s d t n x ≡ raise_result RaiseAnswer.Nothing d
+    → (Named t n → ⊥) ⊎ ((i : ℕ) × Covers t n x i × (event t i ≡ no_event)) → raise p s d t n x ≡ raise_result None d
 
 -- "checked .. before any post"
 abbrev pub RaiseChecksFirst : Type 0
 RaiseChecksFirst =
     (p s : List ℕ) (d : Device) (t : List ℕ) (n x : ℕ) (r : Refusal) → check t ≡ Err r
-    → raise p s d t n x ≡ raise_result (RaiseAnswer.Answered (Answer.Refused r)) d
+    → raise p s d t n x ≡ raise_result (Some (Answer.Refused r)) d
 
 -- In demand 3's list a raise is its `raise_calls`: the post, if it posts, and otherwise no call. Store and device are then as these leave them.
 abbrev pub RaiseIsItsCalls : Type 0

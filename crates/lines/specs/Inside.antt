@@ -2,8 +2,13 @@
 -- rows share. No promise to a host rests on this. Assumes nothing.
 use Rattle.std.specs.Prelude.{ℕ, ◌+◌, ◌*◌, ◌≤◌, ◌<◌, Bool, List, ◌≡◌, eqb, leb, length}
 use Rattle.model.specs.Test.{pick, ◌and◌}
-use Rattle.model.specs.declared.Checked.{Checked}
-use Rattle.lines.specs.Lines.{line, low, high, rows, coverage, gap_rule, overlap_rule, line_rules}
+use Rattle.model.specs.Types.{Ok}
+use Rattle.lines.specs.declared.levels.Row.{Row}
+use Rattle.lines.specs.Lines.{line, low, high, event, rows, coverage, gap_rule, overlap_rule, line_rules}
+
+-- row i
+abbrev pub row_at : List ℕ → ℕ → Row
+row_at t i = record { line = line t i; low = low t i; high = high t i; event = event t i }
 
 -- what 30 gives
 pub record Whole (t : List ℕ) : Type 0 where

@@ -8,11 +8,9 @@ use Rattle.model.specs.Device.{post}
 use Rattle.model.specs.Program.{word}
 use Rattle.model.specs.Test.{pick, ◌and◌, must, ◌then◌, each}
 use Rattle.model.specs.declared.Answer.{Answer}
-use Rattle.model.specs.declared.Checked.{Checked}
+use Rattle.model.specs.Types.{Checked, Err, None, Ok, Option, Result, Some}
 use Rattle.model.specs.declared.Device.{Device}
 use Rattle.model.specs.declared.Refusal.{Refusal}
-use Rattle.lines.specs.declared.Posting.{Posting}
-use Rattle.lines.specs.declared.RaiseAnswer.{RaiseAnswer}
 use Rattle.lines.specs.declared.RaiseResult.{RaiseResult}
 
 -- ---- "a table of at most 64 rows of four words: line (0 to 15), low level, high level, event (65535 for none)"
@@ -108,21 +106,25 @@ row_of t n x = first (covers t n x) 0 (rows t)
 unfoldable pub event_of : List ℕ → ℕ → ℕ → ℕ
 event_of t n x = pick (ltb (row_of t n x) (rows t)) (event t (row_of t n x)) no_event
 
+-- what raising a line posts: the table's refusal; nothing; or an event
+abbrev pub Posting : Type 0
+Posting = Result (Option ℕ) Refusal
+
 -- what raising line n at level x posts: "checked .. before any post"; the table alone decides it
 unfoldable pub posting_of : Checked → ℕ → Posting
-posting_of (Err r) e = Posting.Refused r
-posting_of (Ok _) e = pick (eqb e no_event) Posting.Nothing (Posting.Event e)
+posting_of (Err r) e = Err r
+posting_of (Ok _) e = pick (eqb e no_event) (Ok None) (Ok (Some e))
 
 unfoldable pub posting : List ℕ → ℕ → ℕ → Posting
 posting t n x = posting_of (check t) (event_of t n x)
 
-abbrev pub raise_result : RaiseAnswer → Device → RaiseResult
+abbrev pub raise_result : Option Answer → Device → RaiseResult
 raise_result a d = record { answer = a; device = d }
 
 unfoldable pub raise_of : List ℕ → List ℕ → Device → ℕ → Posting → RaiseResult
-raise_of p s d x (Posting.Refused r) = raise_result (RaiseAnswer.Answered (Answer.Refused r)) d
-raise_of p s d x Posting.Nothing = raise_result RaiseAnswer.Nothing d
-raise_of p s d x (Posting.Event e) = raise_result (RaiseAnswer.Answered (post p s d (single e x)).answer) (post p s d (single e x)).device
+raise_of p s d x (Err r) = raise_result (Some (Answer.Refused r)) d
+raise_of p s d x (Ok None) = raise_result None d
+raise_of p s d x (Ok (Some e)) = raise_result (Some (post p s d (single e x)).answer) (post p s d (single e x)).device
 
 -- raising line n of table t at level x, on program p, store s and device d
 unfoldable pub raise : List ℕ → List ℕ → Device → List ℕ → ℕ → ℕ → RaiseResult
@@ -131,9 +133,9 @@ raise p s d t n x = raise_of p s d x (posting t n x)
 -- ---- The calls of demand 3's list that a raise is: one that posts is that post, any other is none of them.
 
 unfoldable pub posting_calls : ℕ → Posting → List Call
-posting_calls x (Posting.Refused r) = []
-posting_calls x Posting.Nothing = []
-posting_calls x (Posting.Event e) = Post (single e x) ∷ []
+posting_calls x (Err r) = []
+posting_calls x (Ok None) = []
+posting_calls x (Ok (Some e)) = Post (single e x) ∷ []
 
 unfoldable pub raise_calls : List ℕ → ℕ → ℕ → List Call
 raise_calls t n x = posting_calls x (posting t n x)

@@ -1,10 +1,9 @@
 -- Worked rows of line tables: what the check finds, level by level, and what raising posts. They hold the definitions where no theorem would
 -- notice another meaning. proofs/LinesRows.antt has the theorem, in which the checker computes every row from the definitions.
 use Rattle.std.specs.Prelude.{ℕ, zero, suc, ◌≡◌, List, [], ◌∷◌, ◌++◌}
-use Rattle.model.specs.declared.Checked.{Checked}
+use Rattle.model.specs.Types.{Err, None, Ok, Some}
 use Rattle.model.specs.declared.Refusal.{Refusal}
 use Rattle.lines.specs.Lines.{coverage, gap_rule, levels, line_rules, check, posting, event_of, posting_of, row_rules}
-use Rattle.lines.specs.declared.Posting.{Posting}
 
 -- a row: its line, its low and high level, its event
 abbrev pub band : ℕ → ℕ → ℕ → ℕ → List ℕ
@@ -59,9 +58,9 @@ pub record LinesRows : Type 0 where
   pub first_level : event_of probe 0 0 ≡ 0
   pub last_of_band : event_of probe 0 29999 ≡ 0
   pub silent : event_of probe 0 30000 ≡ 65535
-  pub other_line_lem : event_of probe 1 65535 ≡ 1
+  pub another_line : event_of probe 1 65535 ≡ 1
   pub no_rows : event_of probe 2 7 ≡ 65535
   pub past_15 : event_of probe 16 7 ≡ 65535
-  pub event_posted : posting_of (Ok tt) 65534 ≡ Posting.Event 65534
-  pub none_posted : posting_of (Ok tt) 65535 ≡ Posting.Nothing
-  pub refused_first : posting (band 3 1 65535 0) 7 7 ≡ Posting.Refused (Refusal.LinesGap 3 0)
+  pub event_posted : posting_of (Ok tt) 65534 ≡ Ok (Some 65534)
+  pub none_posted : posting_of (Ok tt) 65535 ≡ Ok None
+  pub refused_first : posting (band 3 1 65535 0) 7 7 ≡ Err (Refusal.LinesGap 3 0)

@@ -4,81 +4,52 @@
 
 #![tactic(auto)]
 
-ghost use Rattle.std.specs.Prelude.{◌≡◌};
-ghost use Rattle.lines.specs.Lines.{check, event_of, posting, raise};
+ghost use Rattle.std.specs.Prelude.{◌≡◌, eqb, Ok, Some, None};
+ghost use Rattle.model.specs.Test.{pick};
+ghost use Rattle.lines.specs.Lines.{check, event_of, no_event, posting, raise};
 ghost use Rattle.lines.specs.Inside.{Whole};
 
 use device::calls;
-use model::{Answer, Checked, Device, Refusal};
+use model::{Answer, Device, Refusal};
 
 mod levels;
 mod rows;
 
-// What raising a line posts, as its table says.
-#[derive(Clone, Copy)]
-pub enum Posting {
-    Refused(Refusal),
-    Nothing,
-    Event(u16),
-}
+use levels::Table;
 
-// What raising a line answers: that nothing is posted; or as the post does, or the table's check where it refuses.
-#[derive(Clone, Copy)]
-pub enum RaiseAnswer {
-    Nothing,
-    Answered(Answer),
-}
-
-// What raising a line answers, and the device after it.
+// What raising a line answers, and the device after it: none where nothing is posted; else as the post does, or the table's check where it refuses.
 #[derive(Clone, Copy)]
 pub struct RaiseResult {
-    pub answer: RaiseAnswer,
+    pub answer: Option<Answer>,
     pub device: Device,
 }
 
 // The check of a table: 30, then 31 over all lines, then 32.
+#[tactic(auto, using(model::proofs::TestLaws::in_a_row, crate::proofs::RowLaws::gives), unfolding(crate::specs::Lines::check))]
 pub fn check(table: &[u16]) -> Result<(), Refusal>
     ensures value { result ≡ check table.now }
     ensures given { result ≡ Ok tt → Whole table.now }
 {
     rows::rules(table)?;
-    if levels::in_order(table) {
+    let table = Table { words: table };
+    if table.in_order() {
         return Ok(());
     }
-    levels::gaps(table)?;
-    levels::overlaps(table)
+    table.gaps()?;
+    table.overlaps()
 }
 
-// The event of the row that covers a level of a line, or 65535.
-fn event_of(table: &[u16], line: u16, level: u16) -> u16
-    requires { Whole table.now }
-    ensures { result ≡ event_of table.now line level }
-{
-    let row = levels::row_of(table, line, level);
-    if row < table.len() / 4 {
-        return table[4 * row + 3];
-    }
-    65535
-}
-
-// What raising a line posts. The table is checked first, and nothing but the table is looked at.
-pub fn posting_of(table: &[u16], line: u16, level: u16) -> Posting
+// What raising a line posts, if anything. The table is checked first, and nothing but the table is looked at.
+#[tactic(auto, unfolding(crate::specs::Lines::posting, crate::specs::Lines::posting_of, model::specs::Test::pick))]
+pub fn posting_of(table: &[u16], line: u16, level: u16) -> Result<Option<u16>, Refusal>
     ensures { result ≡ posting table.now line level }
 {
-    let found = check(table);
-    match found {
-        Err(why) => Posting::Refused(why),
-        Ok(()) => {
-            let event = event_of(table, line, level);
-            if event == 65535 {
-                return Posting::Nothing;
-            }
-            Posting::Event(event)
-        }
-    }
+    check(table)?;
+    Ok(Table { words: table }.event_of(line, level))
 }
 
 // Raising a line at a level: a post of the event that the table has for it, with the level as data.
+#[tactic(auto, unfolding(crate::specs::Lines::raise, crate::specs::Lines::raise_of))]
 pub fn raise(
     program: &[u16],
     store: &[u16],
@@ -89,23 +60,20 @@ pub fn raise(
 ) -> RaiseResult
     ensures { result ≡ raise program.now store.now device table.now line level }
 {
-    let posting = posting_of(table, line, level);
-    match posting {
-        Posting::Refused(why) => RaiseResult {
-            answer: RaiseAnswer::Answered(Answer::Refused(why)),
+    match posting_of(table, line, level) {
+        Err(why) => RaiseResult {
+            answer: Some(Answer::Refused(why)),
             device,
         },
-        Posting::Nothing => RaiseResult {
-            answer: RaiseAnswer::Nothing,
+        Ok(None) => RaiseResult {
+            answer: None,
             device,
         },
-        Posting::Event(event) => {
+        Ok(Some(event)) => {
             let result = calls::post(program, store, device, event, level);
-            let answer = result.answer;
-            let next = result.device;
             RaiseResult {
-                answer: RaiseAnswer::Answered(answer),
-                device: next,
+                answer: Some(result.answer),
+                device: result.device,
             }
         }
     }

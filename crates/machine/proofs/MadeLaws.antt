@@ -1,4 +1,6 @@
 -- From what the exported library promises of a call to the equation that defines what is made of it. Assumes nothing.
+use Rattle.model.specs.Types.{Err, None, Ok, Some}
+use Rattle.model.specs.declared.Record.{Record}
 use Prim.Native.Nat.{ℕ}
 use mathlib.Core.Bool.{true, false}
 use mathlib.Core.List.{List, [], ◌∷◌, ◌++◌}
@@ -8,10 +10,9 @@ use native.Mathlib.Omega.{arith}
 use borrow.Author.Tests.{ne_eqb}
 use lib.ListN.{length, drop}
 use Rattle.exports.specs.Exported.{HostState, host_state, OnDevice, Boots, Posts, PostsAs, Steps, Runs}
-use Rattle.lines.specs.declared.Posting.{Posting}
+use Rattle.lines.specs.Lines.{Posting}
 use Rattle.model.proofs.TestLaws.{pick_case, pick_true, pick-false}
 use Rattle.model.specs.Program.{word}
-use Rattle.model.specs.Store.{Record}
 use Rattle.model.specs.Test.{pick, either}
 use Rattle.model.specs.declared.Device.{Device}
 use Rattle.script.specs.Script.{check_call, format_call, boot_call, step_call, cut_call, post_call, burst_call, run_call, lines_check_call, least, least_numbers, most_numbers}
@@ -57,9 +58,9 @@ module _ (p s x t : List ℕ) {a y : List ℕ} where
 pub raise-made : (p s x t a y : List ℕ) (level : ℕ) (q : Posting) → PostsAs p s x level a y q
     → made_of (told_as a 0 y t) s ≡ raises_as p (host_state s x t) level q
 unfolding raises_as
-raise-made p s x t a y level (Posting.Refused r) b = told_same s t b.0 b.1
-raise-made p s x t a y level Posting.Nothing b = told_same s t b.0 b.1
-raise-made p s x t a y level (Posting.Event e) b = post_made p s x t _ b
+raise-made p s x t a y level (Err r) b = told_same s t b.0 b.1
+raise-made p s x t a y level (Ok None) b = told_same s t b.0 b.1
+raise-made p s x t a y level (Ok (Some e)) b = post_made p s x t _ b
 
 -- ---- a step and a run: of what the host held, h, and holds, g
 

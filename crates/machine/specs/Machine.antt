@@ -1,15 +1,16 @@
 -- docs/PLAY.md, "The list": what its calls are made on, program, store, device words and totals, and what each of them answers and leaves. Calls of the
 -- runtime are those of the model, in the words of include/runtime.h. Assumes nothing.
+use Rattle.model.specs.Types.{Err, None, Ok, Some}
+use Rattle.model.specs.declared.Record.{Record}
 use Rattle.std.specs.Prelude.{ℕ, zero, suc, ◌+◌, ◌-◌, ◌*◌, ◌%◌, min, List, [], ◌∷◌, ◌++◌, eqb, length, take, drop, set, replicate}
 use Rattle.exports.specs.Exported.{HostState, host_state, totals_of, totals_words}
-use Rattle.lines.specs.Lines.{check as linesCheck, posting}
-use Rattle.lines.specs.declared.Posting.{Posting}
+use Rattle.lines.specs.Lines.{Posting, check as linesCheck, posting}
 use Rattle.model.specs.Burst.{carried, single}
 use Rattle.model.specs.Calls.{counted, run}
 use Rattle.model.specs.Check.{check}
 use Rattle.model.specs.Device.{Outcome, boot, post, step, off}
 use Rattle.model.specs.Program.{word, memory_words}
-use Rattle.model.specs.Store.{Record, settled, stored_word, store_length, format_check, format}
+use Rattle.model.specs.Store.{settled, stored_word, store_length, format_check, format}
 use Rattle.model.specs.Test.{pick}
 use Rattle.model.specs.declared.Answer.{Answer}
 use Rattle.model.specs.declared.Device.{Device}
@@ -95,9 +96,9 @@ runs p h budget =
     (answered unknown_words h)
 
 unfoldable pub raises_as : List ℕ → HostState → ℕ → Posting → Made
-raises_as p h level (Posting.Refused r) = answered (refused_words r) h
-raises_as p h level Posting.Nothing = answered nothing_posted_words h
-raises_as p h level (Posting.Event e) = posts p h (single e level)
+raises_as p h level (Err r) = answered (refused_words r) h
+raises_as p h level (Ok None) = answered nothing_posted_words h
+raises_as p h level (Ok (Some e)) = posts p h (single e level)
 
 unfoldable pub raises : List ℕ → HostState → List ℕ → ℕ → ℕ → Made
 raises p h table line level = raises_as p h level (posting table line level)

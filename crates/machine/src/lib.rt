@@ -2,12 +2,11 @@
 
 #![tactic(auto)]
 
-ghost use Rattle.std.specs.Prelude.{◌≤◌, min, length, take, set, ◌≢◌, ◌≡◌};
+ghost use Rattle.std.specs.Prelude.{◌≤◌, length, take, set, ◌≡◌};
 ghost use Rattle.exports.specs.Exported.{host_state};
 ghost use Rattle.model.specs.Program.{word as word_of};
-ghost use Rattle.script.specs.Script.{format_call, step_call, run_call};
 ghost use Rattle.machine.specs.Machine.{calls, store_size, unformatted, unformatted_word, resized};
-ghost use Rattle.machine.specs.Makes.{Complete, First, made_of, numbers_for};
+ghost use Rattle.machine.specs.Makes.{Complete, First, Numbered, made_of, numbers_for};
 
 mod kinds;
 
@@ -21,23 +20,40 @@ pub struct Called {
     pub totals: [u32; 3],
 }
 
-const CHECK: u64 = 4;
+// Which call it is.
+#[derive(Clone, Copy)]
+enum Kind {
+    Check,
+    Format,
+    Boot,
+    Step,
+    Cut,
+    Post,
+    Burst,
+    Run,
+    LinesCheck,
+    Raise,
+}
 
-const FORMAT: u64 = 5;
+// By its number in a list: what is none of the others is a raise.
+impl From<u64> for Kind {
+    ghost from_gives = { λ number kind. Numbered number kind };
 
-const BOOT: u64 = 6;
-
-const STEP: u64 = 7;
-
-const CUT: u64 = 8;
-
-const POST: u64 = 9;
-
-const BURST: u64 = 10;
-
-const RUN: u64 = 11;
-
-const LINES_CHECK: u64 = 12;
+    fn from(number: u64) -> Kind {
+        match number {
+            4 => Kind::Check,
+            5 => Kind::Format,
+            6 => Kind::Boot,
+            7 => Kind::Step,
+            8 => Kind::Cut,
+            9 => Kind::Post,
+            10 => Kind::Burst,
+            11 => Kind::Run,
+            12 => Kind::LinesCheck,
+            _ => Kind::Raise,
+        }
+    }
+}
 
 // A call of the runtime, on the words of program and store.
 pub fn call(
@@ -53,80 +69,39 @@ pub fn call(
     ensures { made_of result store.new
         ≡ calls program.now (host_state store.old device totals) kind (numbers_for kind budget numbers.now) }
 {
-    if kind == FORMAT {
-        return kinds::format(program, store, device, totals, numbers);
+    match Kind::from(kind) {
+        Kind::Check => kinds::check(program, device, totals),
+        Kind::Format => kinds::format(program, store, device, totals, numbers),
+        Kind::Boot => kinds::boot(program, store, device, totals),
+        Kind::Step => kinds::step(program, store, device, totals),
+        Kind::Cut => kinds::cut(device, totals),
+        Kind::Post => kinds::post(program, store, device, totals, numbers),
+        Kind::Burst => kinds::burst(program, store, device, totals, numbers),
+        Kind::Run => kinds::run(program, store, device, totals, budget),
+        Kind::LinesCheck => kinds::lines_check(numbers, device, totals),
+        Kind::Raise => kinds::raise(program, store, device, totals, numbers),
     }
-    if kind == STEP {
-        return kinds::step(program, store, device, totals);
-    }
-    if kind == RUN {
-        return kinds::run(program, store, device, totals, budget);
-    }
-    unstored(kind, numbers, program, store, device, totals)
-}
-
-// A call that leaves the store as it is: any but a format, a step and a run.
-fn unstored(
-    kind: u64,
-    numbers: &[u16],
-    program: &[u16],
-    store: &[u16],
-    device: [u16; 26],
-    totals: [u32; 3],
-) -> Called
-    requires complete { Complete kind numbers.now }
-    requires kind_nonzero { (kind ≢ format_call) × (kind ≢ step_call) × (kind ≢ run_call) }
-    ensures { made_of result store.now
-        ≡ calls program.now (host_state store.now device totals) kind numbers.now }
-{
-    if kind == CHECK {
-        return kinds::check(program, device, totals);
-    }
-    if kind == BOOT {
-        return kinds::boot(program, store, device, totals);
-    }
-    if kind == CUT {
-        return kinds::cut(device, totals);
-    }
-    if kind == POST {
-        return kinds::post(program, store, device, totals, numbers);
-    }
-    if kind == BURST {
-        return kinds::burst(program, store, device, totals, numbers);
-    }
-    if kind == LINES_CHECK {
-        return kinds::lines_check(numbers, device, totals);
-    }
-    kinds::raise(program, store, device, totals, numbers)
 }
 
 // A word; 0 where there is none.
 fn word(words: &[u16], i: usize) -> u16
     ensures { result ≡ word_of words.now i }
 {
-    if i < words.len() { words[i] } else { 0 }
-}
-
-// The smaller of the two.
-fn least(a: usize, b: usize) -> usize
-    ensures { result ≡ min a b }
-{
-    if a < b { a } else { b }
+    words.get(i).copied().unwrap_or(0)
 }
 
 // How many words the store is made of.
+#[tactic(auto, unfolding(crate::specs::Machine::store_size))]
 pub fn store_size(program: &[u16], log_pairs: u16, queue_records: u16) -> usize
     ensures value { result ≡ store_size program.now log_pairs queue_records }
     ensures upper_bound { result ≤ 131072 }
 {
     let memory_words = word(program, 3) as usize;
-    least(
-        19 + memory_words + 2 * log_pairs as usize + 2 * queue_records as usize,
-        131072,
-    )
+    (19 + memory_words + 2 * log_pairs as usize + 2 * queue_records as usize).min(131072)
 }
 
 // "its word i is 40503 i + 12345 modulo 65536, with its lowest bit set"
+#[tactic(auto, using(crate::proofs::WordLaws::residue), unfolding(crate::specs::Machine::unformatted_word))]
 fn unformatted_word(i: usize) -> u16
     ensures { result ≡ unformatted_word i }
 {
@@ -135,14 +110,13 @@ fn unformatted_word(i: usize) -> u16
 }
 
 // The first words, so many, as they are before formatting.
+#[tactic(auto, unfolding(crate::specs::Machine::unformatted))]
 pub fn unformat(store: &mut [u16], size: usize)
     requires { size ≤ length store.old }
     ensures { First store.new size (unformatted size) }
 {
-    let mut i = 0;
-    while i < size {
+    for i in 0..size {
         store[i] = unformatted_word(i);
-        i += 1;
     }
 }
 
@@ -162,10 +136,8 @@ pub fn resize(words: &mut [u16], count: usize, new: usize)
     requires { (count ≤ length words.old) × (new ≤ length words.old) }
     ensures { First words.new new (resized (take count words.old) new) }
 {
-    let mut i = count;
-    while i < new {
+    for i in count..new {
         words[i] = 0;
-        i += 1;
     }
 }
 
@@ -174,11 +146,7 @@ pub fn copy(from: &[u16], count: usize, to: &mut [u16])
     requires { (count ≤ length from.now) × (count ≤ length to.old) }
     ensures { First to.new count (take count from.now) }
 {
-    let mut i = 0;
-    while i < count {
-        to[i] = from[i];
-        i += 1;
-    }
+    to[..count].copy_from_slice(&from[..count]);
 }
 
 // 26 words as a device's.

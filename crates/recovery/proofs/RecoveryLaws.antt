@@ -1,4 +1,5 @@
 -- Laws of recovery: its steps one by one, as the loop goes. Assumes nothing.
+use Rattle.model.specs.Types.{Err, Ok}
 use Prim.Native.Nat.{ℕ, zero, suc, ◌+◌, ◌-◌}
 use mathlib.Core.List.{List}
 use mathlib.Core.Logic.{◌≢◌}
@@ -11,7 +12,6 @@ use Rattle.model.proofs.TestLaws.{pick_true, pick-false}
 use Rattle.model.specs.Calls.{recovered, refused, unfinished, finish, recovery}
 use Rattle.model.specs.Device.{step, boot, cut, fresh, off}
 use Rattle.model.specs.Program.{word}
-use Rattle.model.specs.declared.Checked.{Checked}
 use Rattle.model.specs.declared.Device.{Device}
 use Rattle.model.specs.declared.Refusal.{Refusal}
 use Rattle.runtime.proofs.Runs.{refusal_of, stops, goes}

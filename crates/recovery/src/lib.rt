@@ -10,76 +10,60 @@ ghost use Rattle.model.specs.Store.{view};
 ghost use Rattle.recovery.specs.Recovers.{recovery_of};
 
 use device::calls;
-use model::{Checked, Device, Refusal};
+use model::{Device, Refusal};
 use runtime;
-
-// How a recovery ended: after so many steps, by a refusal, or not in the steps that were allowed.
-#[derive(Clone, Copy)]
-pub enum Recovering {
-    Recovered(u32),
-    Refused(Refusal),
-    Unfinished,
-}
 
 // A word of the store; 0 where there is none.
 pub fn word(store: &[u16], i: usize) -> u16
     ensures { result ≡ word_of store.now i }
 {
-    if i < store.len() { store[i] } else { 0 }
+    store.get(i).copied().unwrap_or(0)
 }
 
 // "Uncut recovery takes n + 3 steps from phase 1 and n + 2 from phase 2", and "one step more"
+#[tactic(auto, using(model::proofs::TestLaws::tests), unfolding(model::specs::Demand3::recovery_steps, model::specs::Test::pick))]
 fn steps(store: &[u16]) -> u32
     ensures { result ≡ recovery_steps (view store.now) }
 {
-    let phase = word(store, 8);
     let count = word(store, 11) as u32;
-    if phase == 1 {
-        return count + 4;
+    match word(store, 8) {
+        1 => count + 4,
+        2 => count + 3,
+        _ => 0,
     }
-    if phase == 2 {
-        return count + 3;
-    }
-    0
 }
 
-// Steps while the phase isn't 0, as many as are allowed.
-fn finish(program: &[u16], store: &mut [u16], device: Device, allowed: u32) -> Recovering
+// Steps while the phase isn't 0, as many as are allowed: how many they were, if they sufficed, or a step's refusal.
+fn finish(
+    program: &[u16],
+    store: &mut [u16],
+    device: Device,
+    allowed: u32,
+) -> Result<Option<u32>, Refusal>
     ensures { recovery_of result store.new ≡ finishOf program.now allowed 0 store.old device }
 {
     let mut state = device;
-    let mut made = 0u32;
-    while made < allowed {
+    for made in 0..allowed {
         if word(store, 8) == 0 {
-            return Recovering::Recovered(made);
+            return Ok(Some(made));
         }
         let result = runtime::step(program, store, state);
-        let answer = result.answer;
-        let found = runtime::refusal(answer);
-        if let Err(why) = found {
-            return Recovering::Refused(why);
-        }
+        runtime::refusal(result.answer)?;
         state = result.device;
-        made += 1;
     }
     if word(store, 8) == 0 {
-        return Recovering::Recovered(made);
+        return Ok(Some(allowed));
     }
-    Recovering::Unfinished
+    Ok(None)
 }
 
-// What uncut recovery leaves of a store, with as many steps as it takes.
-pub fn recover(program: &[u16], store: &mut [u16]) -> Recovering
+// What uncut recovery leaves of a store, with as many steps as it takes: how many they were, if they sufficed, or what a boot or a step refuses.
+pub fn recover(program: &[u16], store: &mut [u16]) -> Result<Option<u32>, Refusal>
     ensures { recovery_of result store.new
         ≡ recovery program.now (recovery_steps (view store.old)) store.old }
 {
     let allowed = steps(store);
     let booted = calls::boot(program, store, Device::OFF);
-    let answer = booted.answer;
-    let found = runtime::refusal(answer);
-    if let Err(why) = found {
-        return Recovering::Refused(why);
-    }
-    let device = booted.device;
-    finish(program, store, device, allowed)
+    runtime::refusal(booted.answer)?;
+    finish(program, store, booted.device, allowed)
 }

@@ -1,4 +1,6 @@
 -- The laws of a run: a step that is refused ends it and changes nothing, one that isn't leaves the rest of the run. Assumes nothing.
+use Rattle.std.specs.Prelude.{is_ok}
+use Rattle.model.specs.Types.{Ok, Err, Checked}
 use Prim.Native.Nat.{ℕ, suc, ◌+◌, ◌≤◌}
 use mathlib.Core.Bool.{true, false}
 use mathlib.Core.List.{List}
@@ -12,14 +14,11 @@ use Rattle.model.specs.Calls.{RunOutcome, Step, call, unless_refused, is_refusal
 use Rattle.model.specs.Device.{Outcome, refuse, step}
 use Rattle.model.specs.Store.{memory_at, settled, stored_word}
 use Rattle.model.specs.declared.Answer.{Answer}
-use Rattle.model.specs.declared.Checked.{Checked}
 use Rattle.model.specs.declared.Device.{Device}
-use Rattle.model.specs.declared.Ended.{Ended}
 use Rattle.model.specs.declared.Refusal.{Refusal}
 use Rattle.model.specs.declared.Totals.{Totals}
 use Rattle.totals.proofs.CountLaws.{counted_is}
 use Rattle.totals.specs.Counted.{counted_from}
-use Rattle.runtime.specs.RunResult.{is_accepted}
 
 -- ---- is an answer a refusal? did a check pass?
 
@@ -50,14 +49,13 @@ pub unrefused : (a : Answer) → refusal_of a ≡ Ok tt → is_refusal a ≡ fal
 unfolding is_refusal
 unrefused a = goes a (λ r. true) false
 
-pub accepted : (found : Checked) → is_accepted found ≡ true → found ≡ Ok tt
-unfolding is_accepted
+pub accepted : (found : Checked) → is_ok found ≡ true → found ≡ Ok tt
 accepted (Ok _) e = refl
 accepted (Err r) e = clash e refl
 
 -- ---- a run at its next step, n steps made
 
-abbrev pub ended : ℕ → Ended → List ℕ → Device → Totals → RunOutcome
+abbrev pub ended : ℕ → Checked → List ℕ → Device → Totals → RunOutcome
 ended n e s d t = record { steps = n; ended = e; store = s; device = d; totals = t }
 
 pub run_spent : (p : List ℕ) (n : ℕ) (s : List ℕ) (d : Device) (t : Totals) → run_from p 0 n s d t ≡ ended n (Ok tt) s d t

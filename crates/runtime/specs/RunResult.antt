@@ -1,26 +1,19 @@
 -- What a run leaves, from the code's result, as the value that is defined for it; what it promises is that the two are equal. Assumes
 -- nothing.
-use Rattle.std.specs.Prelude.{ℕ, Bool, true, false, List, ◌≡◌}
+use Rattle.model.specs.Types.{Option, Checked}
+use Rattle.std.specs.Prelude.{ℕ, List, ◌≡◌}
 use Rattle.device.specs.Result.{Result, device_with, of_outcome}
 use Rattle.device.specs.declared.Core.{Core}
 use Rattle.model.specs.Calls.{RunOutcome as Defined, run}
 use Rattle.model.specs.Device.{step}
 use Rattle.model.specs.declared.Answer.{Answer}
-use Rattle.model.specs.declared.Checked.{Checked}
 use Rattle.model.specs.declared.Device.{Device}
-use Rattle.model.specs.declared.Ended.{Ended}
 use Rattle.model.specs.declared.Handler.{Handler}
-use Rattle.model.specs.declared.Stored.{Stored}
 use Rattle.model.specs.declared.Totals.{Totals}
 use Rattle.runtime.specs.declared.CoreRunResult.{CoreRunResult}
 use Rattle.runtime.specs.declared.RunResult.{RunResult}
 
--- did a check pass?
-unfoldable pub is_accepted : Checked → Bool
-is_accepted (Ok _) = true
-is_accepted (Err r) = false
-
-abbrev pub core_run_result : Answer → Stored → ℕ → Ended → Handler → Core → Totals → CoreRunResult
+abbrev pub core_run_result : Answer → Option ℕ → ℕ → Checked → Handler → Core → Totals → CoreRunResult
 core_run_result a w n e h c t = record { last = a; stored = w; steps = n; ended = e; handler = h; core = c; totals = t }
 
 -- with registers r, a burst b and the words s

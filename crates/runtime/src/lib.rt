@@ -11,10 +11,10 @@ ghost use Rattle.model.specs.Claims.{sound_after};
 ghost use Rattle.model.specs.Device.{look, step};
 ghost use Rattle.model.specs.Store.{memory_at};
 ghost use Rattle.device.specs.Result.{Eight, device_with, step_result, of_step, of_call, of_outcome, StepPerforms};
-ghost use Rattle.runtime.specs.RunResult.{is_accepted, core_run_result, of_last, CoreRuns, RunPerforms};
+ghost use Rattle.runtime.specs.RunResult.{core_run_result, of_last, CoreRuns, RunPerforms};
 
 use device::{CallResult, Core, StepResult, core_of, look};
-use model::{Answer, Checked, Device, Ended, Handler, Refusal, Stored, Totals};
+use model::{Answer, Device, Handler, Refusal, Totals};
 use steps;
 
 // What steps leave: the answer of the last one, refused or not, and which word it stored; how many were made and how they ended; the
@@ -40,58 +40,43 @@ pub struct RunResult {
 }
 
 // Is an answer a refusal?
+#[tactic(auto, unfolding(model::specs::Calls::unless_refused))]
 pub fn refusal(answer: Answer) -> Result<(), Refusal>
-    ensures { result ≡ unless_refused answer Err Ok tt }
+    ensures { result ≡ unless_refused answer Err (Ok tt) }
 {
     match answer {
-        Answer::Done => Ok(()),
-        Answer::Chosen(_) => Ok(()),
-        Answer::Worked => Ok(()),
-        Answer::Stored => Ok(()),
-        Answer::Committed(_) => Ok(()),
-        Answer::Accepted(_) => Ok(()),
         Answer::Refused(why) => Err(why),
+        _ => Ok(()),
     }
 }
 
 // Was the commit store made?
+#[tactic(auto, unfolding(model::specs::Calls::is_commit))]
 fn is_commit(answer: Answer) -> bool
     ensures { result ≡ is_commit answer }
 {
-    match answer {
-        Answer::Done => false,
-        Answer::Chosen(_) => false,
-        Answer::Worked => false,
-        Answer::Stored => false,
-        Answer::Committed(_) => true,
-        Answer::Accepted(_) => false,
-        Answer::Refused(_) => false,
-    }
+    matches!(answer, Answer::Committed(_))
 }
 
 // After a store of the phase: not after a commit store, and in phase 0 word 16 must be 0.
+#[tactic(auto, using(model::proofs::TestLaws::tests), unfolding(model::specs::Claims::sound_after, model::specs::Test::both, model::specs::Test::pick))]
 fn sound_after_phase(answer: Answer, store: &[u16]) -> bool
     requires { memory_at ≤ length store.now }
     ensures { result ≡ sound_after (Some 8) answer store.now }
 {
-    if is_commit(answer) {
-        return false;
-    }
-    store[16] == 0
+    !is_commit(answer) && store[16] == 0
 }
 
 // Do the early checks of the next step pass after a step that wasn't refused: by the word stored, the answer and the words after it?
+#[tactic(auto, using(model::proofs::TestLaws::tests), unfolding(model::specs::Claims::sound_after, model::specs::Test::pick))]
 fn sound_after(stored: Option<u16>, answer: Answer, store: &[u16]) -> bool
     requires { memory_at ≤ length store.now }
     ensures { result ≡ sound_after stored answer store.now }
 {
-    let Some(index) = stored else {
-        return true;
-    };
-    if index != 8 {
-        return true;
+    match stored {
+        Some(8) => sound_after_phase(answer, store),
+        _ => true,
     }
-    sound_after_phase(answer, store)
 }
 
 // A refused step: the device stays as it is.
@@ -118,44 +103,18 @@ fn step_known(
     known: bool,
 ) -> StepResult
     requires eight { Eight burst.old }
-    requires burst_value { known ≡ true → look program.now store.old (device_with core registers.old handler burst.old) ≡ Ok tt }
+    requires known_to_pass { known ≡ true → look program.now store.old (device_with core registers.old handler burst.old) ≡ Ok tt }
     ensures store_after { of_step result registers.new burst.new store.new
         ≡ of_outcome store.old
         (step program.now store.old (device_with core registers.old handler burst.old)) }
-    ensures eight_2 { Eight burst.new }
+    ensures eight_after { Eight burst.new }
 {
     if !known {
-        let seen_handler = handler;
-        let seen_core = core;
-        let found = look::look(program, store, registers, burst, seen_handler, seen_core);
-        if let Err(why) = found {
+        if let Err(why) = look::look(program, store, registers, burst, handler, core) {
             return refused(handler, core, why);
         }
     }
     steps::next_step(program, store, registers, burst, handler, core)
-}
-
-// What steps leave that a refusal ends.
-fn refused_run(
-    last: Answer,
-    stored: Option<u16>,
-    steps: u32,
-    why: Refusal,
-    handler: Handler,
-    core: Core,
-    totals: Totals,
-) -> CoreRunResult
-    ensures { result ≡ core_run_result last stored steps (Err why) handler core totals }
-{
-    CoreRunResult {
-        last,
-        stored,
-        steps,
-        ended: Err(why),
-        handler,
-        core,
-        totals,
-    }
 }
 
 // Steps on lent registers and a lent burst, up to a budget; of the first one it is told whether its early checks are known to pass. A single
@@ -172,7 +131,7 @@ fn run_in(
     looked: bool,
 ) -> CoreRunResult
     requires eight { Eight burst.old }
-    requires burst_value { looked ≡ true → look program.now store.old (device_with core registers.old handler burst.old) ≡ Ok tt }
+    requires looked_to_pass { looked ≡ true → look program.now store.old (device_with core registers.old handler burst.old) ≡ Ok tt }
     ensures { CoreRuns program.now budget store.old
         (device_with core registers.old handler burst.old) totals
         result registers.new burst.new store.new }
@@ -182,27 +141,32 @@ fn run_in(
     let mut handler = handler;
     let mut core = core;
     let mut totals = totals;
-    let mut steps: u32 = 0;
     let mut known = looked;
-    while steps < budget {
+    for steps in 0..budget {
         let before = handler;
         let step = step_known(program, store, registers, burst, handler, core, known);
         last = step.answer;
         stored = step.stored;
         handler = step.handler;
         core = step.core;
-        let found = refusal(last);
-        if let Err(why) = found {
-            return refused_run(last, stored, steps, why, handler, core, totals);
+        if let Err(why) = refusal(last) {
+            return CoreRunResult {
+                last,
+                stored,
+                steps,
+                ended: Err(why),
+                handler,
+                core,
+                totals,
+            };
         }
         totals = totals::counted(totals, before, last, stored);
         known = sound_after(stored, last, store);
-        steps += 1;
     }
     CoreRunResult {
         last,
         stored,
-        steps,
+        steps: budget,
         ended: Ok(()),
         handler,
         core,
@@ -214,11 +178,10 @@ fn run_in(
 fn whole(core: Core, registers: [u16; 8], handler: Handler, burst: [u16; 8]) -> Device
     ensures { result ≡ device_with core registers handler burst }
 {
-    let place = core.place;
     Device {
         on: core.on,
         registers,
-        place,
+        place: core.place,
         count: core.count,
         handler,
         burst,
@@ -229,25 +192,10 @@ fn whole(core: Core, registers: [u16; 8], handler: Handler, burst: [u16; 8]) -> 
 fn packed(steps: CoreRunResult, registers: [u16; 8], burst: [u16; 8]) -> CallResult
     ensures { (s : List ℕ) → of_call result s ≡ of_last steps registers burst s }
 {
-    let answer = steps.last;
-    let stored = steps.stored;
-    let handler = steps.handler;
-    let core = steps.core;
-    let device = whole(core, registers, handler, burst);
     CallResult {
-        answer,
-        stored,
-        device,
-    }
-}
-
-// Did a check pass?
-fn is_accepted(found: Result<(), Refusal>) -> bool
-    ensures { result ≡ is_accepted found }
-{
-    match found {
-        Ok(()) => true,
-        Err(_) => false,
+        answer: steps.last,
+        stored: steps.stored,
+        device: whole(steps.core, registers, steps.handler, burst),
     }
 }
 
@@ -275,7 +223,7 @@ pub fn step(program: &[u16], store: &mut [u16], device: Device) -> CallResult
         core,
         zero,
         1,
-        is_accepted(found),
+        found.is_ok(),
     );
     packed(steps, registers, burst)
 }
@@ -304,16 +252,12 @@ pub fn run(
         core,
         totals,
         budget,
-        is_accepted(found),
+        found.is_ok(),
     );
-    let ended = steps.ended;
-    let handler = steps.handler;
-    let core = steps.core;
-    let totals = steps.totals;
     RunResult {
         steps: steps.steps,
-        ended,
-        device: whole(core, registers, handler, burst),
-        totals,
+        ended: steps.ended,
+        device: whole(steps.core, registers, steps.handler, burst),
+        totals: steps.totals,
     }
 }

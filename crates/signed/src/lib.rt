@@ -7,26 +7,20 @@ ghost use Rattle.std.specs.Int.Signed.{mag, shr_z};
 ghost use Rattle.model.specs.Program.{signed, unsigned, shifted, less};
 
 // The number that a word is as two's complement.
+#[tactic(auto, using(model::proofs::TestLaws::tests), unfolding(model::specs::Program::signed, model::specs::Test::pick))]
 fn signed(word: u16) -> i32
     ensures { result ≡ signed word }
 {
-    if word < 32768 {
-        word as i32
-    } else {
-        word as i32 - 65536
-    }
+    i32::from(word.cast_signed())
 }
 
 // The word that a number from -32768 to 32767 is as two's complement.
+#[tactic(auto, unfolding(model::specs::Program::unsigned))]
 fn unsigned(value: i32) -> u16
     requires { mag value < 32768 }
     ensures { result ≡ unsigned value }
 {
-    if value < 0 {
-        (value + 65536) as u16
-    } else {
-        value as u16
-    }
+    (value as i16).cast_unsigned()
 }
 
 // "SHR shall find its power of two by computing"
@@ -37,22 +31,17 @@ fn power(exponent: u16) -> i32
     1 << exponent
 }
 
-// A number divided by a power of two, rounded down. Division of negative numbers rounds toward zero: so one is
-// added before it and taken off after it.
+// A number divided by a power of two, rounded down.
 fn divided(number: i32, exponent: u16) -> i32
     requires number_bound { mag number < 32768 }
     requires exponent_bound { exponent < 16 }
     ensures { result ≡ shr_z number (2 ^ exponent) }
 {
-    let divisor = power(exponent);
-    if number < 0 {
-        (number + 1) / divisor - 1
-    } else {
-        number / divisor
-    }
+    number.div_euclid(power(exponent))
 }
 
 // SHR.
+#[tactic(auto, using(crate::proofs::TwosComplement::mag_signed, crate::proofs::TwosComplement::mag_shifted, crate::proofs::TwosComplement::read_back), unfolding(model::specs::Program::shifted))]
 pub fn shr(word: u16, places: u16) -> u16
     requires { places < 16 }
     ensures { result ≡ shifted word places }
@@ -61,6 +50,7 @@ pub fn shr(word: u16, places: u16) -> u16
 }
 
 // JLT.
+#[tactic(auto, unfolding(model::specs::Program::less))]
 pub fn less(left: u16, right: u16) -> bool
     ensures { result ≡ less left right }
 {

@@ -1,4 +1,6 @@
 -- A handler's step as an equation: a word of its burst goes to the ring, or tail is stored. Assumes nothing.
+use Rattle.model.specs.declared.Record.{Record}
+use Rattle.model.specs.Types.{Option}
 use Prim.Native.Nat.{ℕ, ◌+◌, ◌*◌, ◌≤◌, ◌<◌}
 use mathlib.Core.List.{List}
 use mathlib.Core.Path.{◌≡◌, ap, ◌∙◌}
@@ -14,10 +16,9 @@ use Rattle.model.specs.Program.{word}
 use Rattle.model.specs.Store.{Store, Tail, Write, to, forward, ring_word}
 use Rattle.model.specs.declared.Answer.{Answer}
 use Rattle.model.specs.declared.Device.{Device}
-use Rattle.model.specs.declared.Dropped.{Dropped}
 use Rattle.model.specs.declared.Handler.{Handler}
 
-module _ (v : Store) (d : Device) (n c : ℕ) (later : Handler) (dropped : Dropped) where
+module _ (v : Store) (d : Device) (n c : ℕ) (later : Handler) (dropped : Option Record) where
   abbrev stores : List Write
   stores = record_stores v.queue_records v.tail (carried d.burst n)
 

@@ -9,10 +9,11 @@ ghost use Rattle.steps.specs.Steps.{last_store};
 
 use control::single;
 use device::{Core, CoreResult, results};
-use model::{Answer, Checked, Place, Stored};
+use model::{Answer, Place};
 use store::{log, memory};
 
 // "n copies": a pair goes to memory. "7: .. the first n log addresses below M."
+#[tactic(auto, using(model::proofs::TestLaws::tests), unfolding(model::specs::Device::copy_step, model::specs::Device::judged, model::specs::Device::with_place, model::specs::Test::pick, model::specs::Store::settled, model::specs::Store::stored_word))]
 fn copy(program: &[u16], store: &mut [u16], core: Core, pair: u16) -> CoreResult
     requires contents { Contents program.now }
     requires shaped_for { ShapedFor program.now store.old }
@@ -20,8 +21,7 @@ fn copy(program: &[u16], store: &mut [u16], core: Core, pair: u16) -> CoreResult
     ensures { OnAnyRegisters core result store.new
         (leaves (λ v d. copy_step program.now v d pair) store.old) }
 {
-    let found = single::pair_address(program, store, pair);
-    if let Err(why) = found {
+    if let Err(why) = single::pair_address(program, store, pair) {
         return results::refused(core, why);
     }
     let address = log::address(store, pair);
@@ -38,7 +38,7 @@ fn task_last(
     made: u16,
     last: u16,
 ) -> CoreResult
-    requires memory_at_in_bounds { memory_at ≤ length store.old }
+    requires control_words { memory_at ≤ length store.old }
     requires last_bound { (last < 4) × (made < 1000) }
     ensures { of_core result registers.new store.new
         ≡ leaves (last_store task_last_stores last made) store.old (device core registers.old) }
@@ -67,7 +67,7 @@ fn event_last(
     made: u16,
     last: u16,
 ) -> CoreResult
-    requires memory_at_in_bounds { memory_at ≤ length store.old }
+    requires control_words { memory_at ≤ length store.old }
     requires last_bound { (last < 3) × (made < 1000) }
     ensures { of_core result registers.new store.new
         ≡ leaves (last_store event_last_stores last made) store.old (device core registers.old) }
@@ -93,7 +93,7 @@ pub fn copy_step(
     made: u16,
 ) -> CoreResult
     requires looked { Looked program.now store.old (device core registers.old) }
-    requires place_value { (core.place ≡ Place.Free made) × (word store.old 8 ≡ 0 → ⊥) }
+    requires committing { (core.place ≡ Place.Free made) × (word store.old 8 ≡ 0 → ⊥) }
     ensures { of_core result registers.new store.new
         ≡ leaves (λ v d. copy_step program.now v d made)
         store.old (device core registers.old) }

@@ -14,7 +14,7 @@ ghost use Rattle.device.specs.Result.{Eight, device_with, device, step_result, o
 use body;
 use control::single;
 use device::{Core, CoreResult, StepResult, results};
-use model::{Answer, Body, Checked, Dropped, Handler, Place, Stored};
+use model::{Answer, Body, Handler, Place, Record};
 use store::queue;
 
 mod copying;
@@ -28,15 +28,15 @@ fn handler_step(
     length: u16,
     made: u16,
     later: Handler,
-    dropped: Dropped,
+    dropped: Option<Record>,
 ) -> StepResult
     requires shaped { Shaped store.old }
     requires store_bound { (word store.old 15 ≤ word store.old 3) × (length ≤ word store.old 3) }
-    requires length_len_bound { (length ≤ 4) × (made ≤ 2 * length) }
+    requires length_bound { (length ≤ 4) × (made ≤ 2 * length) }
     requires eight { Eight burst.old }
-    ensures by_index { (registers : List ℕ) (handler : Handler) → of_step result registers burst.new store.new
+    ensures on_any { (registers : List ℕ) (handler : Handler) → of_step result registers burst.new store.new
         ≡ leaves (λ v d. handler_step v d length made later dropped) store.old (device_with core registers handler burst.old) }
-    ensures eight_2 { Eight burst.new }
+    ensures eight_after { Eight burst.new }
 {
     let tail = store[15];
     if made < 2 * length {
@@ -46,15 +46,11 @@ fn handler_step(
     }
     store[15] = queue::forward(store[3], tail, length);
     *burst = [0; 8];
-    handler_result(
-        core,
-        Handler::Resting,
-        Answer::Accepted(dropped),
-        Some(15),
-    )
+    handler_result(core, Handler::Resting, Answer::Accepted(dropped), Some(15))
 }
 
 // "drops the record at head by storing head first": the record is checked as one chosen is.
+#[tactic(auto, unfolding(model::specs::Device::drop_step, model::specs::Device::judged, model::specs::Device::with_handler, model::specs::Store::settled, model::specs::Store::stored_word))]
 fn drop_step(program: &[u16], store: &mut [u16], core: Core) -> StepResult
     requires contents { Contents program.now }
     requires shaped_for { ShapedFor program.now store.old }
@@ -62,33 +58,24 @@ fn drop_step(program: &[u16], store: &mut [u16], core: Core) -> StepResult
     ensures { (registers burst : List ℕ) → of_step result registers burst store.new
         ≡ leaves (drop_step program.now) store.old (device_with core registers Handler.Dropping burst) }
 {
-    let found = single::record_at_head(program, store);
-    if let Err(why) = found {
-        return handler_result(
-            core,
-            Handler::Dropping,
-            Answer::Refused(why),
-            None,
-        );
+    if let Err(why) = single::record_at_head(program, store) {
+        return handler_result(core, Handler::Dropping, Answer::Refused(why), None);
     }
     store[14] = queue::slot_after(store[3], store[14]);
-    handler_result(
-        core,
-        Handler::Replacing(0),
-        Answer::Stored,
-        Some(14),
-    )
+    handler_result(core, Handler::Replacing(0), Answer::Stored, Some(14))
 }
 
 // The record that was dropped stands in the slot after tail.
-fn dropped_record(store: &[u16]) -> Dropped
+fn dropped_record(store: &[u16]) -> Option<Record>
     requires shaped { Shaped store.now }
     requires store_bound { word store.now 15 ≤ word store.now 3 }
     ensures { result ≡ dropped_record (view store.now) }
 {
     let slot = queue::slot_after(store[3], store[15]);
-    let event = queue::event(store, slot);
-    Dropped::Record(event, queue::datum(store, slot))
+    Some(Record {
+        event: queue::event(store, slot),
+        datum: queue::datum(store, slot),
+    })
 }
 
 // The next store of a burst of one that comes in the place of a dropped record.
@@ -97,10 +84,10 @@ fn replacing_step(store: &mut [u16], burst: &mut [u16; 8], core: Core, made: u16
     requires store_bound { (word store.old 15 ≤ word store.old 3) × (1 ≤ word store.old 3) }
     requires made_bound { made ≤ 2 }
     requires eight { Eight burst.old }
-    ensures by_index { (registers : List ℕ) (handler : Handler) → of_step result registers burst.new store.new
+    ensures on_any { (registers : List ℕ) (handler : Handler) → of_step result registers burst.new store.new
         ≡ leaves (λ v d. handler_step v d 1 made (Handler.Replacing (made + 1)) (dropped_record v))
         store.old (device_with core registers handler burst.old) }
-    ensures eight_2 { Eight burst.new }
+    ensures eight_after { Eight burst.new }
 {
     let dropped = dropped_record(store);
     let later = Handler::Replacing(made + 1);
@@ -120,14 +107,12 @@ fn handler_result(core: Core, handler: Handler, answer: Answer, stored: Option<u
 }
 
 // Is the event at head next: "if word 10 is 0 and the queue isn't empty"?
+#[tactic(auto, using(model::proofs::TestLaws::tests), unfolding(model::specs::Device::event_next, model::specs::Test::both))]
 fn event_next(store: &[u16]) -> bool
     requires { Shaped store.now }
     ensures { result ≡ event_next (view store.now) }
 {
-    if store[10] != 0 {
-        return false;
-    }
-    !queue::is_empty(store)
+    store[10] == 0 && !queue::is_empty(store)
 }
 
 // "the event at head; otherwise the current task": "Choosing stores it and still answers chosen".
@@ -146,8 +131,7 @@ fn choose_step(
         store[16] = 1;
         return results::begin(registers, core, Body::Task(task), 0);
     }
-    let found = single::record_at_head(program, store);
-    if let Err(why) = found {
+    if let Err(why) = single::record_at_head(program, store) {
         return results::refused(core, why);
     }
     let event = queue::head_event(store);
@@ -165,7 +149,7 @@ fn free_step(
     made: u16,
 ) -> CoreResult
     requires looked { Looked program.now store.old (device core registers.old) }
-    requires place_value { core.place ≡ Place.Free made }
+    requires free { core.place ≡ Place.Free made }
     ensures { of_core result registers.new store.new
         ≡ leaves (λ v d. place_step program.now v d (Place.Free made))
         store.old (device core registers.old) }
@@ -187,26 +171,17 @@ fn place_step(
     ensures { of_core result registers.new store.new
         ≡ leaves (place_step_of program.now) store.old (device core registers.old) }
 {
-    let place = core.place;
-    let Place::Free(made) = place else {
-        return body::body_step(program, store, registers, core);
-    };
-    free_step(program, store, registers, core, made)
+    match core.place {
+        Place::Free(made) => free_step(program, store, registers, core, made),
+        _ => body::body_step(program, store, registers, core),
+    }
 }
 
 // What a step leaves whose handler is at rest.
 fn rested(left: CoreResult) -> StepResult
     ensures { result ≡ step_result left.answer left.stored Handler.Resting left.core }
 {
-    let answer = left.answer;
-    let stored = left.stored;
-    let core = left.core;
-    StepResult {
-        answer,
-        stored,
-        handler: Handler::Resting,
-        core,
-    }
+    handler_result(left.core, Handler::Resting, left.answer, left.stored)
 }
 
 // "First that applies", after the early checks. A handler at rest has no burst.
@@ -223,14 +198,13 @@ pub fn next_step(
     ensures store_after { of_step result registers.new burst.new store.new
         ≡ leaves (next_step_of program.now) store.old
         (device_with core registers.old handler burst.old) }
-    ensures eight_2 { Eight burst.new }
+    ensures eight_after { Eight burst.new }
 {
     match handler {
         Handler::Resting => rested(place_step(program, store, registers, core)),
         Handler::Storing(length, made) => {
             let later = Handler::Storing(length, made + 1);
-            let dropped = None;
-            handler_step(store, burst, core, length, made, later, dropped)
+            handler_step(store, burst, core, length, made, later, None)
         }
         Handler::Dropping => drop_step(program, store, core),
         Handler::Replacing(made) => replacing_step(store, burst, core, made),

@@ -36,3 +36,5 @@ module _ (s : List ℕ) (h : Shaped s) where
       let inside : word s 7 ≤ length s = omega arith in
       let long : i < length (mid_of (word s 6) (word s 7 - word s 6) s) = rw (mid_len (word s 6) (word s 7) s inside) (omega arith) in
       rw e (set_mid_at (word s 6) (word s 7 - word s 6) i s v long ∙ ap (λ (a : ℕ). set s (a + i) v) h.log_start)
+
+pub ruleset word_in_part = (log-word, queue-word)

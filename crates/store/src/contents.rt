@@ -3,7 +3,7 @@ ghost use Rattle.std.specs.Prelude.{◌≡◌, ◌≤◌};
 ghost use Rattle.model.specs.Store.{log_at, queue_at, store_length, sizes_rule, store_rule};
 ghost use Rattle.model.specs.Accepted.{Contents, Sizes, ShapedFor};
 
-use model::{Checked, Refusal};
+use model::Refusal;
 
 pub const MARK: u16 = 0xC0A2;
 
@@ -12,19 +12,11 @@ pub const CONTROL: u16 = 8;
 pub const MEMORY: u16 = 17;
 
 // L is 1 to 64 and Q is 1 to 32.
+#[tactic(auto, using(model::proofs::TestLaws::tests), unfolding(model::specs::Store::sizes_rule, model::specs::Test::both))]
 pub fn sizes(log_pairs: u16, queue_records: u16) -> bool
     ensures { result ≡ sizes_rule log_pairs queue_records }
 {
-    if log_pairs < 1 {
-        return false;
-    }
-    if log_pairs > 64 {
-        return false;
-    }
-    if queue_records < 1 {
-        return false;
-    }
-    queue_records <= 32
+    1 <= log_pairs && log_pairs <= 64 && 1 <= queue_records && queue_records <= 32
 }
 
 // Where the log and the queue start, and where the store ends.
@@ -52,6 +44,7 @@ pub fn end(memory_words: u16, log_pairs: u16, queue_records: u16) -> u16
 }
 
 // Refusal 6.
+#[tactic(auto, using(model::proofs::TestLaws::tests, model::proofs::Passed::gives), unfolding(model::specs::Store::store_rule, model::specs::Store::store_mark, model::specs::Test::must, model::specs::Test::in_turn))]
 pub fn store_rule(program: &[u16], store: &[u16]) -> Result<(), Refusal>
     requires { Contents program.now }
     ensures value { result ≡ store_rule program.now store.now }

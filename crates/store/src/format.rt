@@ -1,23 +1,12 @@
 // Formatting: the contents are set, word 9 becomes the entry task and all else 0. A refused call changes no word.
-ghost use Rattle.std.specs.Prelude.{◌≡◌, length, replicate};
+ghost use Rattle.std.specs.Prelude.{◌≡◌, length};
 ghost use Rattle.model.specs.Program.{memory_words};
 ghost use Rattle.model.specs.Store.{store_length, formatted, format_check, format};
 ghost use Rattle.model.specs.Accepted.{Contents, Sizes};
 
 use crate::contents;
 use crate::contents::{CONTROL, MARK, MEMORY};
-use model::{Checked, Refusal};
-
-// All words become 0.
-fn clear(store: &mut [u16])
-    ensures { store.new ≡ replicate (length store.old) 0 }
-{
-    let mut index = 0;
-    while index < store.len() {
-        store[index] = 0;
-        index += 1;
-    }
-}
+use model::Refusal;
 
 // A store of the right length is filled.
 fn fill(program: &[u16], log_pairs: u16, queue_records: u16, store: &mut [u16])
@@ -28,7 +17,7 @@ fn fill(program: &[u16], log_pairs: u16, queue_records: u16, store: &mut [u16])
 {
     let memory_words = program[3];
     let entry = program[4];
-    clear(store);
+    store.fill(0);
     store[0] = MARK;
     store[1] = memory_words;
     store[2] = log_pairs;
@@ -40,7 +29,13 @@ fn fill(program: &[u16], log_pairs: u16, queue_records: u16, store: &mut [u16])
     store[9] = entry;
 }
 
-pub fn format(program: &[u16], log_pairs: u16, queue_records: u16, store: &mut [u16]) -> Result<(), Refusal>
+#[tactic(auto, using(model::proofs::TestLaws::tests, model::proofs::TestLaws::in_a_row, model::proofs::Passed::gives), unfolding(model::specs::Store::format_check, model::specs::Store::format, model::specs::Store::format_store, model::specs::Test::must, model::specs::Test::in_turn))]
+pub fn format(
+    program: &[u16],
+    log_pairs: u16,
+    queue_records: u16,
+    store: &mut [u16],
+) -> Result<(), Refusal>
     ensures value { result ≡ format_check program.now log_pairs queue_records store.old }
     ensures store_after { store.new ≡ format program.now log_pairs queue_records store.old }
 {

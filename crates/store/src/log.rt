@@ -7,25 +7,19 @@ ghost use Rattle.model.specs.Store.{view, address, value, to, Address, Value, fi
 ghost use Rattle.model.specs.Accepted.{Shaped};
 ghost use Rattle.store.specs.Written.{Written};
 
-use model::{Found, Stored};
-
 // The first of the log's first pairs, so many as it counts, with this address.
+#[tactic(auto, using(crate::proofs::Search::search_laws), unfolding(model::specs::Store::find))]
 pub fn search(log: &[u16], log_count: u16, address: u16) -> Option<u16>
     requires { 2 * log_count ≤ length log.now }
     ensures value { result ≡ find log.now log_count address }
     ensures within { (pair : ℕ) → result ≡ Some pair → pair < log_count }
 {
-    let mut pair: u16 = 0;
-    let found = loop {
-        if pair == log_count {
-            break None;
-        }
+    for pair in 0..log_count {
         if log[2 * (pair as usize)] == address {
-            break Some(pair);
+            return Some(pair);
         }
-        pair += 1;
-    };
-    found
+    }
+    None
 }
 
 // The same in a store.
@@ -40,6 +34,7 @@ pub fn find(store: &[u16], log_count: u16, address: u16) -> Option<u16>
     search(&store[log..queue], log_count, address)
 }
 
+#[tactic(auto, using(crate::proofs::Parts::word_in_part))]
 pub fn address(store: &[u16], pair: u16) -> u16
     requires shaped { Shaped store.now }
     requires pair_bound { pair < word store.now 2 }
@@ -49,6 +44,7 @@ pub fn address(store: &[u16], pair: u16) -> u16
     store[log + 2 * (pair as usize)]
 }
 
+#[tactic(auto, using(crate::proofs::Parts::word_in_part))]
 pub fn value(store: &[u16], pair: u16) -> u16
     requires shaped { Shaped store.now }
     requires pair_bound { pair < word store.now 2 }

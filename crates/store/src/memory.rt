@@ -6,7 +6,6 @@ ghost use Rattle.model.specs.Accepted.{Shaped};
 ghost use Rattle.store.specs.Written.{Written};
 
 use crate::contents::MEMORY;
-use model::Stored;
 
 pub fn read(store: &[u16], address: u16) -> u16
     requires shaped { Shaped store.now }

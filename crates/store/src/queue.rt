@@ -8,8 +8,7 @@ ghost use Rattle.model.specs.Test.{pick};
 ghost use Rattle.model.specs.Accepted.{Shaped};
 ghost use Rattle.store.specs.Written.{Written};
 
-use model::Stored;
-
+#[tactic(auto, using(crate::proofs::Parts::word_in_part))]
 pub fn event(store: &[u16], slot: u16) -> u16
     requires shaped { Shaped store.now }
     requires slot_bound { slot ≤ word store.now 3 }
@@ -19,6 +18,7 @@ pub fn event(store: &[u16], slot: u16) -> u16
     store[queue + 2 * (slot as usize)]
 }
 
+#[tactic(auto, using(crate::proofs::Parts::word_in_part))]
 pub fn datum(store: &[u16], slot: u16) -> u16
     requires shaped { Shaped store.now }
     requires slot_bound { slot ≤ word store.now 3 }
@@ -43,6 +43,7 @@ pub fn write_ahead(store: &mut [u16], slot: u16, places: u16, value: u16) -> Opt
 }
 
 // A place of a ring of so many, at most once past its end.
+#[tactic(auto, using(model::proofs::TestLaws::tests), unfolding(model::specs::Test::pick))]
 fn around(ring: u16, place: u16) -> u16
     ensures { result ≡ pick (ltb place ring) place (place - ring) }
 {
@@ -50,6 +51,7 @@ fn around(ring: u16, place: u16) -> u16
 }
 
 // The slot after a slot, of the slots 0 to Q.
+#[tactic(auto, using(model::proofs::TestLaws::tests), unfolding(model::specs::Store::slot_after, model::specs::Test::pick))]
 pub fn slot_after(queue_records: u16, slot: u16) -> u16
     requires { slot ≤ queue_records }
     ensures { result ≡ slot_after queue_records slot }
@@ -58,6 +60,7 @@ pub fn slot_after(queue_records: u16, slot: u16) -> u16
 }
 
 // The slot so many places after a slot.
+#[tactic(auto, using(crate::proofs::Ring::slot_ahead))]
 pub fn forward(queue_records: u16, slot: u16, places: u16) -> u16
     requires { (slot ≤ queue_records) × (places ≤ queue_records) × (queue_records ≤ 32) }
     ensures { result ≡ forward queue_records slot places }
@@ -82,6 +85,7 @@ pub fn is_full(store: &[u16]) -> bool
 }
 
 // How many records more the ring takes: none where it is full.
+#[tactic(auto, using(model::proofs::TestLaws::tests), unfolding(model::specs::Store::room, model::specs::Store::distance, model::specs::Test::pick))]
 pub fn room(store: &[u16]) -> u16
     requires shaped { Shaped store.now }
     requires store_bound { (word store.now 14 ≤ word store.now 3) × (word store.now 15 ≤ word store.now 3) }
@@ -90,12 +94,14 @@ pub fn room(store: &[u16]) -> u16
     let head = store[14];
     let tail = store[15];
     if head <= tail {
-        return store[3] - (tail - head);
+        store[3] - (tail - head)
+    } else {
+        head - tail - 1
     }
-    head - tail - 1
 }
 
 // The waiting records start at head, in phase 2 at word 12's slot.
+#[tactic(auto, using(model::proofs::TestLaws::tests), unfolding(model::specs::Store::first_waiting, model::specs::Test::pick))]
 pub fn first_waiting(store: &[u16]) -> u16
     requires { Shaped store.now }
     ensures { result ≡ first_waiting (view store.now) }
@@ -104,19 +110,15 @@ pub fn first_waiting(store: &[u16]) -> u16
 }
 
 // Does a record wait in a slot, of records from head up to tail?
+#[tactic(auto, using(model::proofs::TestLaws::tests), unfolding(model::specs::Control::between, model::specs::Test::pick, model::specs::Test::both, model::specs::Test::either))]
 pub fn between(head: u16, tail: u16, slot: u16) -> bool
     ensures { result ≡ between head tail slot }
 {
     if head <= tail {
-        if slot < head {
-            return false;
-        }
-        return slot < tail;
+        head <= slot && slot < tail
+    } else {
+        head <= slot || slot < tail
     }
-    if head <= slot {
-        return true;
-    }
-    slot < tail
 }
 
 // The record at head.

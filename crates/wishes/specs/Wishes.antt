@@ -1,4 +1,5 @@
 -- docs/PLAY.md, "On wish": the parts of a store that are printed behind a call's line, and what uncut recovery would leave. Assumes nothing.
+use Rattle.model.specs.Types.{Checked, Err, Ok}
 use Rattle.std.specs.Prelude.{ℕ, Bool, List, [], ◌++◌}
 use Rattle.model.specs.Calls.{Recovery, recovered, refused, unfinished, recovery}
 use Rattle.model.specs.Check.{contents_rule}
@@ -6,7 +7,6 @@ use Rattle.model.specs.Control.{obey_all, early_rules}
 use Rattle.model.specs.Demand3.{recovery_steps}
 use Rattle.model.specs.Store.{view, waiting, store_rule}
 use Rattle.model.specs.Test.{pick, ◌then◌}
-use Rattle.model.specs.declared.Checked.{Checked}
 use Rattle.text.specs.Ascii.{ascii}
 use Rattle.trace.specs.Trace.{refused_part, memory_part, control_part, queue_part, recovery_line}
 use Rattle.wishes.specs.declared.Wishes.{Wishes}

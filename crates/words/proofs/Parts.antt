@@ -13,9 +13,9 @@ use Rattle.model.proofs.TestLaws.{pick_true, pick-false, same_or, below_or, and_
 use Rattle.model.specs.Device.{burst_length}
 use Rattle.model.specs.Program.{word}
 use Rattle.model.specs.Test.{pick, ◌and◌, both}
+use Rattle.model.specs.Types.{Some, None}
 use Rattle.model.specs.declared.Answer.{Answer}
 use Rattle.model.specs.declared.Body.{Body}
-use Rattle.model.specs.declared.Dropped.{Dropped}
 use Rattle.model.specs.declared.Handler.{Handler}
 use Rattle.model.specs.declared.Handler.TheVariants.{Resting, Storing, Dropping, Replacing}
 use Rattle.model.specs.declared.Place.{Place}
@@ -80,7 +80,7 @@ answer_spelt Answer.Worked y = refl
 answer_spelt Answer.Stored y = refl
 answer_spelt (Answer.Committed b) y = refl
 answer_spelt (Answer.Accepted None) y = refl
-answer_spelt (Answer.Accepted (Dropped.Record e x)) y = refl
+answer_spelt (Answer.Accepted (Some r)) y = refl
 answer_spelt (Answer.Refused e) y = refl
 
 -- ---- on

@@ -7,18 +7,16 @@ use Rattle.model.specs.Claims.{ZeroBehind}
 use Rattle.model.specs.Device.{off, with_handler}
 use Rattle.model.specs.Program.{word}
 use Rattle.model.specs.Test.{pick, ◌and◌}
+use Rattle.model.specs.Types.{Checked, Option, Some, None, Ok, Err}
 use Rattle.model.specs.declared.Answer.{Answer}
 use Rattle.model.specs.declared.Body.{Body}
-use Rattle.model.specs.declared.Checked.{Checked}
 use Rattle.model.specs.declared.Device.{Device}
-use Rattle.model.specs.declared.Dropped.{Dropped}
-use Rattle.model.specs.declared.Ended.{Ended}
 use Rattle.model.specs.declared.Handler.{Handler}
 use Rattle.model.specs.declared.Handler.TheVariants.{Resting, Storing, Dropping, Replacing}
 use Rattle.model.specs.declared.Place.{Place}
 use Rattle.model.specs.declared.Place.TheVariants.{Free, Run, Half}
+use Rattle.model.specs.declared.Record.{Record}
 use Rattle.model.specs.declared.Refusal.{Refusal}
-use Rattle.model.specs.declared.Stored.{Stored}
 
 -- ---- A device state as 26 words
 
@@ -172,9 +170,9 @@ unfoldable pub refused_words : Refusal → List ℕ
 refused_words e = 6 ∷ 0 ∷ (refusal e).number ∷ (refusal e).first ∷ (refusal e).second ∷ []
 
 -- an acceptance: whether a record was dropped, and its event and data
-unfoldable pub accepted_words : Dropped → List ℕ
+unfoldable pub accepted_words : Option Record → List ℕ
 accepted_words None = plain_answer 5
-accepted_words (Dropped.Record e x) = 5 ∷ 1 ∷ e ∷ x ∷ 0 ∷ []
+accepted_words (Some r) = 5 ∷ 1 ∷ r.event ∷ r.datum ∷ 0 ∷ []
 
 -- what a call answers
 unfoldable pub answer_words : Answer → List ℕ
@@ -187,7 +185,7 @@ answer_words (Answer.Accepted dropped) = accepted_words dropped
 answer_words (Answer.Refused e) = refused_words e
 
 -- how a run ends: spent, or a refusal as in an answer
-unfoldable pub ended_words : Ended → List ℕ
+unfoldable pub ended_words : Checked → List ℕ
 ended_words (Ok _) = plain_answer 7
 ended_words (Err e) = refused_words e
 
@@ -207,11 +205,11 @@ nothing_posted_words = plain_answer 9
 -- ---- A step's answer as 6 words: those of an answer, and the word that it stored, by its index
 
 -- none is 65535, which is no index: a store has at most 1235 words
-unfoldable pub stored_number : Stored → ℕ
+unfoldable pub stored_number : Option ℕ → ℕ
 stored_number None = 65535
 stored_number (Some i) = i
 
-unfoldable pub step_words : Answer → Stored → List ℕ
+unfoldable pub step_words : Answer → Option ℕ → List ℕ
 step_words a w = answer_words a ++ (stored_number w ∷ [])
 
 -- where the device words stand for no device state

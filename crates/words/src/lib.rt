@@ -3,24 +3,19 @@
 
 #![tactic(auto)]
 
-ghost use Rattle.std.specs.Prelude.{◌≡◌};
-ghost use Rattle.words.specs.Words.{flag, kind, number, place_words, handler_words, device_words, with_burst};
+ghost use Rattle.std.specs.Prelude.{◌≡◌, leb, Some, None};
+ghost use Rattle.model.specs.Test.{pick};
+ghost use Rattle.words.specs.Words.{kind, number, place_words, handler_words, device_words, with_burst};
 ghost use Rattle.words.specs.Words.{body_of, place_of, is_place, handler_of, is_handler, is_record, are_records, burst_of, is_state, state_of};
 ghost use Rattle.words.specs.Words.{refused_words, accepted_words, answer_words, ended_words, checked_words, unknown_words, nothing_posted_words};
 ghost use Rattle.words.specs.Words.{stored_number, step_words, unknown_step_words};
 
-use model::{Answer, Body, Checked, Device, Dropped, Ended, Handler, Place, Refusal, Stored};
+use model::{Answer, Body, Device, Handler, Place, Record, Refusal};
 
 // ---- A device state as 26 words
 
-// Word 0.
-fn flag(on: bool) -> u16
-    ensures { result ≡ flag on }
-{
-    if on { 1 } else { 0 }
-}
-
 // A body is two words: its kind, task or event, and its number.
+#[tactic(auto, unfolding(crate::specs::Words::kind))]
 fn kind(body: Body) -> u16
     ensures { result ≡ kind body }
 {
@@ -30,16 +25,17 @@ fn kind(body: Body) -> u16
     }
 }
 
+#[tactic(auto, unfolding(crate::specs::Words::number))]
 fn number(body: Body) -> u16
     ensures { result ≡ number body }
 {
     match body {
-        Body::Task(n) => n,
-        Body::Event(n) => n,
+        Body::Task(n) | Body::Event(n) => n,
     }
 }
 
 // Words 9 to 13.
+#[tactic(auto, unfolding(crate::specs::Words::place_words))]
 fn place_words(place: Place) -> [u16; 5]
     ensures { result ≡ place_words place }
 {
@@ -51,6 +47,7 @@ fn place_words(place: Place) -> [u16; 5]
 }
 
 // Words 15 to 17.
+#[tactic(auto, unfolding(crate::specs::Words::handler_words))]
 fn handler_words(handler: Handler) -> [u16; 3]
     ensures { result ≡ handler_words handler }
 {
@@ -73,7 +70,7 @@ pub fn write_device(words: &mut [u16; 26], device: Device)
     let place_words = place_words(place);
     let handler_words = handler_words(handler);
     *words = [
-        flag(device.on),
+        u16::from(device.on),
         registers[0],
         registers[1],
         registers[2],
@@ -116,105 +113,56 @@ pub fn with_burst(words: &[u16; 26], handler: Handler, burst: [u16; 8]) -> [u16;
 
 // ---- 26 words as a device state
 
-// The body of its two words.
-fn body_of(kind: u16, number: u16) -> Body
-    ensures { result ≡ body_of kind number }
+// The body of its two words, if they are the words of one.
+#[tactic(auto, using(crate::proofs::Parts::tests), unfolding(crate::specs::Words::body_of, model::specs::Test::pick))]
+fn read_body(kind: u16, number: u16) -> Option<Body>
+    ensures { result ≡ pick (leb kind 1) (Some (body_of kind number)) None }
 {
-    if kind == 0 {
-        return Body::Task(number);
+    match kind {
+        0 => Some(Body::Task(number)),
+        1 => Some(Body::Event(number)),
+        _ => None,
     }
-    Body::Event(number)
 }
 
-// The place of words 9 to 13, and whether they are the words of a place.
-fn place_of(place: u16, kind: u16, number: u16, instruction: u16, made: u16) -> Place
-    ensures { result ≡ place_of place kind number instruction made }
+// The place of words 9 to 13, if they are the words of one.
+#[tactic(auto, using(crate::proofs::Parts::tests), unfolding(crate::specs::Words::is_place, crate::specs::Words::place_of, crate::specs::Words::body_of, model::specs::Test::pick, model::specs::Test::both))]
+fn read_place(place: u16, kind: u16, number: u16, instruction: u16, made: u16) -> Option<Place>
+    ensures { result ≡ pick (is_place place kind number instruction made)
+        (Some (place_of place kind number instruction made)) None }
 {
-    if place == 0 {
-        return Place::Free(made);
+    match (place, kind, number, instruction, made) {
+        (0, 0, 0, 0, _) => Some(Place::Free(made)),
+        (1, _, _, _, _) => Some(Place::Run(read_body(kind, number)?, instruction, made)),
+        (2, _, _, _, 0) => Some(Place::Half(read_body(kind, number)?, instruction)),
+        _ => None,
     }
-    let body = body_of(kind, number);
-    if place == 1 {
-        return Place::Run(body, instruction, made);
-    }
-    Place::Half(body, instruction)
 }
 
-fn is_place(place: u16, kind: u16, number: u16, instruction: u16, made: u16) -> bool
-    ensures { result ≡ is_place place kind number instruction made }
+// The handler of words 15 to 17, if they are the words of one.
+#[tactic(auto, using(crate::proofs::Parts::tests), unfolding(crate::specs::Words::is_handler, crate::specs::Words::handler_of, model::specs::Test::pick, model::specs::Test::both))]
+fn read_handler(work: u16, length: u16, made: u16) -> Option<Handler>
+    ensures { result ≡ pick (is_handler work length made) (Some (handler_of work length made)) None }
 {
-    if place == 0 {
-        if kind != 0 {
-            return false;
-        }
-        if number != 0 {
-            return false;
-        }
-        return instruction == 0;
+    match (work, length, made) {
+        (0, 0, 0) => Some(Handler::Resting),
+        (1, _, _) => Some(Handler::Storing(length, made)),
+        (2, 1, 0) => Some(Handler::Dropping),
+        (3, 1, _) => Some(Handler::Replacing(made)),
+        _ => None,
     }
-    if kind > 1 {
-        return false;
-    }
-    if place == 1 {
-        return true;
-    }
-    if place != 2 {
-        return false;
-    }
-    made == 0
-}
-
-// The handler of words 15 to 17, and whether they are the words of a handler.
-fn handler_of(work: u16, length: u16, made: u16) -> Handler
-    ensures { result ≡ handler_of work length made }
-{
-    if work == 0 {
-        return Handler::Resting;
-    }
-    if work == 1 {
-        return Handler::Storing(length, made);
-    }
-    if work == 2 {
-        return Handler::Dropping;
-    }
-    Handler::Replacing(made)
-}
-
-fn is_handler(work: u16, length: u16, made: u16) -> bool
-    ensures { result ≡ is_handler work length made }
-{
-    if work == 0 {
-        if length != 0 {
-            return false;
-        }
-        return made == 0;
-    }
-    if work == 1 {
-        return true;
-    }
-    if length != 1 {
-        return false;
-    }
-    if work == 2 {
-        return made == 0;
-    }
-    work == 3
 }
 
 // The two words of a record beside a burst of so many: behind the last one they are 0.
+#[tactic(auto, using(model::proofs::TestLaws::tests), unfolding(crate::specs::Words::is_record, model::specs::Test::pick, model::specs::Test::both))]
 fn is_record(length: u16, number: u16, event: u16, datum: u16) -> bool
     ensures { result ≡ is_record length number event datum }
 {
-    if number < length {
-        return true;
-    }
-    if event != 0 {
-        return false;
-    }
-    datum == 0
+    number < length || (event == 0 && datum == 0)
 }
 
 // Words 18 to 25, beside a burst of so many records. Of no burst their bits are asked together, which is one test for eight.
+#[tactic(auto, using(model::proofs::TestLaws::both_zero), unfolding(crate::specs::Words::are_records, crate::specs::Words::is_record, model::specs::Test::pick, model::specs::Test::both))]
 fn are_records(words: &[u16; 26], length: u16) -> bool
     ensures { result ≡ are_records length (burst_of words.now) }
 {
@@ -223,58 +171,45 @@ fn are_records(words: &[u16; 26], length: u16) -> bool
             | ((words[20] | words[21]) | ((words[22] | words[23]) | (words[24] | words[25])));
         return bits == 0;
     }
-    if !is_record(length, 0, words[18], words[19]) {
-        return false;
-    }
-    if !is_record(length, 1, words[20], words[21]) {
-        return false;
-    }
-    if !is_record(length, 2, words[22], words[23]) {
-        return false;
-    }
-    is_record(length, 3, words[24], words[25])
+    is_record(length, 0, words[18], words[19])
+        && is_record(length, 1, words[20], words[21])
+        && is_record(length, 2, words[22], words[23])
+        && is_record(length, 3, words[24], words[25])
 }
 
-// The device state of 26 words, and whether they are the words of one.
-pub fn is_state(words: &[u16; 26]) -> bool
-    ensures { result ≡ is_state words.now }
+// The device state of 26 words, if they are the words of one.
+#[tactic(auto, using(crate::proofs::Parts::tests), unfolding(crate::specs::Words::is_state, crate::specs::Words::state_of, model::specs::Test::pick, model::specs::Test::both))]
+pub fn read_device(words: &[u16; 26]) -> Option<Device>
+    ensures { result ≡ pick (is_state words.now) (Some (state_of words.now)) None }
 {
     if words[0] > 1 {
-        return false;
+        return None;
     }
-    if !is_place(words[9], words[10], words[11], words[12], words[13]) {
-        return false;
+    let place = read_place(words[9], words[10], words[11], words[12], words[13])?;
+    let handler = read_handler(words[15], words[16], words[17])?;
+    if !are_records(words, words[16]) {
+        return None;
     }
-    if !is_handler(words[15], words[16], words[17]) {
-        return false;
-    }
-    are_records(words, words[16])
-}
-
-pub fn state_of(words: &[u16; 26]) -> Device
-    ensures { result ≡ state_of words.now }
-{
     let registers = [
         words[1], words[2], words[3], words[4], words[5], words[6], words[7], words[8],
     ];
     let burst = [
         words[18], words[19], words[20], words[21], words[22], words[23], words[24], words[25],
     ];
-    let place = place_of(words[9], words[10], words[11], words[12], words[13]);
-    let handler = handler_of(words[15], words[16], words[17]);
-    Device {
+    Some(Device {
         on: words[0] == 1,
         registers,
         place,
         count: words[14],
         handler,
         burst,
-    }
+    })
 }
 
 // ---- Answers as 5 words: case, kind of body, number, place
 
 // A refusal: case 6, with its number and place.
+#[tactic(auto, unfolding(crate::specs::Words::refused_words, model::specs::Answer::refusal))]
 fn refused_words(why: Refusal) -> [u16; 5]
     ensures { result ≡ refused_words why }
 {
@@ -303,16 +238,18 @@ fn refused_words(why: Refusal) -> [u16; 5]
 }
 
 // An acceptance: case 5, with the record that was dropped.
-fn accepted_words(dropped: Dropped) -> [u16; 5]
+#[tactic(auto, unfolding(crate::specs::Words::accepted_words))]
+fn accepted_words(dropped: Option<Record>) -> [u16; 5]
     ensures { result ≡ accepted_words dropped }
 {
     match dropped {
         None => [5, 0, 0, 0, 0],
-        Dropped::Record(event, datum) => [5, 1, event, datum, 0],
+        Some(Record { event, datum }) => [5, 1, event, datum, 0],
     }
 }
 
 // An answer of each case.
+#[tactic(auto, unfolding(crate::specs::Words::answer_words))]
 fn answer_words(answer: Answer) -> [u16; 5]
     ensures { result ≡ answer_words answer }
 {
@@ -335,34 +272,29 @@ pub fn write_answer(words: &mut [u16; 5], answer: Answer)
 }
 
 // How a run ends.
+#[tactic(auto, unfolding(crate::specs::Words::ended_words))]
 pub fn write_ended(words: &mut [u16; 5], ended: Result<(), Refusal>)
     ensures { words.new ≡ ended_words ended }
 {
-    match ended {
-        Ok(()) => {
-            *words = [7, 0, 0, 0, 0];
-        }
-        Err(why) => {
-            *words = refused_words(why);
-        }
-    }
+    *words = match ended {
+        Ok(()) => [7, 0, 0, 0, 0],
+        Err(why) => refused_words(why),
+    };
 }
 
 // What a check finds.
+#[tactic(auto, unfolding(crate::specs::Words::checked_words))]
 pub fn write_checked(words: &mut [u16; 5], found: Result<(), Refusal>)
     ensures { words.new ≡ checked_words found }
 {
-    match found {
-        Ok(()) => {
-            *words = [0, 0, 0, 0, 0];
-        }
-        Err(why) => {
-            *words = refused_words(why);
-        }
-    }
+    *words = match found {
+        Ok(()) => [0, 0, 0, 0, 0],
+        Err(why) => refused_words(why),
+    };
 }
 
 // A raise posts nothing.
+#[tactic(auto, unfolding(crate::specs::Words::nothing_posted_words))]
 pub fn write_nothing_posted(words: &mut [u16; 5])
     ensures { words.new ≡ nothing_posted_words }
 {
@@ -370,6 +302,7 @@ pub fn write_nothing_posted(words: &mut [u16; 5])
 }
 
 // The device words stand for no device state.
+#[tactic(auto, unfolding(crate::specs::Words::unknown_words))]
 pub fn write_unknown(words: &mut [u16; 5])
     ensures { words.new ≡ unknown_words }
 {
@@ -379,16 +312,15 @@ pub fn write_unknown(words: &mut [u16; 5])
 // ---- A step's answer as 6 words: those of an answer, and the word that it stored
 
 // A word of the store by its index; 65535 for none.
+#[tactic(auto, unfolding(crate::specs::Words::stored_number))]
 fn stored_number(stored: Option<u16>) -> u16
     ensures { result ≡ stored_number stored }
 {
-    match stored {
-        None => 65535,
-        Some(i) => i,
-    }
+    stored.unwrap_or(65535)
 }
 
 // What a step answers, and which word it stored.
+#[tactic(auto, using(crate::proofs::Parts::answer_spelt), unfolding(crate::specs::Words::step_words))]
 pub fn write_step(words: &mut [u16; 6], answer: Answer, stored: Option<u16>)
     ensures { words.new ≡ step_words answer stored }
 {
@@ -397,6 +329,7 @@ pub fn write_step(words: &mut [u16; 6], answer: Answer, stored: Option<u16>)
 }
 
 // The device words stand for no device state: nothing is stored.
+#[tactic(auto, unfolding(crate::specs::Words::unknown_step_words, crate::specs::Words::unknown_words, crate::specs::Words::stored_number))]
 pub fn write_unknown_step(words: &mut [u16; 6])
     ensures { words.new ≡ unknown_step_words }
 {

@@ -6,9 +6,9 @@ use Rattle.model.specs.Device.{fresh}
 use Rattle.recovery.proofs.RecoveryLaws.{recovery_stops, recovery_goes}
 use Rattle.recovery.proofs.recover.Goals as goal
 
-pub returns-in-Refused : goal.returns-in-Refused
+pub returns-in_err-refusal : goal.returns-in_err-refusal
 unfolding fresh
-returns-in-Refused c = sym (recovery_stops _ _ _ c.boot-booted.ensures (sym c.refusal-found.ensures ∙ c.in-Refused.is))
+returns-in_err-refusal c = sym (recovery_stops _ _ _ c.boot-booted.ensures (sym c.refusal.ensures ∙ c.in_err-refusal.was))
 
 pub returns : goal.returns
 unfolding fresh
@@ -16,5 +16,5 @@ returns c =
     let p = c.args.program.now in
     let s = c.args.store.now in
     c.finish.ensures
-    ∙ sym (recovery_goes _ _ _ c.boot-booted.ensures (sym c.refusal-found.ensures ∙ c.in_default.is))
+    ∙ sym (recovery_goes _ _ _ c.boot-booted.ensures (sym c.refusal.ensures ∙ c.in_ok-refusal.was))
     ∙ ap (λ (n : ℕ). recovery p n s) c.steps-allowed.ensures

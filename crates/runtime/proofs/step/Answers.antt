@@ -8,7 +8,7 @@ use borrow.Author.Rules.{rules}
 use Rattle.runtime.proofs.step.Goals as goal
 
 pub run_in-steps-requires : goal.run_in-steps-requires
-run_in-steps-requires c = record { eight = search rules; burst_value = λ known. sym c.look-found.ensures.value ∙ accepted _ (sym c.is_accepted.ensures ∙ known) }
+run_in-steps-requires c = record { eight = search rules; looked_to_pass = λ known. sym c.look-found.ensures.value ∙ accepted _ (sym c.is_ok.ensures.value ∙ known) }
 
 pub returns : goal.returns
 unfolding step

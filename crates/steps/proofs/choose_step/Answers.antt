@@ -11,10 +11,10 @@ pub returns-then-not-event_next : goal.returns-then-not-event_next
 unfolding choose_step choosing started data_for kind_of with_place judged settled stored_word index
 returns-then-not-event_next c = rw (c.begin.ensures.0, c.begin.ensures.1) (ap (λ (o : Outcome). of_outcome c.args.store.now o) (sym (pick-false _ _ (sym c.event_next.ensures ∙ c.if-not-event_next.true))))
 
-pub returns-in-Refused : goal.returns-in-Refused
+pub returns-in-Err : goal.returns-in-Err
 unfolding choose_step choosing started data_for kind_of with_place judged settled stored_word index
-returns-in-Refused c = rw c.refused.ensures (ap (λ (o : Outcome). of_outcome c.args.store.now o) (sym (pick_true _ _ (sym c.event_next.ensures ∙ c.if-not-event_next.false) ∙ judged-refused _ _ (sym c.record_at_head-found.ensures ∙ c.in-Refused.is))))
+returns-in-Err c = rw c.refused.ensures (ap (λ (o : Outcome). of_outcome c.args.store.now o) (sym (pick_true _ _ (sym c.event_next.ensures ∙ c.if-not-event_next.false) ∙ judged-refused _ _ (sym c.record_at_head.ensures ∙ c.in-Err.is))))
 
 pub returns : goal.returns
 unfolding choose_step choosing started data_for kind_of with_place judged settled stored_word index
-returns c = rw (c.begin-2.ensures.0, c.begin-2.ensures.1, c.head_event-event.ensures, c.head_datum-datum.ensures) (ap (λ (o : Outcome). of_outcome c.args.store.now o) (sym (pick_true _ _ (sym c.event_next.ensures ∙ c.if-not-event_next.false) ∙ judged-accepted _ _ (sym c.record_at_head-found.ensures ∙ c.in_default.is))))
+returns c = rw (c.begin-2.ensures.0, c.begin-2.ensures.1, c.head_event-event.ensures, c.head_datum-datum.ensures) (ap (λ (o : Outcome). of_outcome c.args.store.now o) (sym (pick_true _ _ (sym c.event_next.ensures ∙ c.if-not-event_next.false) ∙ judged-accepted _ _ (sym c.record_at_head.ensures ∙ c.in_default.is))))

@@ -17,7 +17,7 @@ returns-then-store-eq0 c =
     c.choose_step.ensures ∙ ap (λ (o : Outcome). of_outcome s o) (sym (free_chooses p (view s) d c.args.made c.if-store-eq0.true))
 
 pub copy_step-requires : goal.copy_step-requires
-copy_step-requires c = record { looked = c.requires.looked; place_value = (c.requires.place_value, c.if-store-eq0.false) }
+copy_step-requires c = record { looked = c.requires.looked; committing = (c.requires.free, c.if-store-eq0.false) }
 
 pub returns : goal.returns
 returns c =

@@ -9,8 +9,8 @@ use Rattle.steps.proofs.handler_step.Goals as goal
 
 pub returns-then-made-length : goal.returns-then-made-length
 unfolding with_handler settled stored_word index
-returns-then-made-length c = record { by_index = λ r h. simp (word-stored (view c.args.store.now) (device_with c.args.core r h c.args.burst.now) c.args.length c.args.made c.args.later c.args.dropped c.if-made-length.true, c.handler_result.ensures, c.write_ahead-word.ensures.store, c.write_ahead-word.ensures.stored); eight_2 = c.requires.eight }
+returns-then-made-length c = record { on_any = λ r h. simp (word-stored (view c.args.store.now) (device_with c.args.core r h c.args.burst.now) c.args.length c.args.made c.args.later c.args.dropped c.if-made-length.true, c.handler_result.ensures, c.write_ahead-word.ensures.store, c.write_ahead-word.ensures.stored); eight_after = c.requires.eight }
 
 pub returns : goal.returns
 unfolding with_handler settled stored_word index
-returns c = record { by_index = λ r h. simp (tail-stored (view c.args.store.now) (device_with c.args.core r h c.args.burst.now) c.args.length c.args.made c.args.later c.args.dropped (omega (arith, c.if-made-length.false, c.requires.length_len_bound)), c.handler_result-2.ensures, c.forward.ensures); eight_2 = refl }
+returns c = record { on_any = λ r h. simp (tail-stored (view c.args.store.now) (device_with c.args.core r h c.args.burst.now) c.args.length c.args.made c.args.later c.args.dropped (omega (arith, c.if-made-length.false, c.requires.length_bound)), c.handler_result-2.ensures, c.forward.ensures); eight_after = refl }

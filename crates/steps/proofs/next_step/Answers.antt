@@ -37,7 +37,7 @@ pub handler_step-requires : goal.handler_step-requires
 handler_step-requires c =
     let looked = c.requires.looked in
     let (fits, most, inside) = bounds _ _ _ _ _ _ _ (subst (Attends c.args.program.now (view c.args.store.now) c.args.burst.now) c.in-Storing.is looked.handler) in
-    record { shaped = looked.shaped.shaped; store_bound = (looked.control.tail_in, fits); length_len_bound = (most, inside); eight = c.requires.eight }
+    record { shaped = looked.shaped.shaped; store_bound = (looked.control.tail_in, fits); length_bound = (most, inside); eight = c.requires.eight }
 
 pub drop_step-requires : goal.drop_step-requires
 drop_step-requires c = record { contents = c.requires.looked.contents; shaped_for = c.requires.looked.shaped; store_bound = c.requires.looked.control.head_in }
@@ -62,17 +62,17 @@ returns-in-Resting c =
           ∙ c.place_step.ensures
           ∙ ap (λ (ws : List ℕ). leaves (next_step_of p) s (device_with c.args.core r Resting ws)) (sym none)
           ∙ ap (λ (h : Handler). leaves (next_step_of p) s (device_with c.args.core r h b)) (sym told);
-      eight_2 = c.requires.eight;
+      eight_after = c.requires.eight;
     }
 
 pub returns-in-Storing : goal.returns-in-Storing
 unfolding next_step
-returns-in-Storing c = record { store_after = c.handler_step.ensures.by_index c.args.registers.now _ ∙ ap (λ (h : Handler). leaves (next_step_of c.args.program.now) c.args.store.now (device_with c.args.core c.args.registers.now h c.args.burst.now)) (sym c.in-Storing.is); eight_2 = c.handler_step.ensures.eight_2 }
+returns-in-Storing c = record { store_after = c.handler_step.ensures.on_any c.args.registers.now _ ∙ ap (λ (h : Handler). leaves (next_step_of c.args.program.now) c.args.store.now (device_with c.args.core c.args.registers.now h c.args.burst.now)) (sym c.in-Storing.is); eight_after = c.handler_step.ensures.eight_after }
 
 pub returns-in-Dropping : goal.returns-in-Dropping
 unfolding next_step
-returns-in-Dropping c = record { store_after = c.drop_step.ensures c.args.registers.now c.args.burst.now ∙ ap (λ (h : Handler). leaves (next_step_of c.args.program.now) c.args.store.now (device_with c.args.core c.args.registers.now h c.args.burst.now)) (sym c.in-Dropping.is); eight_2 = c.requires.eight }
+returns-in-Dropping c = record { store_after = c.drop_step.ensures c.args.registers.now c.args.burst.now ∙ ap (λ (h : Handler). leaves (next_step_of c.args.program.now) c.args.store.now (device_with c.args.core c.args.registers.now h c.args.burst.now)) (sym c.in-Dropping.is); eight_after = c.requires.eight }
 
 pub returns-in-Replacing : goal.returns-in-Replacing
 unfolding next_step
-returns-in-Replacing c = record { store_after = c.replacing_step.ensures.by_index c.args.registers.now _ ∙ ap (λ (h : Handler). leaves (next_step_of c.args.program.now) c.args.store.now (device_with c.args.core c.args.registers.now h c.args.burst.now)) (sym c.in-Replacing.is); eight_2 = c.replacing_step.ensures.eight_2 }
+returns-in-Replacing c = record { store_after = c.replacing_step.ensures.on_any c.args.registers.now _ ∙ ap (λ (h : Handler). leaves (next_step_of c.args.program.now) c.args.store.now (device_with c.args.core c.args.registers.now h c.args.burst.now)) (sym c.in-Replacing.is); eight_after = c.replacing_step.ensures.eight_after }

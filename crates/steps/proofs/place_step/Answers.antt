@@ -13,10 +13,10 @@ pub returns-in_default : goal.returns-in_default
 returns-in_default c = c.body_step.ensures
 
 pub free_step-requires : goal.free_step-requires
-free_step-requires c = record { looked = c.requires; place_value = c.in-Free.is }
+free_step-requires c = record { looked = c.requires; free = c.in-Free.is }
 
-pub returns : goal.returns
-returns c =
+pub returns-in-Free : goal.returns-in-Free
+returns-in-Free c =
     let s = c.args.store.now in
     let p = c.args.program.now in
     let d = device c.args.core c.args.registers.now in

@@ -1,4 +1,4 @@
--- `acting::fits` meets its contract. Assumes nothing.
+-- `acting::fits` meets its contract, of any body and instruction. Assumes nothing.
 use borrow.Author.Tests.{eq-eqb, ne_eqb}
 use Rattle.model.specs.Device.{place_fits}
 use Rattle.model.specs.Test.{pick}
@@ -8,6 +8,6 @@ pub returns-then-made-eq0 : goal.returns-then-made-eq0
 unfolding place_fits pick
 returns-then-made-eq0 c = λ b j. rw (eq-eqb _ _ c.if-made-eq0.true)
 
-pub returns : goal.returns
+pub returns-else-made-eq0 : goal.returns-else-made-eq0
 unfolding place_fits pick
-returns c = λ b j. rw (ne_eqb _ _ c.if-made-eq0.false) c.ends.ensures
+returns-else-made-eq0 c = λ b j. rw (ne_eqb _ _ c.if-made-eq0.false) c.ends.ensures

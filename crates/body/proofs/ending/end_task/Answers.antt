@@ -14,12 +14,6 @@ pub returns-then-made-eq1 : goal.returns-then-made-eq1
 unfolding act storing task_stores with_place settled stored_word index pick
 returns-then-made-eq1 c = simp (c.if-made-eq1.true, c.stored-then-made-eq1.ensures)
 
-pub transaction-requires : goal.transaction-requires
-transaction-requires c = rw c.body_number-number.ensures c.requires.fetches.instruction.body.row
-
-pub transaction-requires-then-made-eq2 : goal.transaction-requires-then-made-eq2
-transaction-requires-then-made-eq2 c = record { rows = c.requires.fetches.instruction.body.row.rows; body = omega (arith, c.requires.fetches.legal.0) }
-
 pub returns-then-made-eq2 : goal.returns-then-made-eq2
 unfolding act storing task_stores with_place settled stored_word index pick
 returns-then-made-eq2 c = simp (c.if-made-eq2.true, c.stored-then-made-eq2.ensures, c.new_open.ensures, c.transaction-then-made-eq2.ensures, c.transaction.ensures, c.body_number-number.ensures)

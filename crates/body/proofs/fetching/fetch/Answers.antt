@@ -1,70 +1,36 @@
 -- `fetching::fetch` meets its contract, check by check. Assumes nothing.
-use mathlib.Core.Path.{sym, ◌∙◌, subst}
-use borrow.Author.Tests.{lt-ltb, le-ltb}
-use Rattle.model.specs.Program.{body_number}
+use Rattle.std.proofs.Common.{rules}
+use mathlib.Core.Path.{◌≡◌, sym, ◌∙◌}
+use borrow.Author.Tests.{le-ltb, lt-ltb}
 use Rattle.model.specs.Store.{view}
-use Rattle.model.specs.Accepted.{LegalEffect}
-use Rattle.body.proofs.Running.{fetched-row, gone_open, gone, fetched-code, fetched-last, does_stop, does_go, does-same, does-refused, does-accepted, never}
+use Rattle.model.specs.Types.{Err}
+use Rattle.body.proofs.Running.{fetched-row, gone_open, gone, fetched-code, fetched-last, does_stop, does_go, does-refused, does-accepted}
 use Rattle.body.proofs.fetching.fetch.Goals as goal
 
-pub returns-in-Refused : goal.returns-in-Refused
-returns-in-Refused c = record { value = fetched-row c.args.program.now (view c.args.store.now) c.args.registers.now c.args.body c.args.instruction (sym c.row_sound-found.ensures.value ∙ c.in-Refused.is); given = λ f k. never k }
+pub returns-in_err-row_sound-clause-value : goal.returns-in_err-row_sound-clause-value
+returns-in_err-row_sound-clause-value c =
+    let same : c.from_residual.result ≡ Err c.in_err-row_sound.field-0.0 = search rules in
+    same ∙ fetched-row c.args.program.now (view c.args.store.now) c.args.registers.now c.args.body c.args.instruction (sym c.row_sound.ensures.value ∙ c.in_err-row_sound.was)
 
-pub instructions-requires : goal.instructions-requires
-instructions-requires c = rw c.body_number-number.ensures (c.row_sound-found.ensures.given c.in_default.is).row
+pub returns-in_err-open_sound-clause-value : goal.returns-in_err-open_sound-clause-value
+returns-in_err-open_sound-clause-value c =
+    let same : c.from_residual-in_err-open_sound.result ≡ Err c.in_err-open_sound.field-0.0 = search rules in
+    same ∙ gone_open c.args.program.now (view c.args.store.now) c.args.registers.now c.args.body c.args.instruction (sym c.row_sound.ensures.value ∙ c.in_ok-row_sound.was) (le-ltb _ _ (rw (c.instructions.ensures, c.body_number-number.ensures) at c.if-instruction-instructions.true)) (sym c.open_sound.ensures ∙ c.in_err-open_sound.was)
 
-pub open_sound-open-requires : goal.open_sound-open-requires
-open_sound-open-requires c = record { running = c.requires; rows_inside = (c.row_sound-found.ensures.given c.in_default.is).row.rows }
+pub returns-then-instruction-instructions-clause-value : goal.returns-then-instruction-instructions-clause-value
+returns-then-instruction-instructions-clause-value c = gone c.args.program.now (view c.args.store.now) c.args.registers.now c.args.body c.args.instruction (sym c.row_sound.ensures.value ∙ c.in_ok-row_sound.was) (le-ltb _ _ (rw (c.instructions.ensures, c.body_number-number.ensures) at c.if-instruction-instructions.true)) (sym c.open_sound.ensures ∙ c.in_ok-open_sound.was)
 
-pub returns-in-Refused-open : goal.returns-in-Refused-open
-returns-in-Refused-open c =
-    record {
-      value = gone_open c.args.program.now (view c.args.store.now) c.args.registers.now c.args.body c.args.instruction (sym c.row_sound-found.ensures.value ∙ c.in_default.is)
-          (le-ltb _ _ (rw (c.instructions.ensures, c.body_number-number.ensures) at c.if-instruction-instructions.true)) (sym c.open_sound-open.ensures ∙ c.in-Refused-open.is);
-      given = λ f k. never k;
-    }
+pub returns-in_err-effect-clause-value : goal.returns-in_err-effect-clause-value
+returns-in_err-effect-clause-value c =
+    let same : c.from_residual-in_err-effect.result ≡ Err c.in_err-effect.field-0.0 = search rules in
+    same ∙ fetched-code c.args.program.now (view c.args.store.now) c.args.registers.now c.args.body c.args.instruction (sym c.row_sound.ensures.value ∙ c.in_ok-row_sound.was) (lt-ltb _ _ (rw (c.instructions.ensures, c.body_number-number.ensures) at c.if-instruction-instructions.false)) (does-refused _ _ (sym (rw c.body_number-number.ensures at c.instruction_effect.ensures.value) ∙ c.in_err-effect.was))
 
-pub returns-then-instruction-instructions : goal.returns-then-instruction-instructions
-returns-then-instruction-instructions c =
-    record {
-      value = gone c.args.program.now (view c.args.store.now) c.args.registers.now c.args.body c.args.instruction (sym c.row_sound-found.ensures.value ∙ c.in_default.is)
-          (le-ltb _ _ (rw (c.instructions.ensures, c.body_number-number.ensures) at c.if-instruction-instructions.true)) (sym c.open_sound-open.ensures ∙ c.in_default-open.is);
-      given = λ f k. never k;
-    }
+pub returns-in_err-last_sound-clause-value : goal.returns-in_err-last_sound-clause-value
+returns-in_err-last_sound-clause-value c =
+    let same : c.from_residual-in_err-last_sound.result ≡ Err c.in_err-last_sound.field-0.0 = search rules in
+    same ∙ does_stop _ (sym c.last_sound.ensures ∙ c.in_err-last_sound.was) ∙ fetched-last c.args.program.now (view c.args.store.now) c.args.registers.now c.args.body c.args.instruction (sym c.row_sound.ensures.value ∙ c.in_ok-row_sound.was) (lt-ltb _ _ (rw (c.instructions.ensures, c.body_number-number.ensures) at c.if-instruction-instructions.false)) (does-accepted _ _ (sym (rw c.body_number-number.ensures at c.instruction_effect.ensures.value) ∙ c.in_ok-effect.was)).0
 
-pub instruction_effect-got-requires : goal.instruction_effect-got-requires
-instruction_effect-got-requires c = rw c.body_number-number.ensures (record { body = c.row_sound-found.ensures.given c.in_default.is; place = rw (c.instructions.ensures, c.body_number-number.ensures) at c.if-instruction-instructions.false })
-
-pub returns-in_default-got : goal.returns-in_default-got
-returns-in_default-got c =
-    record {
-      value = c.in_default-got.is
-          ∙ fetched-code c.args.program.now (view c.args.store.now) c.args.registers.now c.args.body c.args.instruction (sym c.row_sound-found.ensures.value ∙ c.in_default.is)
-          (lt-ltb _ _ (rw (c.instructions.ensures, c.body_number-number.ensures) at c.if-instruction-instructions.false)) (does-refused _ _ (sym (rw c.body_number-number.ensures at c.instruction_effect-got.ensures.value) ∙ c.in_default-got.is));
-      given = λ f k. never (sym c.in_default-got.is ∙ k);
-    }
-
-pub last_sound-last-requires : goal.last_sound-last-requires
-last_sound-last-requires c = record { running = c.requires; rows_inside = (c.row_sound-found.ensures.given c.in_default.is).row.rows }
-
-pub returns-in-Refused-last : goal.returns-in-Refused-last
-returns-in-Refused-last c =
-    record {
-      value = does_stop _ (sym c.last_sound-last.ensures ∙ c.in-Refused-last.is)
-          ∙ fetched-last c.args.program.now (view c.args.store.now) c.args.registers.now c.args.body c.args.instruction (sym c.row_sound-found.ensures.value ∙ c.in_default.is)
-          (lt-ltb _ _ (rw (c.instructions.ensures, c.body_number-number.ensures) at c.if-instruction-instructions.false)) (does-accepted _ _ (sym (rw c.body_number-number.ensures at c.instruction_effect-got.ensures.value) ∙ c.in-Does.is)).0;
-      given = λ f k. never k;
-    }
-
-pub returns : goal.returns
-returns c =
-    let got = does-accepted _ _ (sym (rw c.body_number-number.ensures at c.instruction_effect-got.ensures.value) ∙ c.in-Does.is) in
-    let there = rw (c.instructions.ensures, c.body_number-number.ensures) at c.if-instruction-instructions.false in record {
-      value = does_go _ _ (sym c.last_sound-last.ensures ∙ c.in_default-last.is) (sym got.1)
-          ∙ fetched-last c.args.program.now (view c.args.store.now) c.args.registers.now c.args.body c.args.instruction (sym c.row_sound-found.ensures.value ∙ c.in_default.is) (lt-ltb _ _ there) got.0;
-      given = λ f k.
-          record {
-            instruction = record { body = c.row_sound-found.ensures.given c.in_default.is; place = there };
-            legal = subst (LegalEffect c.args.program.now (body_number c.args.program.now c.args.body) c.args.instruction) (does-same k) (rw c.body_number-number.ensures at (c.instruction_effect-got.ensures.given _ c.in-Does.is));
-          };
-    }
+pub returns-clause-value : goal.returns-clause-value
+returns-clause-value c =
+    let accepted = does-accepted _ _ (sym (rw c.body_number-number.ensures at c.instruction_effect.ensures.value) ∙ c.in_ok-effect.was) in
+    does_go _ _ (sym c.last_sound.ensures ∙ c.in_ok-last_sound.was) (sym accepted.1) ∙ fetched-last c.args.program.now (view c.args.store.now) c.args.registers.now c.args.body c.args.instruction (sym c.row_sound.ensures.value ∙ c.in_ok-row_sound.was) (lt-ltb _ _ (rw (c.instructions.ensures, c.body_number-number.ensures) at c.if-instruction-instructions.false)) accepted.0

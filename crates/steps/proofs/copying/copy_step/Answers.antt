@@ -11,7 +11,7 @@ use Rattle.steps.proofs.copying.copy_step.Goals as goal
 pub copy-requires : goal.copy-requires
 copy-requires c =
     let h = c.requires.looked in
-    record { contents = h.contents; shaped_for = h.shaped; pair_bound = (c.if-made-copies.true, copies_fit c.args.program.now c.args.store.now _ h c.args.made c.requires.place_value.0 c.requires.place_value.1) }
+    record { contents = h.contents; shaped_for = h.shaped; pair_bound = (c.if-made-copies.true, copies_fit c.args.program.now c.args.store.now _ h c.args.made c.requires.committing.0 c.requires.committing.1) }
 
 pub returns-then-made-copies : goal.returns-then-made-copies
 returns-then-made-copies c = c.copy.ensures c.args.registers.now
@@ -19,9 +19,9 @@ returns-then-made-copies c = c.copy.ensures c.args.registers.now
 pub task_last-requires : goal.task_last-requires
 task_last-requires c =
     let h = c.requires.looked in
-    let fit = copies_fit c.args.program.now c.args.store.now _ h c.args.made c.requires.place_value.0 c.requires.place_value.1 in
-    let l = task-left c.args.program.now c.args.store.now _ h c.args.made c.requires.place_value.0 c.requires.place_value.1 c.if-store-eq1.true in
-    record { memory_at_in_bounds = omega (arith, h.shaped.shaped.length_is); last_bound = (omega (arith, c.if-made-copies.false), omega (arith, h.shaped.shaped.sizes.most_pairs)) }
+    let fit = copies_fit c.args.program.now c.args.store.now _ h c.args.made c.requires.committing.0 c.requires.committing.1 in
+    let l = task-left c.args.program.now c.args.store.now _ h c.args.made c.requires.committing.0 c.requires.committing.1 c.if-store-eq1.true in
+    record { control_words = omega (arith, h.shaped.shaped.length_is); last_bound = (omega (arith, c.if-made-copies.false), omega (arith, h.shaped.shaped.sizes.most_pairs)) }
 
 pub returns-then-store-eq1 : goal.returns-then-store-eq1
 returns-then-store-eq1 c =
@@ -31,9 +31,9 @@ returns-then-store-eq1 c =
 pub event_last-requires : goal.event_last-requires
 event_last-requires c =
     let h = c.requires.looked in
-    let fit = copies_fit c.args.program.now c.args.store.now _ h c.args.made c.requires.place_value.0 c.requires.place_value.1 in
-    let l = event-left c.args.program.now c.args.store.now _ h c.args.made c.requires.place_value.0 c.requires.place_value.1 c.if-store-eq1.false in
-    record { memory_at_in_bounds = omega (arith, h.shaped.shaped.length_is); last_bound = (omega (arith, c.if-made-copies.false), omega (arith, h.shaped.shaped.sizes.most_pairs)) }
+    let fit = copies_fit c.args.program.now c.args.store.now _ h c.args.made c.requires.committing.0 c.requires.committing.1 in
+    let l = event-left c.args.program.now c.args.store.now _ h c.args.made c.requires.committing.0 c.requires.committing.1 c.if-store-eq1.false in
+    record { control_words = omega (arith, h.shaped.shaped.length_is); last_bound = (omega (arith, c.if-made-copies.false), omega (arith, h.shaped.shaped.sizes.most_pairs)) }
 
 pub returns : goal.returns
 returns c =

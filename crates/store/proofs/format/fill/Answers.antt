@@ -1,9 +1,9 @@
--- `store::format::fill` meets its contract: nine stores to a store that is all 0 make the formatted one. Assumes nothing.
+-- `format::fill` meets its contract: words that are all 0, with nine stores, make the formatted store. Assumes nothing.
 use Prim.Native.Nat.{ℕ, ◌+◌, ◌-◌}
 use mathlib.Core.List.{List}
 use mathlib.Core.Path.{◌≡◌, sym, ◌∙◌, ap}
 use native.Mathlib.Omega.{arith}
-use lib.ListN.{set, replicate, length-set, replicate-append-replicate}
+use lib.ListN.{set, replicate, replicate-append-replicate}
 use Rattle.model.specs.Program.{memory_words, entry}
 use Rattle.model.specs.Store.{store_mark, control_at, memory_at, log_at, queue_at, store_length, store_contents, formatted}
 use Rattle.store.proofs.format.fill.Goals as goal
@@ -20,37 +20,10 @@ filled p l q zeros log queue =
     let e : store_length (memory_words p) l q ≡ 10 + rest = omega arith in
     rw (zeros, log, queue, ap (λ (n : ℕ). replicate n 0) e ∙ sym (replicate-append-replicate {A = ℕ} 10 rest 0))
 
-pub bounds-store-1 : goal.bounds-store-1
-bounds-store-1 c = simp length-set (omega arith)
-
-pub bounds-store-2 : goal.bounds-store-2
-bounds-store-2 c = simp length-set (omega arith)
-
-pub bounds-store-3 : goal.bounds-store-3
-bounds-store-3 c = simp length-set (omega arith)
-
-pub bounds-store-4 : goal.bounds-store-4
-bounds-store-4 c = simp length-set (omega arith)
-
-pub bounds-store-5 : goal.bounds-store-5
-bounds-store-5 c = simp length-set (omega arith)
-
-pub bounds-store-6 : goal.bounds-store-6
-bounds-store-6 c = simp length-set (omega arith)
-
-pub bounds-store-7 : goal.bounds-store-7
-bounds-store-7 c = simp length-set (omega arith)
-
-pub bounds-store-9 : goal.bounds-store-9
-bounds-store-9 c = simp length-set (omega arith)
-
-pub shape_of-store : goal.shape_of-store
-shape_of-store c = simp length-set c.clear.auto.store
-
 pub returns : goal.returns
 unfolding store_mark
 returns c =
     let a = c.args in
-    filled a.program.now a.log_pairs a.queue_records (c.clear.ensures ∙ ap (λ (n : ℕ). replicate n 0) c.requires.store_len)
+    filled a.program.now a.log_pairs a.queue_records (c.fill.ensures.after (λ y e. e) ∙ ap (λ (n : ℕ). replicate n 0) c.requires.store_len)
     c.log_start.ensures
     c.queue_start.ensures

@@ -1,11 +1,11 @@
 -- `store::queue::write_ahead` meets its contract: the store is the one that `settled` makes and the word is its index, at most once past the ring's
 -- end; word 7 says where the queue starts. Assumes nothing.
+use Rattle.model.specs.Types.{Some}
 use mathlib.Core.Path.{ap, ◌∙◌}
 use borrow.Author.Rules.{rules}
 use Prim.Native.Nat.{ℕ, ◌+◌}
 use lib.ListN.{set}
 use Rattle.model.specs.Store.{settled, stored_word}
-use Rattle.model.specs.declared.Stored.{Stored}
 use Rattle.store.proofs.Ring.{word_in, word_ahead}
 use Rattle.store.proofs.queue.write_ahead.Goals as goal
 

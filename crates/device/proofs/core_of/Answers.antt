@@ -1,6 +1,0 @@
--- `core_of` meets its contract. Assumes nothing.
-use mathlib.Core.Path.{refl}
-use Rattle.device.proofs.core_of.Goals as goal
-
-pub returns : goal.returns
-returns c = refl

@@ -1,7 +1,0 @@
--- `runtime_format` meets its contract. Assumes nothing.
-use mathlib.Core.Path.{ap, ◌∙◌}
-use Rattle.words.specs.Words.{checked_words}
-use Rattle.exports.proofs.runtime_format.Goals as goal
-
-pub returns : goal.returns
-returns c = (c.write_checked.ensures ∙ ap checked_words c.format.ensures.value, c.format.ensures.store_after)
