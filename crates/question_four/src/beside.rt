@@ -1,4 +1,6 @@
 // The right run beside a mistaken one: the same calls on two stores. A bar stands where they differ.
+ghost use Rattle.std.specs.Prelude.{◌<◌, ◌^◌};
+
 use super::mistakes::Mistake;
 use super::node::{Call, Node};
 use super::{cells, listed, node, text, words};
@@ -154,7 +156,7 @@ fn waiting(out: &impl Print, right: &[u16], mistaken: &[u16]) -> io::Result<()> 
     text::put(out, b"\n")
 }
 
-// Lists that aren't shown, in both runs.
+// Calls that aren't shown, in both runs.
 fn calls(
     program: &[u16],
     right_store: &mut [u16],
@@ -215,7 +217,9 @@ pub fn beside<const WORDS: usize>(
     queue_records: u16,
     mistake: Mistake,
     lists: Lists<'_>,
-) -> io::Result<()> {
+) -> io::Result<()>
+    requires { WORDS < 2 ^ 16 }
+{
     let mut right = [0u16; WORDS];
     let mut mistaken = [0u16; WORDS];
     let _ = format::format(program, 1, queue_records, &mut right);

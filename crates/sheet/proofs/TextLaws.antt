@@ -1,13 +1,11 @@
 -- Laws of the sheet's text: the line of an answer's words. Assumes nothing.
 use Rattle.std.specs.Prelude.{Some, None, Ok, Err}
-use Prim.Native.Nat.{ℕ, ◌*◌}
-use mathlib.Core.List.{List, [], ◌∷◌, ◌++◌, append_assoc, append-nil}
+use Prim.Native.Nat.{ℕ}
+use mathlib.Core.List.{List, []}
 use mathlib.Core.Logic.{◌≢◌}
 use mathlib.Core.Path.{◌≡◌, refl, sym, ap, ◌∙◌}
-use native.Mathlib.Omega.{arith}
 use borrow.Author.Tests.{eq-eqb, ne_eqb}
 use lib.Dec.{eqb}
-use lib.ListN.{length}
 use Rattle.model.proofs.TestLaws.{pick_true, pick-false, and_true, and_false}
 use Rattle.model.specs.Program.{word}
 use Rattle.model.specs.Test.{pick, both}
@@ -15,7 +13,6 @@ use Rattle.model.specs.declared.Answer.{Answer}
 use Rattle.model.specs.Types.{Checked}
 use Rattle.sheet.specs.Inside.{told_line, numbers_of}
 use Rattle.sheet.specs.Sheet.{refused_line, dropped_line, answer_line, if_checked}
-use Rattle.text.specs.Text.{space}
 use Rattle.words.specs.Words.{refused_words, accepted_words, answer_words, checked_words}
 
 -- ---- the line of an answer's words

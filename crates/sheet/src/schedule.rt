@@ -27,10 +27,7 @@ fn posting(event: u16, first: u16, second: u16, third: u16, fourth: u16) -> Opti
     if event > 15 || first > 15 || second > 15 || third > 15 || fourth > 15 {
         return None;
     }
-    Some(Scheduled::Post(
-        event,
-        4096 * first + 256 * second + 16 * third + fourth,
-    ))
+    Some(Scheduled::Post(event, 4096 * first + 256 * second + 16 * third + fourth))
 }
 
 // "p, an event digit and four data digits"
