@@ -18,8 +18,8 @@ use Rattle.cases.specs.Seen.{none, store_after_cut, cut_after, further_post}
 
 -- ---- from the calls' contracts to what is seen: s₁ is formatted, d₁ booted
 
-abbrev pub device_of_lem : Result → Device
-device_of_lem r = r.device
+abbrev pub device_of : Result → Device
+device_of r = r.device
 
 abbrev pub store_of : RunOutcome → List ℕ
 store_of r = r.store
@@ -47,13 +47,24 @@ module _ (p s : List ℕ) {s₁ s₂ : List ℕ} {d₁ : Device} (formatted : s�
 
 -- ---- the cases
 
-pub record Cases : Type 0 where
-  pub nine : cut_after 9 0 ≡ 0 ∷ 0 ∷ 0 ∷ []
-  pub ten : cut_after 10 5 ≡ 0 ∷ 1 ∷ 0 ∷ []
-  pub ten_but_one : cut_after 10 4 ≡ 1 ∷ 1 ∷ 0 ∷ []
-  pub further : further_post counting (replicate 25 0) 4 ≡ Answer.Refused Refusal.QueueFull
-  pub at_once : further_post counting (replicate 25 0) 3 ≡ Answer.Done
+pub nine : cut_after 9 0 ≡ 0 ∷ 0 ∷ 0 ∷ []
+unfolding store_after_cut cut_after counting definitions
+nine = refl
 
-pub cases : Cases
-unfolding store_after_cut cut_after further_post counting definitions
-cases = record { nine = refl; ten = refl; ten_but_one = refl; further = refl; at_once = refl }
+pub ten : cut_after 10 5 ≡ 0 ∷ 1 ∷ 0 ∷ []
+unfolding store_after_cut cut_after counting definitions
+ten = refl
+
+pub ten_but_one : cut_after 10 4 ≡ 1 ∷ 1 ∷ 0 ∷ []
+unfolding store_after_cut cut_after counting definitions
+ten_but_one = refl
+
+pub further : further_post counting (replicate 25 0) 4 ≡ Answer.Refused Refusal.QueueFull
+unfolding further_post counting definitions
+further = refl
+
+pub at_once : further_post counting (replicate 25 0) 3 ≡ Answer.Done
+unfolding further_post counting definitions
+at_once = refl
+
+pub ruleset seen = (nine, ten, ten_but_one, further, at_once)

@@ -13,6 +13,7 @@ use runtime;
 use store::format;
 
 // "M 2, T 1, E 1, 26 words"
+#[tactic(auto, unfolding(model::specs::Starred::counting))]
 pub fn counting() -> [u16; 26]
     ensures { result ≡ counting }
 {
@@ -46,6 +47,7 @@ fn cut_in(program: &[u16], store: &mut [u16], steps: u32, recovery: u32)
 }
 
 // The phase, and memory words 0 and 1, after that.
+#[tactic(auto, unfolding(crate::specs::Seen::cut_after))]
 pub fn cut_after(steps: u32, recovery: u32) -> [u16; 3]
     ensures { result ≡ cut_after steps recovery }
 {
@@ -56,6 +58,7 @@ pub fn cut_after(steps: u32, recovery: u32) -> [u16; 3]
 }
 
 // "Boot, 9 steps, cut: recovered memory 0, 0."
+#[tactic(auto, using(crate::proofs::Shown::seen))]
 pub fn nine_steps() -> [u16; 3]
     ensures { result ≡ 0 ∷ 0 ∷ 0 ∷ [] }
 {
@@ -63,6 +66,7 @@ pub fn nine_steps() -> [u16; 3]
 }
 
 // "After 10 steps: 1, 0", by 5 recovery steps
+#[tactic(auto, using(crate::proofs::Shown::seen))]
 pub fn ten_steps() -> [u16; 3]
     ensures { result ≡ 0 ∷ 1 ∷ 0 ∷ [] }
 {
@@ -70,6 +74,7 @@ pub fn ten_steps() -> [u16; 3]
 }
 
 // Four recovery steps aren't enough.
+#[tactic(auto, using(crate::proofs::Shown::seen))]
 pub fn ten_steps_but_one() -> [u16; 3]
     ensures { result ≡ 1 ∷ 1 ∷ 0 ∷ [] }
 {
@@ -98,6 +103,7 @@ fn post_after(steps: u32) -> Answer
 }
 
 // "Post and 3 steps: accepted. A further post before the event commits: 21", now "only once the event has begun", which the fourth step does.
+#[tactic(auto, using(crate::proofs::Shown::seen))]
 pub fn further_post() -> Answer
     ensures { result ≡ Answer.Refused Refusal.QueueFull }
 {
@@ -105,6 +111,7 @@ pub fn further_post() -> Answer
 }
 
 // Before that it drops the record at head.
+#[tactic(auto, using(crate::proofs::Shown::seen))]
 pub fn post_at_once() -> Answer
     ensures { result ≡ Answer.Done }
 {

@@ -1,9 +1,12 @@
 // The right run beside a mistaken one: the same calls on two stores. A bar stands where they differ.
+ghost use Rattle.std.specs.Prelude.{◌<◌, ◌^◌};
+
 use super::mistakes::Mistake;
-use super::node::Node;
+use super::node::{Call, Node};
 use super::{cells, listed, node, text, words};
-use model::{Answer, Body, Dropped, Stored};
+use model::{Answer, Body, Record};
 use std::io;
+use store::format;
 
 #[derive(Clone, Copy)]
 pub struct Runs {
@@ -11,60 +14,42 @@ pub struct Runs {
     pub mistaken: Node,
 }
 
-// A number for each body, and for each answer but for what it holds.
-fn body_number(body: Body) -> u32 {
-    match body {
-        Body::Task(task) => 2 * (task as u32),
-        Body::Event(event) => 2 * (event as u32) + 1,
+fn bodies_differ(right: Body, mistaken: Body) -> bool {
+    match (right, mistaken) {
+        (Body::Task(right), Body::Task(mistaken)) => right != mistaken,
+        (Body::Event(right), Body::Event(mistaken)) => right != mistaken,
+        _ => true,
     }
 }
 
-fn answer_number(answer: Answer) -> u16 {
-    match answer {
-        Answer::Done => 0,
-        Answer::Chosen(_) => 1,
-        Answer::Worked => 2,
-        Answer::Stored => 3,
-        Answer::Committed(_) => 4,
-        Answer::Accepted(dropped) => accepted_number(dropped),
-        Answer::Refused(_) => 6,
+// The records that were dropped, if any were.
+fn dropped_differ(right: Option<Record>, mistaken: Option<Record>) -> bool {
+    match (right, mistaken) {
+        (None, None) => false,
+        (Some(right), Some(mistaken)) => {
+            right.event != mistaken.event || right.datum != mistaken.datum
+        }
+        _ => true,
     }
 }
 
-// An acceptance for which nothing was dropped, and one for which a record was; and a number for the record.
-fn accepted_number(dropped: Dropped) -> u16 {
-    match dropped {
-        None => 5,
-        Dropped::Record(_, _) => 7,
+// Refusals are shown without their reasons.
+fn answers_differ(right: Answer, mistaken: Answer) -> bool {
+    match (right, mistaken) {
+        (Answer::Done, Answer::Done) => false,
+        (Answer::Worked, Answer::Worked) => false,
+        (Answer::Stored, Answer::Stored) => false,
+        (Answer::Refused(_), Answer::Refused(_)) => false,
+        (Answer::Chosen(right), Answer::Chosen(mistaken)) => bodies_differ(right, mistaken),
+        (Answer::Committed(right), Answer::Committed(mistaken)) => bodies_differ(right, mistaken),
+        (Answer::Accepted(right), Answer::Accepted(mistaken)) => dropped_differ(right, mistaken),
+        _ => true,
     }
 }
 
-fn record_number(dropped: Dropped) -> u32 {
-    match dropped {
-        None => 0,
-        Dropped::Record(event, datum) => 65536 * (event as u32) + datum as u32,
-    }
-}
-
-// What an answer holds, by its number: a body, or the record that was dropped.
-fn held_number(answer: Answer) -> u32 {
-    match answer {
-        Answer::Done => 0,
-        Answer::Chosen(body) => body_number(body),
-        Answer::Worked => 0,
-        Answer::Stored => 0,
-        Answer::Committed(body) => body_number(body),
-        Answer::Accepted(dropped) => record_number(dropped),
-        Answer::Refused(_) => 0,
-    }
-}
-
-// A number for the word stored, with its value.
-fn stored_number(store: &[u16], stored: Option<u16>) -> u32 {
-    match stored {
-        None => 0,
-        Some(index) => 65536 * (index as u32) + words::word(store, index) as u32,
-    }
+// The word that was stored, with its value.
+fn stored(store: &[u16], index: Option<u16>) -> Option<(u16, u16)> {
+    index.map(|index| (index, words::word(store, index)))
 }
 
 fn bar(out: &impl Print, differ: bool) -> io::Result<()> {
@@ -75,22 +60,9 @@ fn bar(out: &impl Print, differ: bool) -> io::Result<()> {
     }
 }
 
-fn answers_differ(right: Answer, mistaken: Answer) -> bool {
-    if answer_number(right) != answer_number(mistaken) {
-        return true;
-    }
-    held_number(right) != held_number(mistaken)
-}
-
 fn differ(right_store: &[u16], mistaken_store: &[u16], right: Node, mistaken: Node) -> bool {
-    let right_answer = right.answer;
-    let mistaken_answer = mistaken.answer;
-    if answers_differ(right_answer, mistaken_answer) {
-        return true;
-    }
-    let right_stored = right.stored;
-    let mistaken_stored = mistaken.stored;
-    stored_number(right_store, right_stored) != stored_number(mistaken_store, mistaken_stored)
+    answers_differ(right.answer, mistaken.answer)
+        || stored(right_store, right.stored) != stored(mistaken_store, mistaken.stored)
 }
 
 // What a call answered and stored, in both runs.
@@ -113,15 +85,19 @@ fn row(
     program: &[u16],
     right_store: &mut [u16],
     mistaken_store: &mut [u16],
-    runs: Runs,
-    call: u8,
+    before: Runs,
+    call: Call,
     mistake: Mistake,
 ) -> io::Result<Runs> {
-    let right_before = runs.right;
-    let mistaken_before = runs.mistaken;
-    let right = node::call(program, right_store, right_before, call, Mistake::Nothing);
-    let mistaken = node::call(program, mistaken_store, mistaken_before, call, mistake);
-    cells::number(out, right_before.steps, call)?;
+    let right = node::make(program, right_store, before.right, call, None);
+    let mistaken = node::make(
+        program,
+        mistaken_store,
+        before.mistaken,
+        call,
+        Some(mistake),
+    );
+    cells::number(out, before.right.steps, call)?;
     cells::call(out, call, 7)?;
     performed(out, right_store, mistaken_store, right, mistaken)?;
     Ok(Runs { right, mistaken })
@@ -137,14 +113,15 @@ fn rows(
     mistake: Mistake,
 ) -> io::Result<Runs> {
     let mut runs = first;
-    for call in calls {
+    for name in calls {
+        let call = Call::named(*name);
         runs = row(
             out,
             program,
             right_store,
             mistaken_store,
             runs,
-            *call,
+            call,
             mistake,
         )?;
     }
@@ -155,10 +132,8 @@ fn memory(out: &impl Print, right: &[u16], mistaken: &[u16]) -> io::Result<()> {
     text::put(out, b"memory    ")?;
     cells::memory(out, right)?;
     text::spaces(out, 24)?;
-    let mut differ = words::memory(right, 0) != words::memory(mistaken, 0);
-    if words::memory(right, 1) != words::memory(mistaken, 1) {
-        differ = true;
-    }
+    let differ = (0..2).any(|address| words::memory(right, address)
+        != words::memory(mistaken, address));
     bar(out, differ)?;
     cells::memory(out, mistaken)?;
     text::put(out, b"\n")
@@ -190,11 +165,9 @@ fn calls(
     calls: &[u8],
     mistake: Mistake,
 ) -> Runs {
-    let right = runs.right;
-    let mistaken = runs.mistaken;
     Runs {
-        right: node::all_calls(program, right_store, right, calls, Mistake::Nothing),
-        mistaken: node::all_calls(program, mistaken_store, mistaken, calls, mistake),
+        right: node::all_calls(program, right_store, runs.right, calls, None),
+        mistaken: node::all_calls(program, mistaken_store, runs.mistaken, calls, Some(mistake)),
     }
 }
 
@@ -205,6 +178,14 @@ fn left(out: &impl Print, right: &[u16], mistaken: &[u16]) -> io::Result<()> {
     waiting(out, right, mistaken)
 }
 
+// The calls before the first row, in rows, and behind the last.
+#[derive(Clone, Copy)]
+pub struct Lists<'a> {
+    pub before: &'a [u8],
+    pub shown: &'a [u8],
+    pub behind: &'a [u8],
+}
+
 // The calls in rows, and those behind the last.
 fn table(
     out: &impl Print,
@@ -213,8 +194,7 @@ fn table(
     mistaken: &mut [u16],
     first: Runs,
     mistake: Mistake,
-    shown: &[u8],
-    behind: &[u8],
+    lists: Lists<'_>,
 ) -> io::Result<()> {
     text::line(
         out,
@@ -224,28 +204,46 @@ fn table(
         out,
         b" # call   answers      stores                 answers      stores",
     )?;
-    let last = rows(out, program, right, mistaken, first, shown, mistake)?;
-    let _ = calls(program, right, mistaken, last, behind, mistake);
-    listed::behind(out, behind)?;
+    let last = rows(out, program, right, mistaken, first, lists.shown, mistake)?;
+    let _ = calls(program, right, mistaken, last, lists.behind, mistake);
+    listed::behind(out, lists.behind)?;
     left(out, right, mistaken)
 }
 
-// Calls before the first row, in rows, and behind the last, on two stores.
-pub fn beside(
+// The calls on two stores, with L 1 and this Q, of so many words.
+pub fn beside<const WORDS: usize>(
     out: &impl Print,
     program: &[u16],
-    right: &mut [u16],
-    mistaken: &mut [u16],
+    queue_records: u16,
     mistake: Mistake,
-    before: &[u8],
-    shown: &[u8],
-    behind: &[u8],
-) -> io::Result<()> {
+    lists: Lists<'_>,
+) -> io::Result<()>
+    requires { WORDS < 2 ^ 16 }
+{
+    let mut right = [0u16; WORDS];
+    let mut mistaken = [0u16; WORDS];
+    let _ = format::format(program, 1, queue_records, &mut right);
+    let _ = format::format(program, 1, queue_records, &mut mistaken);
     let off = Runs {
         right: node::off(),
         mistaken: node::off(),
     };
-    let first = calls(program, right, mistaken, off, before, mistake);
-    listed::before(out, before)?;
-    table(out, program, right, mistaken, first, mistake, shown, behind)
+    let first = calls(
+        program,
+        &mut right,
+        &mut mistaken,
+        off,
+        lists.before,
+        mistake,
+    );
+    listed::before(out, lists.before)?;
+    table(
+        out,
+        program,
+        &mut right,
+        &mut mistaken,
+        first,
+        mistake,
+        lists,
+    )
 }

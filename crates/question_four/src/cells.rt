@@ -1,35 +1,39 @@
 // The cells of a row, each as wide as its column.
-use super::node::Node;
+use super::node::{Call, Node};
 use super::{node, text, words};
-use model::{Answer, Body, Device, Handler, Place, Stored};
+use model::{Answer, Body, Device, Handler, Place};
 use std::io;
 
 // At a step, which so many precede, its number; in a column of three.
-pub fn number(out: &impl Print, before: u32, call: u8) -> io::Result<()> {
-    if call == b's' {
-        text::two(out, node::one_more(before))?;
-        return text::spaces(out, 1);
+pub fn number(out: &impl Print, before: u32, call: Call) -> io::Result<()> {
+    if call != Call::Step {
+        return text::spaces(out, 3);
     }
-    text::spaces(out, 3)
+    text::two(out, node::one_more(before))?;
+    text::spaces(out, 1)
 }
 
 // A call, in a column of `width`.
-pub fn call(out: &impl Print, call: u8, width: u16) -> io::Result<()> {
-    if call == b's' {
-        text::put(out, b"step")?;
-        return text::rest(out, 4, width);
+pub fn call(out: &impl Print, call: Call, width: u16) -> io::Result<()> {
+    match call {
+        Call::Boot => {
+            text::put(out, b"boot")?;
+            text::rest(out, 4, width)
+        }
+        Call::Step => {
+            text::put(out, b"step")?;
+            text::rest(out, 4, width)
+        }
+        Call::Cut => {
+            text::put(out, b"cut")?;
+            text::rest(out, 3, width)
+        }
+        Call::Post(datum) => {
+            text::put(out, b"post ")?;
+            text::decimal(out, datum as u32)?;
+            text::rest(out, 6, width)
+        }
     }
-    if call == b'b' {
-        text::put(out, b"boot")?;
-        return text::rest(out, 4, width);
-    }
-    if call == b'c' {
-        text::put(out, b"cut")?;
-        return text::rest(out, 3, width);
-    }
-    text::put(out, b"post ")?;
-    text::put(out, &[call])?;
-    text::rest(out, 6, width)
 }
 
 // A task or an event, in a column of two.
@@ -103,27 +107,17 @@ fn instruction(out: &impl Print, program: &[u16], body: Body, at: u16) -> io::Re
 
 // What a step runs, in a column of seven.
 fn step_runs(out: &impl Print, program: &[u16], store: &[u16], device: Device) -> io::Result<()> {
-    let handler = device.handler;
-    match handler {
-        Handler::Resting => place_runs(out, program, store, device),
-        Handler::Storing(_, _) => text::put(out, b"handler"),
-        Handler::Dropping => text::put(out, b"handler"),
-        Handler::Replacing(_) => text::put(out, b"handler"),
+    match device.handler {
+        Handler::Resting => place_runs(out, program, store, device.place),
+        _ => text::put(out, b"handler"),
     }
 }
 
-fn place_runs(out: &impl Print, program: &[u16], store: &[u16], device: Device) -> io::Result<()> {
-    let place = device.place;
+fn place_runs(out: &impl Print, program: &[u16], store: &[u16], place: Place) -> io::Result<()> {
     match place {
-        Place::Free(_) => {
-            if words::phase(store) == 0 {
-                text::put(out, b"choose ")
-            } else {
-                text::put(out, b"commit ")
-            }
-        }
-        Place::Run(body, at, _) => instruction(out, program, body, at),
-        Place::Half(body, at) => instruction(out, program, body, at),
+        Place::Free(_) if words::phase(store) == 0 => text::put(out, b"choose "),
+        Place::Free(_) => text::put(out, b"commit "),
+        Place::Run(body, at, _) | Place::Half(body, at) => instruction(out, program, body, at),
     }
 }
 
@@ -133,25 +127,18 @@ pub fn runs(
     program: &[u16],
     store: &[u16],
     device: Device,
-    name: u8,
+    name: Call,
 ) -> io::Result<()> {
-    if name == b's' {
-        step_runs(out, program, store, device)?;
-        return text::spaces(out, 1);
+    if name != Call::Step {
+        return call(out, name, 8);
     }
-    call(out, name, 8)
+    step_runs(out, program, store, device)?;
+    text::spaces(out, 1)
 }
 
 // Does an event run?
 fn serving(device: Device) -> bool {
-    let place = device.place;
-    let Place::Run(body, _, _) = place else {
-        return false;
-    };
-    match body {
-        Body::Task(_) => false,
-        Body::Event(_) => true,
-    }
+    matches!(device.place, Place::Run(Body::Event(_), _, _))
 }
 
 // Word 12 is a commit's next task, or an event's next head.
@@ -234,12 +221,9 @@ pub fn stored(
 
 // What a call answered, and what it stored.
 pub fn performed(out: &impl Print, store: &[u16], node: Node, width: u16) -> io::Result<()> {
-    let answered = node.answer;
-    let told = node.stored;
-    let device = node.device;
-    answer(out, answered)?;
+    answer(out, node.answer)?;
     text::put(out, b" ")?;
-    stored(out, store, device, told, width)
+    stored(out, store, node.device, node.stored, width)
 }
 
 // Two words of memory, in a column of nine.
@@ -249,23 +233,15 @@ pub fn memory(out: &impl Print, store: &[u16]) -> io::Result<()> {
     text::hex(out, words::memory(store, 1))
 }
 
-fn record(out: &impl Print, store: &[u16], slot: u16) -> io::Result<()> {
-    text::put(out, b"E")?;
-    text::decimal(
-        out,
-        words::word(store, words::event_word(store, slot)) as u32,
-    )?;
-    text::put(out, b" ")?;
-    text::hex(out, words::word(store, words::data_word(store, slot)))
-}
-
 // The waiting record, in a column of `width`. One at most waits where this is shown.
 pub fn waiting(out: &impl Print, store: &[u16], width: u16) -> io::Result<()> {
-    let head = words::head(store);
-    if head == words::tail(store) {
+    let Some((event, datum)) = words::waiting(store) else {
         text::put(out, b"none")?;
         return text::rest(out, 4, width);
-    }
-    record(out, store, head)?;
+    };
+    text::put(out, b"E")?;
+    text::decimal(out, event as u32)?;
+    text::put(out, b" ")?;
+    text::hex(out, datum)?;
     text::rest(out, 7, width)
 }

@@ -1,48 +1,34 @@
 // A list of calls in words: steps are counted, the other calls stand singly.
+use super::node::Call;
 use super::{cells, node, text};
 use std::io;
 
-fn is_step(calls: &[u8], at: usize) -> bool {
-    if at < calls.len() {
-        return calls[at] == b's';
-    }
-    false
-}
-
-// The call at a place, which so many steps precede; they are told with the last one. How many are still to be told.
-fn item(out: &impl Print, calls: &[u8], at: usize, before: u32) -> io::Result<u32> {
-    if at >= calls.len() {
-        return Ok(0);
-    }
-    if at > 0 {
-        if before == 0 {
+pub fn listed(out: &impl Print, calls: &[u8]) -> io::Result<()> {
+    // The steps of a row of them, which are told with its last one.
+    let mut steps = 0;
+    for (i, name) in calls.iter().enumerate() {
+        if i > 0 && steps == 0 {
             text::put(out, b", ")?;
         }
-    }
-    if !is_step(calls, at) {
-        cells::call(out, calls[at], 0)?;
-        return Ok(0);
-    }
-    let steps = node::one_more(before);
-    if is_step(calls, at + 1) {
-        return Ok(steps);
-    }
-    text::decimal(out, steps)?;
-    text::put(out, b" steps")?;
-    Ok(0)
-}
-
-pub fn listed(out: &impl Print, calls: &[u8]) -> io::Result<()> {
-    let mut steps: u32 = 0;
-    for i in 0..calls.len() {
-        steps = item(out, calls, i, steps)?;
+        let call = Call::named(*name);
+        if call != Call::Step {
+            cells::call(out, call, 0)?;
+            continue;
+        }
+        steps = node::one_more(steps);
+        if let Some(b's') = calls.get(i + 1) {
+            continue;
+        }
+        text::decimal(out, steps)?;
+        text::put(out, b" steps")?;
+        steps = 0;
     }
     Ok(())
 }
 
 // The calls that precede a table's first row.
 pub fn before(out: &impl Print, calls: &[u8]) -> io::Result<()> {
-    if calls.len() == 0 {
+    if calls.is_empty() {
         return Ok(());
     }
     text::put(out, b"Before the first row: ")?;
@@ -53,7 +39,7 @@ pub fn before(out: &impl Print, calls: &[u8]) -> io::Result<()> {
 // The calls that follow its last row.
 pub fn behind(out: &impl Print, calls: &[u8]) -> io::Result<()> {
     text::put(out, b"Afterwards")?;
-    if calls.len() > 0 {
+    if !calls.is_empty() {
         text::put(out, b", ")?;
         listed(out, calls)?;
         text::put(out, b" on")?;

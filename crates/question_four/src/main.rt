@@ -4,9 +4,9 @@
 
 #![tactic(auto)]
 
+use beside::Lists;
 use mistakes::Mistake;
 use std::io;
-use store::format;
 
 mod beside;
 mod cells;
@@ -120,54 +120,14 @@ fn cuts_in_drop(out: &impl Print) -> io::Result<()> {
     table::table(out, &program, b"b7sss", b"8scb7sss8ssscb7sss8ssss")
 }
 
-// On stores with L and Q 1.
+// Stores with L 1 have 25 words with Q 1, and 27 with Q 2.
 fn beside_one(
     out: &impl Print,
     program: &[u16],
     mistake: Mistake,
-    before: &[u8],
-    shown: &[u8],
-    behind: &[u8],
+    lists: Lists<'_>,
 ) -> io::Result<()> {
-    let mut right = [0; 25];
-    let mut mistaken = [0; 25];
-    let _ = format::format(program, 1, 1, &mut right);
-    let _ = format::format(program, 1, 1, &mut mistaken);
-    beside::beside(
-        out,
-        program,
-        &mut right,
-        &mut mistaken,
-        mistake,
-        before,
-        shown,
-        behind,
-    )
-}
-
-// On stores with Q 2.
-fn beside_two(
-    out: &impl Print,
-    program: &[u16],
-    mistake: Mistake,
-    before: &[u8],
-    shown: &[u8],
-    behind: &[u8],
-) -> io::Result<()> {
-    let mut right = [0; 27];
-    let mut mistaken = [0; 27];
-    let _ = format::format(program, 1, 2, &mut right);
-    let _ = format::format(program, 1, 2, &mut mistaken);
-    beside::beside(
-        out,
-        program,
-        &mut right,
-        &mut mistaken,
-        mistake,
-        before,
-        shown,
-        behind,
-    )
+    beside::beside::<25>(out, program, 1, mistake, lists)
 }
 
 fn head_plus_one(out: &impl Print) -> io::Result<()> {
@@ -176,13 +136,16 @@ fn head_plus_one(out: &impl Print) -> io::Result<()> {
         b"\n8. Redoing an event's commit by adding one to head: two records go",
     )?;
     let program = cases::counting();
-    beside_two(
+    beside::beside::<27>(
         out,
         &program,
+        2,
         Mistake::HeadPlusOneOnRedo,
-        b"b7sss8ssssssss",
-        b"ssscbsssss",
-        b"",
+        Lists {
+            before: b"b7sss8ssssssss",
+            shown: b"ssscbsssss",
+            behind: b"",
+        },
     )
 }
 
@@ -196,9 +159,11 @@ fn tail_before_data(out: &impl Print) -> io::Result<()> {
         out,
         &program,
         Mistake::TailBeforeData,
-        b"b7sssssssssssss8sssssssssssss",
-        b"9sscbs",
-        b"sssssssss",
+        Lists {
+            before: b"b7sssssssssssss8sssssssssssss",
+            shown: b"9sscbs",
+            behind: b"sssssssss",
+        },
     )
 }
 
@@ -212,9 +177,11 @@ fn phase_before_task(out: &impl Print) -> io::Result<()> {
         out,
         &program,
         Mistake::PhaseBeforeTask,
-        b"bsssssssss",
-        b"ssscbsss",
-        b"ssssssssssssssssssssssss",
+        Lists {
+            before: b"bsssssssss",
+            shown: b"ssscbsss",
+            behind: b"ssssssssssssssssssssssss",
+        },
     )
 }
 
@@ -228,9 +195,11 @@ fn lost_count(out: &impl Print) -> io::Result<()> {
         out,
         &program,
         Mistake::CountFromLostState,
-        b"bsssssssss",
-        b"scbsssss",
-        b"",
+        Lists {
+            before: b"bsssssssss",
+            shown: b"scbsssss",
+            behind: b"",
+        },
     )
 }
 
@@ -244,9 +213,11 @@ fn lost_open(out: &impl Print) -> io::Result<()> {
         out,
         &program,
         Mistake::EventInOpenTransaction,
-        b"bsssssssssssssss",
-        b"7ssscbs",
-        b"ssssssssssssssssssssss",
+        Lists {
+            before: b"bsssssssssssssss",
+            shown: b"7ssscbs",
+            behind: b"ssssssssssssssssssssss",
+        },
     )
 }
 

@@ -2,11 +2,10 @@
 // stored after it. A mistaken device keeps something beside its state, which a cut loses, too.
 use super::node::Node;
 use super::{node, words};
-use model::{Answer, Dropped, Stored};
+use model::Answer;
 
 #[derive(Clone, Copy)]
 pub enum Mistake {
-    Nothing,
     HeadPlusOneOnRedo,
     TailBeforeData,
     PhaseBeforeTask,
@@ -14,42 +13,25 @@ pub enum Mistake {
     EventInOpenTransaction,
 }
 
-#[derive(Clone, Copy)]
+#[derive(Clone, Copy, Default)]
 pub struct Kept {
-    // A store was made too early; the one that it should have followed is still to be made.
+    // The phase was cleared too early; the stores that it should have followed are still to be made.
     pub early: bool,
-    // The data to be stored after tail.
-    pub datum: u16,
+    // Tail was stored too early: the data to be stored after it.
+    pub datum: Option<u16>,
     // The log count, and the open number.
     pub count: u16,
     pub open: u16,
 }
 
-pub fn nothing_kept() -> Kept {
-    Kept {
-        early: false,
-        datum: 0,
-        count: 0,
-        open: 0,
-    }
-}
-
-pub fn step(program: &[u16], store: &mut [u16], node: Node, mistake: Mistake) -> Node {
+pub fn step(program: &[u16], store: &mut [u16], node: Node, mistake: Option<Mistake>) -> Node {
     match mistake {
-        Mistake::Nothing => node::step(program, store, node),
-        Mistake::HeadPlusOneOnRedo => head_plus_one(program, store, node),
-        Mistake::TailBeforeData => tail_before_data(program, store, node),
-        Mistake::PhaseBeforeTask => phase_before_task(program, store, node),
-        Mistake::CountFromLostState => lost_count(program, store, node),
-        Mistake::EventInOpenTransaction => lost_open(program, store, node),
-    }
-}
-
-// The index that was told, or 0: no step stores word 0.
-fn told(stored: Option<u16>) -> u16 {
-    match stored {
-        None => 0,
-        Some(index) => index,
+        None => node::step(program, store, node),
+        Some(Mistake::HeadPlusOneOnRedo) => head_plus_one(program, store, node),
+        Some(Mistake::TailBeforeData) => tail_before_data(program, store, node),
+        Some(Mistake::PhaseBeforeTask) => phase_before_task(program, store, node),
+        Some(Mistake::CountFromLostState) => lost_count(program, store, node),
+        Some(Mistake::EventInOpenTransaction) => lost_open(program, store, node),
     }
 }
 
@@ -59,17 +41,13 @@ fn two(store: &mut [u16], first: u16, word: u16, second: u16, other: u16) {
     words::set(store, second, other);
 }
 
-// The node with another answer and another word told, and a store made early or no more.
-fn instead(node: Node, answer: Answer, index: u16, early: bool) -> Node {
-    let device = node.device;
-    let mut kept = node.kept;
-    kept.early = early;
+// The node with another answer and another word told.
+fn instead(node: Node, answer: Answer, index: u16, kept: Kept) -> Node {
     Node {
         answer,
         stored: Some(index),
-        device,
-        steps: node.steps,
         kept,
+        ..node
     }
 }
 
@@ -80,10 +58,11 @@ fn head_plus_one(program: &[u16], store: &mut [u16], node: Node) -> Node {
     }
     let pending = words::word(store, 12);
     let head = words::head(store);
-    let mut next = head;
-    if head != words::tail(store) {
-        next = words::slot_after(store, head);
-    }
+    let next = if head == words::tail(store) {
+        head
+    } else {
+        words::slot_after(store, head)
+    };
     words::set(store, 12, next);
     let left = node::step(program, store, node);
     words::set(store, 12, pending);
@@ -92,22 +71,22 @@ fn head_plus_one(program: &[u16], store: &mut [u16], node: Node) -> Node {
 
 // Storing tail before data: where the handler stores data, that is put back and tail is stored; then, in tail's place, data.
 fn tail_before_data(program: &[u16], store: &mut [u16], node: Node) -> Node {
-    let kept = node.kept;
-    if kept.early {
-        return data_after_tail(program, store, node, kept.datum);
+    if let Some(datum) = node.kept.datum {
+        return data_after_tail(program, store, node, datum);
     }
     let tail = words::tail(store);
     let index = words::data_word(store, tail);
     let stale = words::word(store, index);
-    let mut left = node::step(program, store, node);
-    let stored = left.stored;
-    if told(stored) != index {
+    let left = node::step(program, store, node);
+    if left.stored != Some(index) {
         return left;
     }
-    let datum = words::word(store, index);
-    left.kept.datum = datum;
+    let kept = Kept {
+        datum: Some(words::word(store, index)),
+        ..left.kept
+    };
     two(store, index, stale, 15, words::slot_after(store, tail));
-    instead(left, Answer::Accepted(None), 15, true)
+    instead(left, Answer::Accepted(None), 15, kept)
 }
 
 fn data_after_tail(program: &[u16], store: &mut [u16], node: Node, datum: u16) -> Node {
@@ -116,15 +95,17 @@ fn data_after_tail(program: &[u16], store: &mut [u16], node: Node, datum: u16) -
     let left = node::step(program, store, node);
     let index = words::data_word(store, slot);
     words::set(store, index, datum);
-    instead(left, Answer::Stored, index, false)
+    let kept = Kept {
+        datum: None,
+        ..left.kept
+    };
+    instead(left, Answer::Stored, index, kept)
 }
 
-// The phase, or 1 where it was cleared too early.
-fn phase_meant(store: &[u16], early: bool) -> u16 {
-    if early {
-        return 1;
-    }
-    words::phase(store)
+// The node after a store to this word, with the phase cleared too early or no more.
+fn stored(node: Node, index: u16, early: bool) -> Node {
+    let kept = Kept { early, ..node.kept };
+    instead(node, Answer::Stored, index, kept)
 }
 
 // With the phase cleared, words 9 and 10 are stored, each in the place of the store behind it, which is put back.
@@ -140,62 +121,58 @@ fn open_after_phase(store: &mut [u16], begun: u16) {
 
 // Clearing the phase before word 9: a task's commit ends with words 8, 9, 10 and 16, and not with 9, 10, 16 and 8.
 fn phase_before_task(program: &[u16], store: &mut [u16], node: Node) -> Node {
-    let kept = node.kept;
+    let early = node.kept.early;
     let task = words::word(store, 9);
     let open = words::word(store, 10);
     let begun = words::word(store, 16);
-    words::set(store, 8, phase_meant(store, kept.early));
+    if early {
+        words::set(store, 8, 1);
+    }
     let left = node::step(program, store, node);
-    let stored = left.stored;
-    let index = told(stored);
-    if index == 9 {
-        two(store, 9, task, 8, 0);
-        return instead(left, Answer::Stored, 8, true);
+    match left.stored {
+        Some(9) => {
+            two(store, 9, task, 8, 0);
+            stored(left, 8, true)
+        }
+        _ if !early => left,
+        Some(10) => {
+            task_after_phase(store, open);
+            stored(left, 9, true)
+        }
+        Some(16) => {
+            open_after_phase(store, begun);
+            stored(left, 10, true)
+        }
+        _ => {
+            words::set(store, 16, 0);
+            stored(left, 16, false)
+        }
     }
-    if !kept.early {
-        return left;
-    }
-    if index == 10 {
-        task_after_phase(store, open);
-        return instead(left, Answer::Stored, 9, true);
-    }
-    if index == 16 {
-        open_after_phase(store, begun);
-        return instead(left, Answer::Stored, 10, true);
-    }
-    words::set(store, 16, 0);
-    instead(left, Answer::Stored, 16, false)
 }
 
 // Taking the log count at recovery from lost state, not word 11: after a cut it is 0.
 fn lost_count(program: &[u16], store: &mut [u16], node: Node) -> Node {
-    let kept = node.kept;
     let count = words::word(store, 11);
     if words::phase(store) != 0 {
-        words::set(store, 11, kept.count);
+        words::set(store, 11, node.kept.count);
         let left = node::step(program, store, node);
         words::set(store, 11, count);
         return left;
     }
     let mut left = node::step(program, store, node);
-    let answer = left.answer;
-    if let Answer::Committed(_) = answer {
-        let logged = words::word(store, 11);
-        left.kept.count = logged;
+    if let Answer::Committed(_) = left.answer {
+        left.kept.count = words::word(store, 11);
     }
     left
 }
 
 // Serving an event after a cut inside an open transaction: the open number is taken from lost state, not word 10.
 fn lost_open(program: &[u16], store: &mut [u16], node: Node) -> Node {
-    let kept = node.kept;
     let open = words::word(store, 10);
-    words::set(store, 10, kept.open);
+    words::set(store, 10, node.kept.open);
     let mut left = node::step(program, store, node);
-    let stored = left.stored;
-    if told(stored) == 10 {
-        let next = words::word(store, 10);
-        left.kept.open = next;
+    if left.stored == Some(10) {
+        left.kept.open = words::word(store, 10);
         return left;
     }
     words::set(store, 10, open);

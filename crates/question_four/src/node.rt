@@ -1,9 +1,29 @@
-// A node: the device with what its latest call answered and stored. A call is a byte: b boot, s step, c cut, and a digit for the post of
-// event 0 with this data.
+// A node: the device with what its latest call answered and stored.
 use super::mistakes;
 use super::mistakes::{Kept, Mistake};
 use device::{CallResult, calls};
-use model::{Answer, Device, Stored};
+use model::{Answer, Device};
+
+// A call of a list. A post is of event 0 with this data.
+#[derive(Clone, Copy, PartialEq, Eq, Debug)]
+pub enum Call {
+    Boot,
+    Step,
+    Cut,
+    Post(u16),
+}
+
+impl Call {
+    // The call of a character: b boot, s step, c cut, and a digit for a post.
+    pub fn named(character: u8) -> Call {
+        match character {
+            b'b' => Call::Boot,
+            b's' => Call::Step,
+            b'c' => Call::Cut,
+            digit => Call::Post(digit.saturating_sub(b'0') as u16),
+        }
+    }
+}
 
 #[derive(Clone, Copy)]
 pub struct Node {
@@ -22,74 +42,52 @@ pub fn off() -> Node {
         stored: None,
         device: Device::OFF,
         steps: 0,
-        kept: mistakes::nothing_kept(),
+        kept: Kept::default(),
     }
 }
 
 // The node after a call that left this.
 pub fn after(node: Node, left: CallResult) -> Node {
-    let answer = left.answer;
-    let stored = left.stored;
-    let device = left.device;
-    let kept = node.kept;
     Node {
-        answer,
-        stored,
-        device,
-        steps: node.steps,
-        kept,
+        answer: left.answer,
+        stored: left.stored,
+        device: left.device,
+        ..node
     }
 }
 
 // The runtime's own step.
 pub fn step(program: &[u16], store: &mut [u16], node: Node) -> Node {
-    let device = node.device;
-    after(node, runtime::step(program, store, device))
+    after(node, runtime::step(program, store, node.device))
 }
 
 // Steps are counted up to 99.
 pub fn one_more(steps: u32) -> u32 {
-    if steps < 99 {
-        return steps + 1;
-    }
-    steps
+    if steps < 99 { steps + 1 } else { steps }
 }
 
-fn counted(node: Node) -> Node {
-    let mut next = node;
-    next.steps = one_more(node.steps);
-    next
-}
-
-fn cut(node: Node) -> Node {
-    let mut next = after(node, calls::cut());
-    next.kept = mistakes::nothing_kept();
-    next
-}
-
-fn post(program: &[u16], store: &[u16], node: Node, digit: u8) -> Node {
-    if digit < b'0' {
-        return node;
+pub fn make(
+    program: &[u16],
+    store: &mut [u16],
+    node: Node,
+    call: Call,
+    mistake: Option<Mistake>,
+) -> Node {
+    match call {
+        Call::Boot => after(node, calls::boot(program, store, node.device)),
+        Call::Step => {
+            let counted = Node {
+                steps: one_more(node.steps),
+                ..node
+            };
+            mistakes::step(program, store, counted, mistake)
+        }
+        Call::Cut => Node {
+            kept: Kept::default(),
+            ..after(node, calls::cut())
+        },
+        Call::Post(datum) => after(node, calls::post(program, store, node.device, 0, datum)),
     }
-    let device = node.device;
-    after(
-        node,
-        calls::post(program, store, device, 0, (digit - b'0') as u16),
-    )
-}
-
-pub fn call(program: &[u16], store: &mut [u16], node: Node, call: u8, mistake: Mistake) -> Node {
-    if call == b's' {
-        return mistakes::step(program, store, counted(node), mistake);
-    }
-    if call == b'b' {
-        let device = node.device;
-        return after(node, calls::boot(program, store, device));
-    }
-    if call == b'c' {
-        return cut(node);
-    }
-    post(program, store, node, call)
 }
 
 // Calls that aren't shown.
@@ -98,11 +96,11 @@ pub fn all_calls(
     store: &mut [u16],
     first: Node,
     calls: &[u8],
-    mistake: Mistake,
+    mistake: Option<Mistake>,
 ) -> Node {
     let mut node = first;
     for name in calls {
-        node = call(program, store, node, *name, mistake);
+        node = make(program, store, node, Call::named(*name), mistake);
     }
     node
 }

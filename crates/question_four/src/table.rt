@@ -1,6 +1,5 @@
 // One run, cut at each point: a row for each call, with what uncut recovery would leave if power were cut after it.
-use super::mistakes::Mistake;
-use super::node::Node;
+use super::node::{Call, Node};
 use super::{cells, listed, node, text, words};
 use model::{Answer, Place};
 use std::io;
@@ -13,15 +12,12 @@ fn next_body(
     store: [u16; 25],
     recovered: Node,
 ) -> io::Result<()> {
-    let device = recovered.device;
-    let place = device.place;
-    if let Place::Run(body, _, _) = place {
+    if let Place::Run(body, _, _) = recovered.device.place {
         return cells::body(out, body);
     }
     let mut copy = store;
     let next = node::step(program, &mut copy, recovered);
-    let answer = next.answer;
-    if let Answer::Chosen(body) = answer {
+    if let Answer::Chosen(body) = next.answer {
         cells::body(out, body)?;
     }
     Ok(())
@@ -42,12 +38,12 @@ fn left(out: &impl Print, program: &[u16], store: [u16; 25], recovered: Node) ->
 // Uncut recovery of a copy of the store: a cut, a boot, then steps while the phase isn't 0.
 fn recovered(out: &impl Print, program: &[u16], store: [u16; 25]) -> io::Result<()> {
     let mut copy = store;
-    let mut node = node::call(program, &mut copy, node::off(), b'b', Mistake::Nothing);
+    let mut node = node::make(program, &mut copy, node::off(), Call::Boot, None);
     for _ in 0..99u16 {
         if words::phase(&copy) == 0 {
             break;
         }
-        node = node::call(program, &mut copy, node, b's', Mistake::Nothing);
+        node = node::make(program, &mut copy, node, Call::Step, None);
     }
     left(out, program, copy, node)
 }
@@ -73,12 +69,11 @@ fn row(
     program: &[u16],
     store: &mut [u16; 25],
     before: Node,
-    call: u8,
+    call: Call,
 ) -> io::Result<Node> {
     cells::number(out, before.steps, call)?;
-    let device = before.device;
-    cells::runs(out, program, store, device, call)?;
-    let node = node::call(program, store, before, call, Mistake::Nothing);
+    cells::runs(out, program, store, before.device, call)?;
+    let node = node::make(program, store, before, call, None);
     done(out, program, store, node)?;
     Ok(node)
 }
@@ -91,8 +86,8 @@ fn rows(
     calls: &[u8],
 ) -> io::Result<()> {
     let mut node = first;
-    for call in calls {
-        node = row(out, program, store, node, *call)?;
+    for name in calls {
+        node = row(out, program, store, node, Call::named(*name))?;
     }
     Ok(())
 }
@@ -102,7 +97,7 @@ pub fn table(out: &impl Print, program: &[u16], before: &[u8], calls: &[u8]) -> 
     heading(out, before)?;
     let mut store = [0; 25];
     let _ = format::format(program, 1, 1, &mut store);
-    let first = node::all_calls(program, &mut store, node::off(), before, Mistake::Nothing);
+    let first = node::all_calls(program, &mut store, node::off(), before, None);
     rows(out, program, &mut store, first, calls)
 }
 

@@ -1,6 +1,6 @@
 -- Laws of a line's names, of how many numbers it has and how large they are, and of what a reading holds. Assumes nothing.
-use Prim.Native.Nat.{ℕ, suc, ◌+◌, ◌-◌, ◌≤◌, ◌<◌, zero-le}
-use mathlib.Core.Bool.{Bool, true, false, not}
+use Prim.Native.Nat.{ℕ, zero, suc, ◌+◌, ◌≤◌, ◌<◌, zero-le}
+use mathlib.Core.Bool.{Bool, true, false, not, ◌&&◌}
 use mathlib.Core.List.{List, [], ◌∷◌, ◌++◌}
 use mathlib.Core.Logic.{◌≢◌}
 use mathlib.Core.Path.{◌≡◌, refl, sym, ap, subst, ◌∙◌}
@@ -11,55 +11,150 @@ use lib.Dec.{eqb}
 use lib.ListN.{length, take, drop, set, get_or, drop_of_length-le, get_or-eq_default}
 use lib.Seq.{drop-cons, length-take-le, take-suc-set, get_or-take, get_or-set_same, get_or-set_other}
 use Rattle.model.proofs.Range.{within}
-use Rattle.model.proofs.TestLaws.{and_false, pick_case, pick_true, pick-false, same_or, below_or, or_true_right, clash}
+use Rattle.model.proofs.TestLaws.{pick_case, pick_true, pick-false, same_or, below_or, or_true_right, clash}
 use Rattle.model.specs.Program.{word}
 use Rattle.model.specs.Test.{pick, ◌and◌, ◌or◌, both, either}
-use Rattle.script.specs.Reads.{is_wide, numbers_of, line_in, Small, Sizes, Sized, Holds}
+use Rattle.script.specs.Reads.{number_of, number_of_mistake, text_of, kind_of, wrong_of, is_wide, numbers_of, line_in, Small, Sizes, Sized, Holds}
 use Rattle.script.specs.Script.{same, names, number_from, name_number, many, least, least_numbers, most_numbers, has_index, has_totals, largest, Line, line_of, stopped}
 use Rattle.script.specs.declared.Reading.{Reading}
+use Rattle.script.specs.declared.Mistake.{Mistake}
+use Rattle.script.specs.declared.names.Name.{Name}
+use Rattle.std.specs.Cmp.Lexicographic.{pointwise}
+use Rattle.std.proofs.Common.{rules, Option, Some, None, is_some}
 
--- ---- the same bytes
+-- ---- names
 
-pub same_lengths : (xs ys : List ℕ) → length xs ≢ length ys → same xs ys ≡ false
-unfolding same
-same_lengths [] [] h = absurd (h refl)
-same_lengths [] (y ∷ ys) h = refl
-same_lengths (x ∷ xs) [] h = refl
-same_lengths (x ∷ xs) (y ∷ ys) h = and_false _ _ (same_lengths xs ys (λ e. h (ap suc e)))
+-- bytes are the same where `==` says so
+pub same_is : (xs ys : List ℕ) → same xs ys ≡ pointwise eqb xs ys
+unfolding same both
+same_is [] [] = refl
+same_is [] (y ∷ ys) = refl
+same_is (x ∷ xs) [] = refl
+same_is (x ∷ xs) (y ∷ ys) = go (eqb x y) (same_is xs ys)
+  where
+    go : {a b : Bool} (t : Bool) → a ≡ b → (t and a) ≡ (t && b)
+    go true e = e
+    go false e = refl
 
--- a loop that has come to byte i
-module _ (xs ys : List ℕ) (i : ℕ) where
-  pub same_end : length xs ≤ i → length ys ≤ i → same (drop i xs) (drop i ys) ≡ true
-  unfolding same
-  same_end h k = rw (drop_of_length-le xs h, drop_of_length-le ys k)
+-- names that stand in the order of the page's table, from number k on
+InOrder : List Name → List (List ℕ) → ℕ → Type 0
+InOrder [] texts k = Unit
+InOrder (name ∷ others) [] k = ⊥
+InOrder (name ∷ others) (text ∷ texts) k = (number_of name ≡ k) × (text_of name ≡ text) × InOrder others texts (suc k)
 
-  same_step : i < length xs → i < length ys → same (drop i xs) (drop i ys) ≡ (eqb (get_or xs i 0) (get_or ys i 0) and same (drop (i + 1) xs) (drop (i + 1) ys))
-  unfolding same
-  same_step h k = rw (drop-cons xs i 0, drop-cons ys i 0, add-one)
+abbrev table : List Name
+table =
+    Name.Program ∷
+    Name.Sizes ∷
+    Name.Totals ∷
+    Name.Check ∷
+    Name.Format ∷
+    Name.Boot ∷
+    Name.Step ∷
+    Name.Cut ∷
+    Name.Post ∷
+    Name.Burst ∷
+    Name.Run ∷
+    Name.LinesCheck ∷
+    Name.Raise ∷
+    Name.SetProgram ∷
+    Name.SetStore ∷
+    Name.ProgramLength ∷
+    Name.StoreLength ∷
+    Name.SetDevice ∷
+    Name.SetTotals ∷
+    Name.Keep ∷
+    Name.Restore ∷
+    []
 
-  pub same_next : i < length xs → i < length ys → get_or xs i 0 ≡ get_or ys i 0 → same (drop (i + 1) xs) (drop (i + 1) ys) ≡ same (drop i xs) (drop i ys)
-  unfolding both
-  same_next h k e = sym (same_step h k ∙ rw (eq-eqb _ _ e))
+in_table : InOrder table names 1
+unfolding InOrder number_of text_of names
+in_table = search rules
 
-  pub same_not : i < length xs → i < length ys → get_or xs i 0 ≢ get_or ys i 0 → same (drop i xs) (drop i ys) ≡ false
-  unfolding both
-  same_not h k e = same_step h k ∙ rw (ne_eqb _ _ e)
+number_in : (xs : List Name) (ts : List (List ℕ)) (k i : ℕ) (d : Name) → InOrder xs ts k → i < length xs → number_of (get_or xs i d) ≡ k + i
+unfolding InOrder
+number_in [] ts k i d h less = absurd (omega arith)
+number_in (x ∷ xs) [] k i d h less = absurd h
+number_in (x ∷ xs) (t ∷ ts) k zero d h less = h.0 ∙ omega arith
+number_in (x ∷ xs) (t ∷ ts) k (suc i) d h less = number_in xs ts (suc k) i d h.2 (omega arith) ∙ omega arith
 
--- ---- names' numbers
+text_in : (xs : List Name) (ts : List (List ℕ)) (k i : ℕ) (d : Name) → InOrder xs ts k → i < length xs → text_of (get_or xs i d) ≡ get_or ts i []
+unfolding InOrder
+text_in [] ts k i d h less = absurd (omega arith)
+text_in (x ∷ xs) [] k i d h less = absurd h
+text_in (x ∷ xs) (t ∷ ts) k zero d h less = h.1
+text_in (x ∷ xs) (t ∷ ts) k (suc i) d h less = text_in xs ts (suc k) i d h.2 (omega arith)
 
-number_within : (names : List (List ℕ)) (n : ℕ) (bytes : List ℕ) → number_from names n bytes ≤ n + length names - 1
+number_step : (ts : List (List ℕ)) (i n : ℕ) (bytes : List ℕ) → i < length ts → number_from (drop i ts) n bytes ≡ pick (same bytes (get_or ts i [])) n (number_from (drop (i + 1) ts) (n + 1) bytes)
 unfolding number_from
-number_within [] n bytes = omega arith
-number_within (one ∷ others) n bytes =
-    pick_case (λ (r : ℕ). r ≤ n + suc (length others) - 1) (λ _. omega arith) (λ _. omega (arith, number_within others (n + 1) bytes))
+number_step ts i n bytes h = rw (drop-cons ts i [], add-one n, add-one i)
 
-pub number-most : (bytes : List ℕ) → name_number bytes ≤ 21
-unfolding name_number names
-number-most bytes = number_within names 1 bytes
+-- a loop through the table that has come to name i, whose bytes are these or aren't
+module _ (bytes : List ℕ) (i : ℕ) (d : Name) {text : List ℕ} {r : Bool} (less : i < 21) (its : text ≡ text_of (get_or table i d)) (made : r ≡ same bytes text) (so_far : number_from (drop i names) (i + 1) bytes ≡ name_number bytes) where
+  here : number_from (drop i names) (i + 1) bytes ≡ pick r (i + 1) (number_from (drop (i + 1) names) (i + 1 + 1) bytes)
+  unfolding names
+  here = number_step names i (i + 1) bytes less ∙ ap (λ (b : Bool). pick b (i + 1) (number_from (drop (i + 1) names) (i + 1 + 1) bytes)) (ap (same bytes) (sym (its ∙ text_in table names 1 i d in_table less)) ∙ sym made)
 
--- a choice of a number stands where another's last case does
-pub behind : {r x y : ℕ} (b : Bool) (n : ℕ) → r ≡ pick b n x → x ≡ y → r ≡ pick b n y
-behind b n e f = e ∙ rw f
+  pub name_found : r ≡ true → number_of (get_or table i d) ≡ name_number bytes
+  name_found e = number_in table names 1 i d in_table less ∙ omega arith ∙ sym (pick_true _ _ e) ∙ sym here ∙ so_far
+
+  pub name_passed : r ≡ false → number_from (drop (i + 1) names) (i + 1 + 1) bytes ≡ name_number bytes
+  name_passed e = sym (pick-false _ _ e) ∙ sym here ∙ so_far
+
+pub names_end : (bytes : List ℕ) (i : ℕ) → 21 ≤ i → 0 ≡ number_from (drop i names) (i + 1) bytes
+unfolding number_from names
+names_end bytes i h = rw (drop_of_length-le names h)
+
+-- ---- what isn't there is 0, and nothing else is
+
+pub number-some : (name : Name) → 0 < number_of name
+unfolding number_of
+number-some Name.Program = omega arith
+number-some Name.Sizes = omega arith
+number-some Name.Totals = omega arith
+number-some Name.Check = omega arith
+number-some Name.Format = omega arith
+number-some Name.Boot = omega arith
+number-some Name.Step = omega arith
+number-some Name.Cut = omega arith
+number-some Name.Post = omega arith
+number-some Name.Burst = omega arith
+number-some Name.Run = omega arith
+number-some Name.LinesCheck = omega arith
+number-some Name.Raise = omega arith
+number-some Name.SetProgram = omega arith
+number-some Name.SetStore = omega arith
+number-some Name.ProgramLength = omega arith
+number-some Name.StoreLength = omega arith
+number-some Name.SetDevice = omega arith
+number-some Name.SetTotals = omega arith
+number-some Name.Keep = omega arith
+number-some Name.Restore = omega arith
+
+mistake-some : (mistake : Mistake) → 0 < number_of_mistake mistake
+mistake-some Mistake.NameUnknown = omega arith
+mistake-some Mistake.NumberMany = omega arith
+mistake-some Mistake.NumberForm = omega arith
+mistake-some Mistake.NumberLarge = omega arith
+mistake-some Mistake.NumberMissing = omega arith
+mistake-some Mistake.HeadingLate = omega arith
+
+module _ {r : Bool} where
+  pub kind-none : (kind : Option Name) → is_some kind ≡ not r → r ≡ true → kind_of kind ≡ 0
+  kind-none None e h = refl
+  kind-none (Some name) e h = clash (sym e) (ap not h)
+
+  pub kind-some : (kind : Option Name) → is_some kind ≡ not r → r ≡ false → kind_of kind ≢ 0
+  kind-some None e h = clash (ap not h) (sym e)
+  kind-some (Some name) e h = λ zero-is. absurd (omega (arith, number-some name, zero-is))
+
+  pub wrong-some : (wrong : Option Mistake) → r ≡ is_some wrong → r ≡ true → wrong_of wrong ≢ 0
+  wrong-some None e h = clash h e
+  wrong-some (Some mistake) e h = λ zero-is. absurd (omega (arith, mistake-some mistake, zero-is))
+
+  pub wrong-none : (wrong : Option Mistake) → r ≡ is_some wrong → r ≡ false → wrong_of wrong ≡ 0
+  wrong-none None e h = refl
+  wrong-none (Some mistake) e h = clash e h
 
 -- ---- how many numbers, and how large
 
@@ -99,26 +194,26 @@ narrow kind i e = let no = or_false (has_index kind) (has_totals kind) e in rw (
 
 module _ (now : Reading) (words : List ℕ) (sizes : Sized now (length words)) where
   pub name_held : length (take now.held now.name) ≡ now.held
-  name_held = length-take-le now.held now.name (omega (arith, sizes.held_most, sizes.name_long_lem))
+  name_held = length-take-le now.held now.name (omega (arith, sizes.held_most, sizes.name_length))
 
   pub numbers-counted : length (numbers_of now words) ≡ now.count
   numbers-counted =
-      pick_case {b = is_wide now.kind} (λ (l : List ℕ). length (take now.count l) ≡ now.count)
-      (λ e. length-take-le now.count now.wide (omega (arith, sizes.count_most, sizes.wide_long, wide_few now.kind e)))
-      (λ _. length-take-le now.count words (omega (arith, sizes.count_most, sizes.room, most-many now.kind)))
+      pick_case {b = is_wide (kind_of now.kind)} (λ (l : List ℕ). length (take now.count l) ≡ now.count)
+      (λ e. length-take-le now.count now.wide (omega (arith, sizes.count_most, sizes.wide_long, wide_few (kind_of now.kind) e)))
+      (λ _. length-take-le now.count words (omega (arith, sizes.count_most, sizes.room, most-many (kind_of now.kind))))
 
   -- number i of the line: none, one held in the reading, or a lent word
   module _ (i : ℕ) where
     pub number-none : now.count ≤ i → word (numbers_of now words) i ≡ 0
     number-none h = get_or-eq_default (numbers_of now words) 0 (omega (arith, numbers-counted))
 
-    pub number_wide : i < now.count → is_wide now.kind ≡ true → word (numbers_of now words) i ≡ word now.wide i
+    pub number_wide : i < now.count → is_wide (kind_of now.kind) ≡ true → word (numbers_of now words) i ≡ word now.wide i
     number_wide h e = rw (pick_true _ _ e) (get_or-take now.count now.wide i 0 h)
 
-    pub number_word : i < now.count → is_wide now.kind ≡ false → word (numbers_of now words) i ≡ word words i
+    pub number_word : i < now.count → is_wide (kind_of now.kind) ≡ false → word (numbers_of now words) i ≡ word words i
     number_word h e = rw (pick-false _ _ e) (get_or-take now.count words i 0 h)
 
-  pub numbers-small : is_wide now.kind ≡ true → (i : ℕ) → word (numbers_of now words) i ≤ largest now.kind i
+  pub numbers-small : is_wide (kind_of now.kind) ≡ true → (i : ℕ) → word (numbers_of now words) i ≤ largest (kind_of now.kind) i
   numbers-small e i = below_or i now.count
       (λ h. rw (number_wide i h e) (sizes.wide_in i h e))
       (λ h. rw (number-none i h) zero-le)
@@ -157,9 +252,8 @@ module _ {n held kind count value : ℕ} {name wide : List ℕ} {begun : Bool} (
   one_more e room long small =
       record {
         room = room;
-        name_long_lem = sizes.name_long_lem;
+        name_length = sizes.name_length;
         held_most = sizes.held_most;
-        kind_most = sizes.kind_most;
         wide_long = long;
         wide_in = small;
         count_most = omega (arith, sizes.begun_more e);
@@ -179,7 +273,7 @@ module _ (kind count value : ℕ) (wide words : List ℕ) where
 
 -- a line whose latest number has ended
 abbrev pub with_numbers : Reading → List ℕ → Line
-with_numbers now numbers = line_of now.wrong now.comment (take now.held now.name) now.kind numbers false 0
+with_numbers now numbers = line_of (wrong_of now.wrong) now.comment (take now.held now.name) (kind_of now.kind) numbers false 0
 
 -- a reading that stays
 pub stays : {now : Reading} {words : List ℕ} → Sized now (length words) → Holds (line_in now words) now words
@@ -192,9 +286,9 @@ holds_as h e = rw e at h
 -- ---- where nothing more is read, and where it goes on
 
 module _ (l : Line) where
-  pub in_comment_lem : l.comment ≡ true → stopped l ≡ true
+  pub in_comment : l.comment ≡ true → stopped l ≡ true
   unfolding stopped either
-  in_comment_lem e = rw e
+  in_comment e = rw e
 
   pub behind-wrong : l.wrong ≢ 0 → stopped l ≡ true
   unfolding stopped

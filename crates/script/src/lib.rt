@@ -11,19 +11,32 @@ mod line;
 mod names;
 mod numbers;
 
-// A line as far as it is read: what is wrong in it, 0 for nothing; whether it is a comment; the first bytes of its name, and the name's number once
-// it has ended, 0 before; how many numbers have ended, and those that may be larger than a word; whether a number is being read, and its value so far.
+pub use names::Name;
+
+// What is wrong in a line, in the order of the page's table.
+#[derive(Clone, Copy, PartialEq, Eq, Debug)]
+pub enum Mistake {
+    NameUnknown,
+    NumberMany,
+    NumberForm,
+    NumberLarge,
+    NumberMissing,
+    HeadingLate,
+}
+
+// A line as far as it is read: what is wrong in it; whether it is a comment; the first bytes of its name, and the name once it has ended; how many
+// numbers have ended, and those that may be larger than a word; the value so far of a number that is being read.
+// The name's bytes stand in an array with their count beside it, since nothing is allocated here.
 #[derive(Clone, Copy)]
 pub struct Reading {
-    pub wrong: u64,
+    pub wrong: Option<Mistake>,
     pub comment: bool,
     pub name: [u8; 16],
     pub held: usize,
-    pub kind: u64,
+    pub kind: Option<Name>,
     pub count: usize,
     pub wide: [u64; 3],
-    pub begun: bool,
-    pub value: u64,
+    pub value: Option<u64>,
 }
 
 // Whether a reading is one that this library can have left.
@@ -37,21 +50,17 @@ pub fn is_sized(reading: Reading, words: &[u16]) -> bool
     if reading.held > 16 {
         return false;
     }
-    if reading.kind > 21 {
-        return false;
-    }
-    if reading.value > numbers::largest(reading.kind, reading.count) {
-        return false;
-    }
     let wide = reading.wide;
     if !numbers::are_small(reading.kind, reading.count, wide) {
         return false;
     }
     let most = numbers::most(reading.kind);
-    if reading.begun {
-        return reading.count < most;
+    match reading.value {
+        Some(value) => {
+            reading.count < most && value <= numbers::largest(reading.kind, reading.count)
+        }
+        None => reading.count <= most,
     }
-    reading.count <= most
 }
 
 // A line of which nothing is read yet.
@@ -59,15 +68,14 @@ pub fn start() -> Reading
     ensures { (words : List ℕ) → length words ≡ many → Holds blank result words }
 {
     Reading {
-        wrong: 0,
+        wrong: None,
         comment: false,
         name: [0; 16],
         held: 0,
-        kind: 0,
+        kind: None,
         count: 0,
         wide: [0; 3],
-        begun: false,
-        value: 0,
+        value: None,
     }
 }
 
@@ -79,7 +87,7 @@ pub fn next(reading: Reading, words: &mut [u16], byte: u8) -> Reading
     if reading.comment {
         return reading;
     }
-    if reading.wrong != 0 {
+    if reading.wrong.is_some() {
         return reading;
     }
     line::read_byte(reading, words, byte)
@@ -93,7 +101,7 @@ pub fn last(reading: Reading, words: &mut [u16]) -> Reading
     if reading.comment {
         return reading;
     }
-    if reading.wrong != 0 {
+    if reading.wrong.is_some() {
         return reading;
     }
     line::complete(line::ended(reading, words))

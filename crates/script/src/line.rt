@@ -1,77 +1,64 @@
 // A line, byte by byte: its name, then its numbers.
-ghost use Rattle.std.specs.Prelude.{◌<◌, length, true, ◌≡◌};
-ghost use Rattle.script.specs.Script.{many, most_numbers, is_space, mistaken as mistakenOf, name_ended, number_ended, ended as ended_of, begins_comment, name_byte, sized, digit_byte, number_byte, read_byte, complete as completeOf};
-ghost use Rattle.script.specs.Reads.{line_in, Sized, Holds, Becomes};
+ghost use Rattle.std.specs.Prelude.{◌<◌, length, Some, ◌≡◌};
+ghost use Rattle.script.specs.Script.{many, most_numbers, is_space, mistaken as mistaken_line, name_ended, number_ended, ended as ended_of, begins_comment, name_byte, sized, digit_byte, number_byte, read_byte, complete as complete_line};
+ghost use Rattle.script.specs.Reads.{line_in, kind_of, number_of_mistake, value_of, Sized, Holds, Becomes};
 
-use crate::{Reading, names, numbers};
+use crate::{Mistake, Reading, names, numbers};
 use text::hex::digit;
 
-const NAME_UNKNOWN: u64 = 1;
-
-const NUMBER_MANY: u64 = 2;
-
-const NUMBER_FORM: u64 = 3;
-
-const NUMBER_LARGE: u64 = 4;
-
-const NUMBER_MISSING: u64 = 5;
-
+#[tactic(auto, using(model::proofs::TestLaws::tests), unfolding(crate::specs::Script::is_space, model::specs::Test::either))]
 fn is_space(byte: u8) -> bool
     ensures { result ≡ is_space byte }
 {
-    if byte == b' ' {
-        return true;
-    }
-    if byte == b'\t' {
-        return true;
-    }
-    byte == b'\r'
+    matches!(byte, b' ' | b'\t' | b'\r')
 }
 
-fn mistaken(mut reading: Reading, wrong: u64) -> Reading
-    ensures { Becomes (λ l. mistakenOf l wrong) reading result }
+fn mistaken(reading: Reading, mistake: Mistake) -> Reading
+    ensures { Becomes (λ l. mistaken_line l (number_of_mistake mistake)) reading result }
 {
-    reading.wrong = wrong;
-    reading
+    Reading {
+        wrong: Some(mistake),
+        ..reading
+    }
 }
 
 // Where the name ends.
-fn name_ended(mut reading: Reading) -> Reading
+fn name_ended(reading: Reading) -> Reading
     requires { Sized reading many }
     ensures { Becomes name_ended reading result }
 {
-    let name = reading.name;
+    let bytes = reading.name;
     let held = reading.held;
-    let kind = names::number(&name[..held]);
-    if kind == 0 {
-        return mistaken(reading, NAME_UNKNOWN);
+    match names::named(&bytes[..held]) {
+        None => mistaken(reading, Mistake::NameUnknown),
+        Some(name) => Reading {
+            kind: Some(name),
+            count: 0,
+            value: None,
+            ..reading
+        },
     }
-    reading.kind = kind;
-    reading.count = 0;
-    reading.begun = false;
-    reading.value = 0;
-    reading
 }
 
-// Where a number ends.
-fn number_ended(mut reading: Reading, words: &mut [u16]) -> Reading
+// Where a number ends, of this value.
+fn number_ended(reading: Reading, words: &mut [u16], value: u64) -> Reading
     requires sized { Sized reading (length words.old) }
-    requires begun_value { reading.begun ≡ true }
+    requires begun_value { reading.value ≡ Some value }
     ensures { Holds (number_ended (line_in reading words.old)) result words.new }
 {
     let count = reading.count;
-    let value = reading.value;
-    reading.count = count + 1;
-    reading.begun = false;
-    reading.value = 0;
+    let ended = Reading {
+        count: count + 1,
+        value: None,
+        ..reading
+    };
     if numbers::is_wide(reading.kind) {
         let mut wide = reading.wide;
         wide[count] = value;
-        reading.wide = wide;
-        return reading;
+        return Reading { wide, ..ended };
     }
     words[count] = value as u16;
-    reading
+    ended
 }
 
 // Where a word ends, if there is one.
@@ -79,72 +66,82 @@ pub fn ended(reading: Reading, words: &mut [u16]) -> Reading
     requires { Sized reading (length words.old) }
     ensures { Holds (ended_of (line_in reading words.old)) result words.new }
 {
-    if reading.kind == 0 {
+    if reading.kind.is_none() {
         if reading.held == 0 {
             return reading;
         }
         return name_ended(reading);
     }
-    if reading.begun {
-        return number_ended(reading, words);
+    match reading.value {
+        Some(value) => number_ended(reading, words, value),
+        None => reading,
     }
-    reading
 }
 
+#[tactic(auto, using(model::proofs::TestLaws::tests), unfolding(crate::specs::Script::begins_comment, model::specs::Test::both))]
 fn begins_comment(held: usize, byte: u8) -> bool
     ensures { result ≡ begins_comment held byte }
 {
-    if held != 0 {
-        return false;
-    }
-    byte == b'#'
+    held == 0 && byte == b'#'
 }
 
 // A byte of the name.
-fn name_byte(mut reading: Reading, byte: u8) -> Reading
+fn name_byte(reading: Reading, byte: u8) -> Reading
     requires { Sized reading many }
     ensures { Becomes (λ l. name_byte l byte) reading result }
 {
     let held = reading.held;
     if begins_comment(held, byte) {
-        reading.comment = true;
-        return reading;
+        return Reading {
+            comment: true,
+            ..reading
+        };
     }
     if held >= 16 {
         return reading;
     }
     let mut name = reading.name;
     name[held] = byte;
-    reading.name = name;
-    reading.held = held + 1;
-    reading
+    Reading {
+        name,
+        held: held + 1,
+        ..reading
+    }
 }
 
 // A number becomes larger.
-fn larger(mut reading: Reading, value: u64) -> Reading
-    requires { reading.count < most_numbers reading.kind }
+fn larger(reading: Reading, value: u64) -> Reading
+    requires { reading.count < most_numbers (kind_of reading.kind) }
     ensures { Becomes (λ l. sized l value) reading result }
 {
     if value > numbers::largest(reading.kind, reading.count) {
-        return mistaken(reading, NUMBER_LARGE);
+        return mistaken(reading, Mistake::NumberLarge);
     }
-    reading.begun = true;
-    reading.value = value;
-    reading
+    Reading {
+        value: Some(value),
+        ..reading
+    }
 }
 
 // A digit of a number.
 fn digit_byte(reading: Reading, byte: u8) -> Reading
     requires sized { Sized reading many }
-    requires count_bound { reading.count < most_numbers reading.kind }
+    requires count_bound { reading.count < most_numbers (kind_of reading.kind) }
     ensures { Becomes (λ l. digit_byte l byte) reading result }
 {
     let base = numbers::base(reading.kind);
     let digit = digit(byte) as u64;
     if digit >= base {
-        return mistaken(reading, NUMBER_FORM);
+        return mistaken(reading, Mistake::NumberForm);
     }
-    larger(reading, base * reading.value + digit)
+    larger(reading, base * value_so_far(reading.value) + digit)
+}
+
+// The value of a number that is being read; 0 before its first digit.
+fn value_so_far(value: Option<u64>) -> u64
+    ensures { result ≡ value_of value }
+{
+    value.unwrap_or(0)
 }
 
 // A byte of a number. One that has begun isn't one too many.
@@ -153,7 +150,7 @@ fn number_byte(reading: Reading, byte: u8) -> Reading
     ensures { Becomes (λ l. number_byte l byte) reading result }
 {
     if reading.count >= numbers::most(reading.kind) {
-        return mistaken(reading, NUMBER_MANY);
+        return mistaken(reading, Mistake::NumberMany);
     }
     digit_byte(reading, byte)
 }
@@ -165,7 +162,7 @@ pub fn read_byte(reading: Reading, words: &mut [u16], byte: u8) -> Reading
     if is_space(byte) {
         return ended(reading, words);
     }
-    if reading.kind == 0 {
+    if reading.kind.is_none() {
         return name_byte(reading, byte);
     }
     number_byte(reading, byte)
@@ -173,13 +170,13 @@ pub fn read_byte(reading: Reading, words: &mut [u16], byte: u8) -> Reading
 
 // Whether a number is missing.
 pub fn complete(reading: Reading) -> Reading
-    ensures { Becomes completeOf reading result }
+    ensures { Becomes complete_line reading result }
 {
     if reading.count >= numbers::least(reading.kind) {
         return reading;
     }
-    if reading.wrong != 0 {
+    if reading.wrong.is_some() {
         return reading;
     }
-    mistaken(reading, NUMBER_MISSING)
+    mistaken(reading, Mistake::NumberMissing)
 }

@@ -1,69 +1,106 @@
-// The names of a list's lines, and their numbers.
-ghost use Rattle.std.specs.Prelude.{drop, ◌≡◌};
-ghost use Rattle.model.specs.Test.{pick};
-ghost use Rattle.script.specs.Script.{names, same as sameOf, number_from, name_number};
+// The names of a list's lines.
+ghost use Rattle.std.specs.Prelude.{◌≤◌, ◌≡◌, length};
+ghost use Rattle.script.specs.Script.{name_number, same as same_bytes};
+ghost use Rattle.script.specs.Reads.{kind_of, text_of};
 
-fn same(bytes: &[u8], others: &[u8]) -> bool
-    ensures { result ≡ sameOf bytes.now others.now }
-{
-    if bytes.len() != others.len() {
-        return false;
-    }
-    let mut i = 0;
-    while i < bytes.len() {
-        if bytes[i] != others[i] {
-            return false;
+// A line's name, in the order of the page's table.
+#[derive(Clone, Copy, PartialEq, Eq, Debug)]
+pub enum Name {
+    Program,
+    Sizes,
+    Totals,
+    Check,
+    Format,
+    Boot,
+    Step,
+    Cut,
+    Post,
+    Burst,
+    Run,
+    LinesCheck,
+    Raise,
+    SetProgram,
+    SetStore,
+    ProgramLength,
+    StoreLength,
+    SetDevice,
+    SetTotals,
+    Keep,
+    Restore,
+}
+
+const NAMES: [Name; 21] = [
+    Name::Program,
+    Name::Sizes,
+    Name::Totals,
+    Name::Check,
+    Name::Format,
+    Name::Boot,
+    Name::Step,
+    Name::Cut,
+    Name::Post,
+    Name::Burst,
+    Name::Run,
+    Name::LinesCheck,
+    Name::Raise,
+    Name::SetProgram,
+    Name::SetStore,
+    Name::ProgramLength,
+    Name::StoreLength,
+    Name::SetDevice,
+    Name::SetTotals,
+    Name::Keep,
+    Name::Restore,
+];
+
+impl Name {
+    // Its bytes in a list.
+    #[tactic(auto, unfolding(crate::specs::Reads::text_of, crate::specs::Reads::number_of, crate::specs::Script::names))]
+    pub fn text(self) -> &'static [u8]
+        ensures text { result.now ≡ text_of self }
+        ensures length_bound { length result.now ≤ 14 }
+    {
+        match self {
+            Name::Program => b"program",
+            Name::Sizes => b"sizes",
+            Name::Totals => b"totals",
+            Name::Check => b"check",
+            Name::Format => b"format",
+            Name::Boot => b"boot",
+            Name::Step => b"step",
+            Name::Cut => b"cut",
+            Name::Post => b"post",
+            Name::Burst => b"burst",
+            Name::Run => b"run",
+            Name::LinesCheck => b"lines-check",
+            Name::Raise => b"raise",
+            Name::SetProgram => b"set-program",
+            Name::SetStore => b"set-store",
+            Name::ProgramLength => b"program-length",
+            Name::StoreLength => b"store-length",
+            Name::SetDevice => b"set-device",
+            Name::SetTotals => b"set-totals",
+            Name::Keep => b"keep",
+            Name::Restore => b"restore",
         }
-        i += 1;
     }
-    true
 }
 
-// The number n where the name is this one, and the other where it isn't.
-fn named(name: &[u8], one: &[u8], n: u64, other: u64) -> u64
-    ensures { result ≡ pick (sameOf name.now one.now) n other }
+#[tactic(auto, using(crate::proofs::ReadingLaws::same_is))]
+fn same(bytes: &[u8], others: &[u8]) -> bool
+    ensures { result ≡ same_bytes bytes.now others.now }
 {
-    if same(name, one) {
-        return n;
+    bytes == others
+}
+
+// The name that the bytes are, if a line has it.
+pub fn named(bytes: &[u8]) -> Option<Name>
+    ensures { kind_of result ≡ name_number bytes.now }
+{
+    for name in NAMES {
+        if same(bytes, name.text()) {
+            return Some(name);
+        }
     }
-    other
-}
-
-// The number of one of the last seven names, 0 of any other.
-fn of_last_seven(name: &[u8]) -> u64
-    ensures { result ≡ number_from (drop 14 names) 15 name.now }
-{
-    let other = named(name, b"restore", 21, 0);
-    let other = named(name, b"keep", 20, other);
-    let other = named(name, b"set-totals", 19, other);
-    let other = named(name, b"set-device", 18, other);
-    let other = named(name, b"store-length", 17, other);
-    let other = named(name, b"program-length", 16, other);
-    named(name, b"set-store", 15, other)
-}
-
-// The number of one of the last fourteen.
-fn of_last_fourteen(name: &[u8]) -> u64
-    ensures { result ≡ number_from (drop 7 names) 8 name.now }
-{
-    let other = named(name, b"set-program", 14, of_last_seven(name));
-    let other = named(name, b"raise", 13, other);
-    let other = named(name, b"lines-check", 12, other);
-    let other = named(name, b"run", 11, other);
-    let other = named(name, b"burst", 10, other);
-    let other = named(name, b"post", 9, other);
-    named(name, b"cut", 8, other)
-}
-
-// The number of a name, 0 where no line has it.
-pub fn number(name: &[u8]) -> u64
-    ensures { result ≡ name_number name.now }
-{
-    let other = named(name, b"step", 7, of_last_fourteen(name));
-    let other = named(name, b"boot", 6, other);
-    let other = named(name, b"format", 5, other);
-    let other = named(name, b"check", 4, other);
-    let other = named(name, b"totals", 3, other);
-    let other = named(name, b"sizes", 2, other);
-    named(name, b"program", 1, other)
+    None
 }

@@ -1,111 +1,105 @@
-// How many numbers a line has, and how large they may be, by its name's number.
+// How many numbers a line has, and how large they may be, by its name.
 ghost use Rattle.std.specs.Prelude.{true, ◌≡◌, ◌≤◌};
-ghost use Rattle.script.specs.Script.{least_numbers, most_numbers, base as base_of, has_index, has_totals, largest as largestOf};
-ghost use Rattle.script.specs.Reads.{is_wide, Small};
+ghost use Rattle.script.specs.Script.{least_numbers, most_numbers, base as base_of, has_index, has_totals, largest as largest_of};
+ghost use Rattle.script.specs.Reads.{kind_of, is_wide, Small};
+
+use crate::names::Name;
 
 // The most numbers of any line.
 pub const MANY: usize = 131072;
 
-pub fn least(kind: u64) -> usize
-    ensures { result ≡ least_numbers kind }
+#[tactic(auto, unfolding(crate::specs::Script::least_numbers, crate::specs::Script::least, crate::specs::Reads::number_of))]
+pub fn least(kind: Option<Name>) -> usize
+    ensures { result ≡ least_numbers (kind_of kind) }
 {
-    if kind >= 20 {
-        return 0;
+    match kind {
+        None => 0,
+        Some(name) => match name {
+            Name::Sizes | Name::Format | Name::Post => 2,
+            Name::Raise | Name::SetProgram | Name::SetStore => 2,
+            Name::Totals | Name::SetTotals => 3,
+            Name::Burst => 9,
+            Name::Run | Name::ProgramLength | Name::StoreLength => 1,
+            Name::SetDevice => 26,
+            _ => 0,
+        },
     }
-    let table = [
-        0usize, 0, 2, 3, 0, 2, 0, 0, 0, 2, 9, 1, 0, 2, 2, 2, 1, 1, 26, 3,
-    ];
-    table[kind as usize]
 }
 
-pub fn most(kind: u64) -> usize
-    ensures { result ≡ most_numbers kind }
+#[tactic(auto, unfolding(crate::specs::Script::most_numbers, crate::specs::Reads::number_of, model::specs::Test::pick, model::specs::Test::either))]
+pub fn most(kind: Option<Name>) -> usize
+    ensures { result ≡ most_numbers (kind_of kind) }
 {
-    if kind == 1 {
-        return MANY;
+    match kind {
+        Some(Name::Program | Name::LinesCheck | Name::Raise) => MANY,
+        _ => least(kind),
     }
-    if kind == 12 {
-        return MANY;
-    }
-    if kind == 13 {
-        return MANY;
-    }
-    least(kind)
 }
 
-pub fn base(kind: u64) -> u64
-    ensures value { result ≡ base_of kind }
+#[tactic(auto, unfolding(crate::specs::Script::base, crate::specs::Reads::number_of, model::specs::Test::pick))]
+pub fn base(kind: Option<Name>) -> u64
+    ensures value { result ≡ base_of (kind_of kind) }
     ensures upper_bound { result ≤ 16 }
 {
-    if kind == 1 {
-        return 16;
+    match kind {
+        Some(Name::Program) => 16,
+        _ => 10,
     }
-    10
 }
 
-fn has_index(kind: u64) -> bool
-    ensures { result ≡ has_index kind }
+#[tactic(auto, unfolding(crate::specs::Script::has_index, crate::specs::Reads::number_of, model::specs::Test::both))]
+fn has_index(kind: Option<Name>) -> bool
+    ensures { result ≡ has_index (kind_of kind) }
 {
-    if kind < 14 {
-        return false;
+    match kind {
+        Some(Name::SetProgram | Name::SetStore | Name::ProgramLength | Name::StoreLength) => true,
+        _ => false,
     }
-    kind <= 17
 }
 
-fn has_totals(kind: u64) -> bool
-    ensures { result ≡ has_totals kind }
+#[tactic(auto, unfolding(crate::specs::Script::has_totals, crate::specs::Reads::number_of, model::specs::Test::either))]
+fn has_totals(kind: Option<Name>) -> bool
+    ensures { result ≡ has_totals (kind_of kind) }
 {
-    if kind == 3 {
-        return true;
+    match kind {
+        Some(Name::Totals | Name::Run | Name::SetTotals) => true,
+        _ => false,
     }
-    if kind == 11 {
-        return true;
-    }
-    kind == 19
 }
 
-pub fn is_wide(kind: u64) -> bool
-    ensures { result ≡ is_wide kind }
+#[tactic(auto, unfolding(crate::specs::Reads::is_wide, model::specs::Test::either))]
+pub fn is_wide(kind: Option<Name>) -> bool
+    ensures { result ≡ is_wide (kind_of kind) }
 {
-    if has_index(kind) {
-        return true;
-    }
-    has_totals(kind)
+    has_index(kind) || has_totals(kind)
 }
 
 // The largest number at place i.
-pub fn largest(kind: u64, i: usize) -> u64
-    ensures { result ≡ largestOf kind i }
+#[tactic(auto, using(model::proofs::TestLaws::tests), unfolding(crate::specs::Script::largest, model::specs::Test::pick, model::specs::Test::both))]
+pub fn largest(kind: Option<Name>, i: usize) -> u64
+    ensures { result ≡ largest_of (kind_of kind) i }
 {
     if has_totals(kind) {
         return 4294967295;
     }
-    if has_index(kind) {
-        if i == 0 {
-            return 131072;
-        }
-        return 65535;
+    if has_index(kind) && i == 0 {
+        return 131072;
     }
     65535
 }
 
 // Whether the numbers held in a reading aren't larger than they may be.
-pub fn are_small(kind: u64, count: usize, wide: [u64; 3]) -> bool
-    ensures small { result ≡ true → Small kind wide count }
-    ensures value { Small kind wide count → result ≡ true }
+pub fn are_small(kind: Option<Name>, count: usize, wide: [u64; 3]) -> bool
+    ensures small { result ≡ true → Small (kind_of kind) wide count }
+    ensures value { Small (kind_of kind) wide count → result ≡ true }
 {
     if !is_wide(kind) {
         return true;
     }
-    let mut i = 0;
-    while i < 3 {
-        if i == count {
-            return true;
-        }
+    for i in 0..count.min(3) {
         if wide[i] > largest(kind, i) {
             return false;
         }
-        i += 1;
     }
     true
 }

@@ -1,5 +1,6 @@
 -- What holds of a store and a device that a list of calls on the fresh store has reached, from demand 3: one call more reaches again,
 -- recovery isn't refused and ends, and the contents are sound. Assumes nothing.
+use Rattle.std.specs.Prelude.{Ok}
 use Prim.Native.Nat.{ℕ, suc, ◌-◌, ◌+◌, ◌≤◌}
 use mathlib.Core.List.{List, [], ◌∷◌, ◌++◌}
 use mathlib.Core.Path.{◌≡◌, refl, sym, ap, ◌∙◌, subst}
@@ -24,7 +25,6 @@ use Rattle.model.specs.Device.{off}
 use Rattle.model.specs.Program.{word, memory_words}
 use Rattle.model.specs.Store.{Write, none, to, memory_at, view, settled, formatted, format_check, format, sizes_rule, store_length, store_contents, store_rule}
 use Rattle.model.specs.Test.{both}
-use Rattle.model.specs.declared.Checked.{Checked}
 use Rattle.model.specs.declared.Device.{Device}
 use Rattle.model.specs.declared.Refusal.{Refusal}
 use Rattle.sheet.specs.Printed.{Reached, RecoveryIsPrinted}

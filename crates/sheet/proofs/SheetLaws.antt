@@ -4,7 +4,7 @@ use Prim.Native.Nat.{ℕ, ◌+◌, ◌^◌, ◌≤◌, ◌<◌}
 use mathlib.Core.Bool.{true, false}
 use mathlib.Core.List.{List, [], ◌∷◌, ◌++◌, append_assoc, append-nil}
 use mathlib.Core.Logic.{◌⊎◌, inl, inr, ◌≢◌}
-use mathlib.Core.Option.{none, some}
+use Rattle.std.specs.Prelude.{None, Some, Ok, Err}
 use mathlib.Core.Path.{◌≡◌, refl, sym, ap, ◌∙◌, subst}
 use native.Mathlib.Numerals.{add-one}
 use native.Mathlib.Omega.{arith}
@@ -23,7 +23,7 @@ use Rattle.model.specs.Device.{off, cut}
 use Rattle.model.specs.Program.{word}
 use Rattle.model.specs.Store.{settled, formatted, format}
 use Rattle.model.specs.Test.{pick}
-use Rattle.model.specs.declared.Checked.{Checked}
+use Rattle.model.specs.Types.{Checked}
 use Rattle.model.specs.declared.Device.{Device}
 use Rattle.model.specs.declared.Refusal.{Refusal}
 use Rattle.sheet.specs.Inside.{TakesByte, EndsLine, HoldsByte, next_number, state_at, after_call}
@@ -84,19 +84,19 @@ unfolding lines_left
 going_lines p h e lines = pick-false _ _ e
 
 -- a line of more than six bytes is unread, whatever it is
-long_unread : (line : List ℕ) → 6 < length line → scheduled line ≡ none
+long_unread : (line : List ℕ) → 6 < length line → scheduled line ≡ None
 unfolding scheduled
 long_unread line l =
     let one : length line ≢ 1 = omega arith in
     let six : length line ≢ 6 = omega arith in
     pick-false _ _ (ne_eqb (length line) 1 one) ∙ pick-false _ _ (ne_eqb (length line) 6 six)
 
-unread_lines : (p s : List ℕ) (d : Device) (n : ℕ) (line : List ℕ) (lines : List (List ℕ)) → scheduled line ≡ none
+unread_lines : (p s : List ℕ) (d : Device) (n : ℕ) (line : List ℕ) (lines : List (List ℕ)) → scheduled line ≡ None
     → sheet_lines p s d n (line ∷ lines) ≡ unread_line n
 unfolding sheet_lines if_read
 unread_lines p s d n line lines e = rw e
 
-read-lines : (p s : List ℕ) (d : Device) (n : ℕ) (line : List ℕ) (lines : List (List ℕ)) (c : Call) → scheduled line ≡ some c
+read-lines : (p s : List ℕ) (d : Device) (n : ℕ) (line : List ℕ) (lines : List (List ℕ)) (c : Call) → scheduled line ≡ Some c
     → sheet_lines p s d n (line ∷ lines) ≡ call_line p s d n c ++ sheet_lines p (settled s (call p s d c).write) (call p s d c).device (n + 1) lines
 unfolding sheet_lines if_read
 read-lines p s d n line lines c e = rw e
@@ -187,7 +187,7 @@ next-most n = pick_case (λ (m : ℕ). m ≤ n + 1) (λ _. omega arith) (λ _. o
 
 module _ (p : List ℕ) (size : ℕ) (h : SheetState) (going : h.ended ≡ false) (state : State) where
   -- a line that can't be read
-  pub ends_unread : (d : Device) (z : List ℕ) → scheduled h.line ≡ none → state ≡ after_call d h.number true → EndsLine p size h (unread_line h.number) (holding state z)
+  pub ends_unread : (d : Device) (z : List ℕ) → scheduled h.line ≡ None → state ≡ after_call d h.number true → EndsLine p size h (unread_line h.number) (holding state z)
   ends_unread d z unread is =
       rw is
       (record {
@@ -202,7 +202,7 @@ module _ (p : List ℕ) (size : ℕ) (h : SheetState) (going : h.ended ≡ false
       })
 
   -- call c
-  module _ (reached : Reached p h.store h.device) (sized : size ≡ length h.store) (c : Call) (read : scheduled h.line ≡ some c) where
+  module _ (reached : Reached p h.store h.device) (sized : size ≡ length h.store) (c : Call) (read : scheduled h.line ≡ Some c) where
     ends-call : (z : List ℕ) (d : Device) (xs : List ℕ) → state ≡ after_call d h.number false → xs ≡ call_line p h.store h.device h.number c
         → z ≡ settled h.store (call p h.store h.device c).write → d ≡ (call p h.store h.device c).device → length z ≡ length h.store
         → EndsLine p size h xs (holding state z)

@@ -1,38 +1,19 @@
--- Laws of the sheet's text: words in hex; the line of an answer's words. Assumes nothing.
-use Prim.Native.Nat.{ℕ, ◌*◌}
-use mathlib.Core.List.{List, [], ◌∷◌, ◌++◌, append_assoc, append-nil}
+-- Laws of the sheet's text: the line of an answer's words. Assumes nothing.
+use Rattle.std.specs.Prelude.{Some, None, Ok, Err}
+use Prim.Native.Nat.{ℕ}
+use mathlib.Core.List.{List, []}
 use mathlib.Core.Logic.{◌≢◌}
 use mathlib.Core.Path.{◌≡◌, refl, sym, ap, ◌∙◌}
-use native.Mathlib.Omega.{arith}
 use borrow.Author.Tests.{eq-eqb, ne_eqb}
 use lib.Dec.{eqb}
-use lib.ListN.{length}
 use Rattle.model.proofs.TestLaws.{pick_true, pick-false, and_true, and_false}
 use Rattle.model.specs.Program.{word}
 use Rattle.model.specs.Test.{pick, both}
 use Rattle.model.specs.declared.Answer.{Answer}
-use Rattle.model.specs.declared.Checked.{Checked}
-use Rattle.model.specs.declared.Dropped.{Dropped}
+use Rattle.model.specs.Types.{Checked}
 use Rattle.sheet.specs.Inside.{told_line, numbers_of}
-use Rattle.sheet.specs.Sheet.{hex_word, hex_words, refused_line, dropped_line, answer_line, if_checked}
-use Rattle.text.specs.Text.{space}
+use Rattle.sheet.specs.Sheet.{refused_line, dropped_line, answer_line, if_checked}
 use Rattle.words.specs.Words.{refused_words, accepted_words, answer_words, checked_words}
-
--- ---- hex
-
-pub hex_append : (xs ys : List ℕ) → hex_words (xs ++ ys) ≡ hex_words xs ++ hex_words ys
-unfolding hex_words
-hex_append [] ys = refl
-hex_append (x ∷ xs) ys = ap (λ (l : List ℕ). space ∷ hex_word x ++ l) (hex_append xs ys) ∙ sym (append_assoc (space ∷ hex_word x) (hex_words xs) (hex_words ys))
-
-pub hex_one : (w : ℕ) → hex_words (w ∷ []) ≡ space ∷ hex_word w
-unfolding hex_words
-hex_one w = append-nil (space ∷ hex_word w)
-
-pub hex_length : (xs : List ℕ) → length (hex_words xs) ≡ 5 * length xs
-unfolding hex_words hex_word
-hex_length [] = refl
-hex_length (x ∷ xs) = omega (arith, hex_length xs)
 
 -- ---- the line of an answer's words
 
@@ -61,7 +42,7 @@ answer-told n Answer.Worked = refl
 answer-told n Answer.Stored = refl
 answer-told n (Answer.Committed b) = refl
 answer-told n (Answer.Accepted None) = refl
-answer-told n (Answer.Accepted (Dropped.Record event datum)) = refl
+answer-told n (Answer.Accepted (Some dropped)) = refl
 answer-told n (Answer.Refused r) = refl
 
 pub check-told : (c : Checked) → told_line 0 (checked_words c) ≡ if_checked c []

@@ -1,7 +1,6 @@
 -- What the library's inner functions promise: the state after a byte, a line and a call. No promise to a host
 -- rests on it. Assumes nothing.
-use Rattle.std.specs.Prelude.{ℕ, ◌+◌, ◌^◌, ◌≤◌, ◌<◌, Bool, false, List, [], ◌∷◌, ◌++◌, ◌⊎◌, ◌≡◌, eqb, length, replicate}
-use Rattle.std.proofs.Math.Option.{Option, none, some}
+use Rattle.std.specs.Prelude.{ℕ, ◌+◌, ◌^◌, ◌≤◌, ◌<◌, Bool, false, List, [], ◌∷◌, ◌++◌, ◌⊎◌, ◌≡◌, eqb, length, replicate, Option, Some, None}
 use Rattle.model.specs.Answer.{RefusalNumber}
 use Rattle.model.specs.Burst.{single}
 use Rattle.model.specs.Calls.{Call, Boot, Step, Cut, Post}
@@ -17,12 +16,12 @@ use Rattle.sheet.specs.declared.State.{State}
 use Rattle.sheet.specs.Printed.{SheetState, Reached, Ready, lines_left, Feeds}
 use Rattle.text.specs.Puts.{Puts}
 
-abbrev pub call_of : Scheduled → Option Call
-call_of Scheduled.Boot = some Boot
-call_of Scheduled.Step = some Step
-call_of Scheduled.Cut = some Cut
-call_of (Scheduled.Post e x) = some (Post (single e x))
-call_of Scheduled.Unread = none
+abbrev pub call_of : Option Scheduled → Option Call
+call_of (Some Scheduled.Boot) = Some Boot
+call_of (Some Scheduled.Step) = Some Step
+call_of (Some Scheduled.Cut) = Some Cut
+call_of (Some (Scheduled.Post e x)) = Some (Post (single e x))
+call_of None = None
 
 -- a refusal's number and place of an answer's words, and the line of these: none where they are no refusal's
 abbrev pub numbers_of : List ℕ → RefusalNumber

@@ -2,7 +2,7 @@
 -- is still to be printed: whatever bytes of the schedule follow, the sheet that was left is the text and the sheet that is left now. So it
 -- doesn't matter in what pieces the schedule comes. They hold for the store and the device that the library left before: of words that
 -- anything else has written, a call promises only that it ends and stays inside what it was lent. Assumes nothing.
-use Rattle.std.specs.Prelude.{ℕ, ◌+◌, ◌^◌, ◌≤◌, ◌<◌, Bool, false, List, [], ◌∷◌, ◌++◌, ◌≡◌, length, take}
+use Rattle.std.specs.Prelude.{ℕ, ◌+◌, ◌^◌, ◌≤◌, ◌<◌, Bool, false, List, [], ◌∷◌, ◌++◌, ◌≡◌, length, take, Ok}
 use Rattle.image.specs.Image.{Loads, StoreWords}
 use Rattle.image.specs.declared.Loaded.{Loaded}
 use Rattle.model.specs.Calls.{Call, after_calls, recovered, recovery}
@@ -12,7 +12,7 @@ use Rattle.model.specs.Device.{off}
 use Rattle.model.specs.Program.{memory_words}
 use Rattle.model.specs.Store.{view, formatted, store_length}
 use Rattle.model.specs.Test.{pick}
-use Rattle.model.specs.declared.Checked.{Checked}
+use Rattle.model.specs.Types.{Checked}
 use Rattle.model.specs.declared.Device.{Device}
 use Rattle.sheet.specs.Sheet.{lines_from, header, recovered_memory, if_checked, sheet_lines, sheet}
 use Rattle.sheet.specs.declared.State.{State}

@@ -1,8 +1,7 @@
 -- Document 02, N1, "Exam sheets from a schedule": from the bytes of program.img and of the schedule to the bytes of the sheet. A number
 -- below 256 is a byte; `code` is a character's. Assumes nothing.
 use Prim.Native.Char.{code}
-use Rattle.std.specs.Prelude.{ℕ, ◌+◌, ◌-◌, ◌*◌, ◌/◌, ◌%◌, List, [], ◌∷◌, ◌++◌, eqb, leb, ltb, length}
-use Rattle.std.proofs.Math.Option.{Option, none, some}
+use Rattle.std.specs.Prelude.{ℕ, ◌+◌, ◌*◌, List, [], ◌∷◌, ◌++◌, eqb, leb, length, Option, Some, None, Ok, Err}
 use Rattle.image.specs.Image.{program_of, image_check}
 use Rattle.model.specs.Answer.{RefusalNumber, refusal}
 use Rattle.model.specs.Burst.{single}
@@ -12,40 +11,32 @@ use Rattle.model.specs.Device.{off}
 use Rattle.model.specs.Program.{word}
 use Rattle.model.specs.Store.{view, formatted, settled}
 use Rattle.model.specs.Test.{pick, ◌and◌}
+use Rattle.model.specs.Types.{Checked}
 use Rattle.model.specs.declared.Answer.{Answer}
-use Rattle.model.specs.declared.Checked.{Checked}
 use Rattle.model.specs.declared.Device.{Device}
-use Rattle.model.specs.declared.Dropped.{Dropped}
 use Rattle.text.specs.Ascii.{ascii}
-use Rattle.text.specs.Text.{space, decimal, spaced}
+use Rattle.text.specs.Text.{decimal, spaced, digit, hex_words}
 
 -- ---- "b boot, s step, c cut, p, an event digit and four data digits, in hex of either case, unspaced"
 
--- a byte's digit; 16 where it has none
-unfoldable pub digit : ℕ → ℕ
-digit byte =
-    pick (leb (code "0") byte and leb byte (code "9")) (byte - code "0")
-    (pick (leb (code "A") byte and leb byte (code "F")) (byte - code "A" + 10)
-    (pick (leb (code "a") byte and leb byte (code "f")) (byte - code "a" + 10) 16))
-
 unfoldable pub letter : ℕ → Option Call
-letter byte = pick (eqb byte (code "b")) (some Boot) (pick (eqb byte (code "s")) (some Step) (pick (eqb byte (code "c")) (some Cut) none))
+letter byte = pick (eqb byte (code "b")) (Some Boot) (pick (eqb byte (code "s")) (Some Step) (pick (eqb byte (code "c")) (Some Cut) None))
 
 unfoldable pub posting : ℕ → ℕ → ℕ → ℕ → ℕ → Option Call
 posting event first second third fourth =
     pick (leb event 15 and leb first 15 and leb second 15 and leb third 15 and leb fourth 15)
-    (some (Post (single event (4096 * first + 256 * second + 16 * third + fourth))))
-    none
+    (Some (Post (single event (4096 * first + 256 * second + 16 * third + fourth))))
+    None
 
 unfoldable pub post_of : List ℕ → Option Call
 post_of line =
     pick (eqb (word line 0) (code "p"))
     (posting (digit (word line 1)) (digit (word line 2)) (digit (word line 3)) (digit (word line 4)) (digit (word line 5)))
-    none
+    None
 
 -- the call of a line, if the line can be read
 unfoldable pub scheduled : List ℕ → Option Call
-scheduled line = pick (eqb (length line) 1) (letter (word line 0)) (pick (eqb (length line) 6) (post_of line) none)
+scheduled line = pick (eqb (length line) 1) (letter (word line 0)) (pick (eqb (length line) 6) (post_of line) None)
 
 -- ---- "Calls stand one to a line (the last line feed may be missing)"
 
@@ -64,16 +55,7 @@ lines_from begun (byte ∷ bytes) = pick (eqb byte line_feed) (begun ∷ lines_f
 
 -- ---- Words: "in four capital hex digits, all parted by single spaces"
 
-unfoldable pub hex_digit : ℕ → ℕ
-hex_digit n = pick (ltb n 10) (code "0" + n) (code "A" + (n - 10))
-
-unfoldable pub hex_word : ℕ → List ℕ
-hex_word w = hex_digit (w / 4096 % 16) ∷ hex_digit (w / 256 % 16) ∷ hex_digit (w / 16 % 16) ∷ hex_digit (w % 16) ∷ []
-
--- each behind a space
-unfoldable pub hex_words : List ℕ → List ℕ
-hex_words [] = []
-hex_words (w ∷ ws) = space ∷ hex_word w ++ hex_words ws
+-- each behind a space: `hex_words` (crates/text)
 
 -- ---- The sheet's lines
 
@@ -116,7 +98,7 @@ answer_line n Answer.Worked = []
 answer_line n Answer.Stored = []
 answer_line n (Answer.Committed b) = []
 answer_line n (Answer.Accepted None) = []
-answer_line n (Answer.Accepted (Dropped.Record event datum)) = dropped_line n event datum
+answer_line n (Answer.Accepted (Some dropped)) = dropped_line n dropped.event dropped.datum
 answer_line n (Answer.Refused r) = refused_line n (refusal r)
 
 -- "An unreadable call prints its number and "unread""
@@ -137,8 +119,8 @@ call_line p s d n (Post rs) = other_line p s d n (Post rs)
 
 -- what a line that can be read prints, or one that can't
 unfoldable pub if_read : Option Call → (Call → List ℕ) → List ℕ → List ℕ
-if_read none read unread = unread
-if_read (some c) read unread = read c
+if_read None read unread = unread
+if_read (Some c) read unread = read c
 
 -- the lines of program p from call n on, with the store s and the device d: an unreadable call "ends the sheet"
 unfoldable pub sheet_lines : List ℕ → List ℕ → Device → ℕ → List (List ℕ) → List ℕ

@@ -29,24 +29,14 @@ pub fn start(ended: bool) -> State
 }
 
 // The state after call `number`. No schedule is so long that a number stays.
+#[tactic(auto, using(model::proofs::TestLaws::tests), unfolding(crate::specs::Inside::next_number, model::specs::Test::pick))]
 fn next(device: Device, number: u64, ended: bool) -> State
     ensures { result ≡ after_call device number ended }
 {
-    if number == u64::MAX {
-        return State {
-            device,
-            number,
-            line: [0; 7],
-            held: 0,
-            ended,
-        };
-    }
     State {
         device,
-        number: number + 1,
-        line: [0; 7],
-        held: 0,
-        ended,
+        number: number.saturating_add(1),
+        ..start(ended)
     }
 }
 
@@ -54,35 +44,28 @@ fn next(device: Device, number: u64, ended: bool) -> State
 fn word(store: &[u16], i: usize) -> u16
     ensures { result ≡ word_of store.now i }
 {
-    if i < store.len() { store[i] } else { 0 }
+    store.get(i).copied().unwrap_or(0)
 }
 
+// As many words as both have.
 fn copy_words(store: &[u16], copy: &mut [u16])
     ensures { length copy.old ≡ length store.now → copy.new ≡ store.now }
 {
-    let mut i = 0;
-    while i < store.len() {
-        if i >= copy.len() {
-            break;
-        }
-        copy[i] = store[i];
-        i += 1;
-    }
+    let count = store.len().min(copy.len());
+    copy[..count].copy_from_slice(&store[..count]);
 }
 
 // "Uncut recovery takes n + 3 steps from phase 1 and n + 2 from phase 2", and "one step more"
+#[tactic(auto, using(model::proofs::TestLaws::tests), unfolding(model::specs::Demand3::recovery_steps, model::specs::Test::pick))]
 fn recovery_steps(store: &[u16]) -> u32
     ensures { result ≡ recovery_steps (view store.now) }
 {
-    let phase = word(store, 8);
     let count = word(store, 11) as u32;
-    if phase == 1 {
-        return count + 4;
+    match word(store, 8) {
+        1 => count + 4,
+        2 => count + 3,
+        _ => 0,
     }
-    if phase == 2 {
-        return count + 3;
-    }
-    0
 }
 
 // Uncut recovery of a store whose device is off.
@@ -91,13 +74,9 @@ fn recover(program: &[u16], store: &mut [u16])
         ≡ (after_calls program.now store.old off (Boot ∷ steps_of (recovery_steps (view store.old)))).store }
 {
     let steps = recovery_steps(store);
-    let booted = calls::boot(program, store, Device::OFF);
-    let mut device = booted.device;
-    let mut made = 0;
-    while made < steps {
-        let result = runtime::step(program, store, device);
-        device = result.device;
-        made += 1;
+    let mut device = calls::boot(program, store, Device::OFF).device;
+    for made in 0..steps {
+        device = runtime::step(program, store, device).device;
     }
 }
 
@@ -109,10 +88,7 @@ fn store_line(text: &mut [u8], at: usize, number: u64, store: &[u16]) -> usize
     let words = word(store, 1) as usize;
     let start = word(store, 5) as usize;
     let end = start + words;
-    if words > 1024 {
-        return at;
-    }
-    if end > store.len() {
+    if words > 1024 || end > store.len() {
         return at;
     }
     printing::memory_line(text, at, number, &store[start..end])
@@ -134,22 +110,18 @@ fn cut(
     copy_words(store, copy);
     recover(program, copy);
     let end = store_line(text, at, state.number, copy);
-    let off = calls::cut();
-    let device = off.device;
-    let state = next(device, state.number, false);
+    let state = next(calls::cut().device, state.number, false);
     Printed { state, end }
 }
 
 // A call that is no cut.
-fn answered(text: &mut [u8], at: usize, number: u64, res: CallResult) -> Printed
+fn answered(text: &mut [u8], at: usize, number: u64, made: CallResult) -> Printed
     requires { at + 5141 ≤ length text.old }
     ensures { Prints text.old at text.new result
-        (answer_line number res.answer) (after_call res.device number false) }
+        (answer_line number made.answer) (after_call made.device number false) }
 {
-    let answer = res.answer;
-    let device = res.device;
-    let end = printing::answer_line(text, at, number, answer);
-    let state = next(device, number, false);
+    let end = printing::answer_line(text, at, number, made.answer);
+    let state = next(made.device, number, false);
     Printed { state, end }
 }
 
@@ -158,8 +130,7 @@ fn unread(text: &mut [u8], at: usize, state: State) -> Printed
     ensures { Prints text.old at text.new result (unread_line state.number) (after_call state.device state.number true) }
 {
     let end = printing::unread_line(text, at, state.number);
-    let device = state.device;
-    let state = next(device, state.number, true);
+    let state = next(state.device, state.number, true);
     Printed { state, end }
 }
 
@@ -179,18 +150,17 @@ pub fn line(
 {
     let number = state.number;
     let device = state.device;
-    let held = state.line;
-    let scheduled = schedule::held(&held, state.held);
-    match scheduled {
-        Scheduled::Boot => answered(text, at, number, calls::boot(program, store, device)),
-        Scheduled::Step => answered(text, at, number, runtime::step(program, store, device)),
-        Scheduled::Cut => cut(program, store, copy, text, at, state),
-        Scheduled::Post(event, datum) => answered(
+    let bytes = state.line;
+    match schedule::held(&bytes, state.held) {
+        Some(Scheduled::Boot) => answered(text, at, number, calls::boot(program, store, device)),
+        Some(Scheduled::Step) => answered(text, at, number, runtime::step(program, store, device)),
+        Some(Scheduled::Cut) => cut(program, store, copy, text, at, state),
+        Some(Scheduled::Post(event, datum)) => answered(
             text,
             at,
             number,
             calls::post(program, store, device, event, datum),
         ),
-        Scheduled::Unread => unread(text, at, state),
+        None => unread(text, at, state),
     }
 }

@@ -13,25 +13,24 @@ ghost use Rattle.std.specs.Prelude.{◌+◌, ◌≤◌, ◌<◌, length, take};
 ghost use Rattle.sheet.specs.Inside.{TakesByte};
 ghost use Rattle.sheet.specs.Printed.{holding, Ready, Fits, Begins, Feeds, Finishes};
 
-use model::{Checked, Device};
+use model::{Device, Refusal};
 use store::format;
 use text::put;
 
 // The most bytes of a sheet's line: a call's number, 1024 words, a line feed.
 const LONGEST: usize = 5141;
 
-// A line of the schedule.
+// A line of the schedule that can be read: a post has an event and its data.
 #[derive(Clone, Copy)]
 pub enum Scheduled {
     Boot,
     Step,
     Cut,
     Post(u16, u16),
-    Unread,
 }
 
 // What is held between two bytes of the schedule, beside the store: the device, the next call's number, the bytes of its line so far (of seven
-// and more seven are held), and whether the sheet has ended.
+// and more seven are held; nothing is allocated here, and C lends what is), and whether the sheet has ended.
 #[derive(Clone, Copy)]
 pub struct State {
     pub device: Device,
@@ -127,21 +126,22 @@ pub fn feed(
         (holding result.state store.new) }
 {
     let mut now = state;
-    let mut taken = 0;
     let mut written = 0;
-    while taken < bytes.len() {
+    for (taken, byte) in bytes.iter().enumerate() {
         if written > 65536 - LONGEST {
-            break;
+            return Fed {
+                state: now,
+                taken,
+                written,
+            };
         }
-        let byte = bytes[taken];
-        let printed = take(program, store, copy, text, written, byte, now);
+        let printed = take(program, store, copy, text, written, *byte, now);
         now = printed.state;
         written = printed.end;
-        taken += 1;
     }
     Fed {
         state: now,
-        taken,
+        taken: bytes.len(),
         written,
     }
 }
@@ -164,6 +164,5 @@ pub fn finish(
     if state.held == 0 {
         return 0;
     }
-    let printed = calls::line(program, store, copy, text, 0, state);
-    printed.end
+    calls::line(program, store, copy, text, 0, state).end
 }

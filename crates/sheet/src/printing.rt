@@ -1,64 +1,26 @@
 // The sheet's lines, each put at a place of the text; a function answers where what it put ends.
-ghost use Rattle.std.specs.Prelude.{◌+◌, ◌*◌, ◌≤◌, ◌<◌, length, [], ◌∷◌, ◌≡◌};
-ghost use Rattle.sheet.specs.Sheet.{hex_digit, hex_word, hex_words, memory_line, unread_line, refused_line, dropped_line, answer_line, if_checked};
+ghost use Rattle.std.specs.Prelude.{◌+◌, ◌*◌, ◌≤◌, length, []};
+ghost use Rattle.sheet.specs.Sheet.{memory_line, unread_line, refused_line, dropped_line, answer_line, if_checked};
 ghost use Rattle.sheet.specs.Inside.{told_line, numbers_of};
 ghost use Rattle.text.specs.Puts.{Puts};
-ghost use Rattle.text.specs.Text.{space};
 
-use model::{Answer, Checked};
+use model::{Answer, Refusal};
+use text::hex::hex_words;
 use text::{decimal, put, spaced};
 
-fn hex_digit(n: u16) -> u8
-    requires { n < 16 }
-    ensures { result ≡ hex_digit n }
-{
-    if n < 10 {
-        b'0' + n as u8
-    } else {
-        b'A' + (n - 10) as u8
-    }
-}
-
-// A word behind a space.
-fn hex_word(text: &mut [u8], at: usize, word: u16) -> usize
-    requires { at + 5 ≤ length text.old }
-    ensures { Puts text.old at text.new result (space ∷ hex_word word) }
-{
-    let bytes = [
-        b' ',
-        hex_digit(word / 4096 % 16),
-        hex_digit(word / 256 % 16),
-        hex_digit(word / 16 % 16),
-        hex_digit(word % 16),
-    ];
-    put(text, at, &bytes)
-}
-
-fn hex_words(text: &mut [u8], at: usize, words: &[u16]) -> usize
-    requires { at + 5 * length words.now ≤ length text.old }
-    ensures puts { Puts text.old at text.new result (hex_words words.now) }
-    ensures value { result ≡ at + 5 * length words.now }
-{
-    let mut end = at;
-    let mut i = 0;
-    while i < words.len() {
-        end = hex_word(text, end, words[i]);
-        i += 1;
-    }
-    end
-}
-
 // A cut: "the call's number in decimal and the words"
+#[tactic(auto, using(text::proofs::TextLaws::puts), unfolding(crate::specs::Sheet::memory_line))]
 pub fn memory_line(text: &mut [u8], at: usize, number: u64, memory: &[u16]) -> usize
     requires { at + 21 + 5 * length memory.now ≤ length text.old }
     ensures puts { Puts text.old at text.new result (memory_line number memory.now) }
     ensures upper_bound { result ≤ at + 21 + 5 * length memory.now }
 {
-    let end = decimal(text, at, number);
-    let end = hex_words(text, end, memory);
+    let from = decimal(text, at, number);
+    let end = hex_words(text, from, memory);
     put(text, end, b"\n")
 }
 
+#[tactic(auto, using(text::proofs::TextLaws::puts), unfolding(crate::specs::Sheet::unread_line))]
 pub fn unread_line(text: &mut [u8], at: usize, number: u64) -> usize
     requires { at + 28 ≤ length text.old }
     ensures puts { Puts text.old at text.new result (unread_line number) }
@@ -69,6 +31,7 @@ pub fn unread_line(text: &mut [u8], at: usize, number: u64) -> usize
 }
 
 // The answer's words are case, kind of body, number and place; a refusal is case 6.
+#[tactic(auto, using(text::proofs::TextLaws::puts), unfolding(crate::specs::Sheet::refused_line))]
 fn refused_line(text: &mut [u8], at: usize, number: u64, answer: &[u16; 5]) -> usize
     requires { at + 92 ≤ length text.old }
     ensures puts { Puts text.old at text.new result (refused_line number (numbers_of answer.now)) }
@@ -83,6 +46,7 @@ fn refused_line(text: &mut [u8], at: usize, number: u64, answer: &[u16; 5]) -> u
 }
 
 // The line of a step that accepts a record for which another was dropped, with the dropped one's event and data.
+#[tactic(auto, using(text::proofs::TextLaws::puts), unfolding(crate::specs::Sheet::dropped_line))]
 fn dropped_line(text: &mut [u8], at: usize, number: u64, event: u16, datum: u16) -> usize
     requires { at + 92 ≤ length text.old }
     ensures puts { Puts text.old at text.new result (dropped_line number event datum) }

@@ -1,76 +1,43 @@
 // A line of the schedule: its bytes as they come, and the call that it is.
 ghost use Rattle.std.specs.Prelude.{ℕ, length, take, List, ◌≡◌};
-ghost use Rattle.sheet.specs.Sheet.{digit, letter, posting, post_of, scheduled};
+ghost use Rattle.sheet.specs.Sheet.{letter, posting, post_of, scheduled};
 ghost use Rattle.sheet.specs.Inside.{call_of, HoldsByte};
 ghost use Rattle.sheet.specs.Printed.{holding};
 
 use crate::{Scheduled, State};
+use text::hex::digit;
 
-// A byte's digit, "in hex of either case"; 16 where it has none.
-fn digit(byte: u8) -> u16
-    ensures { result ≡ digit byte }
-{
-    if byte < b'0' {
-        return 16;
-    }
-    if byte <= b'9' {
-        return (byte - b'0') as u16;
-    }
-    if byte < b'A' {
-        return 16;
-    }
-    if byte <= b'F' {
-        return (byte - b'A') as u16 + 10;
-    }
-    if byte < b'a' {
-        return 16;
-    }
-    if byte <= b'f' {
-        return (byte - b'a') as u16 + 10;
-    }
-    16
-}
-
-fn letter(byte: u8) -> Scheduled
+#[tactic(auto, using(model::proofs::TestLaws::tests), unfolding(crate::specs::Sheet::letter, model::specs::Test::pick))]
+fn letter(byte: u8) -> Option<Scheduled>
     ensures { call_of result ≡ letter byte }
 {
     match byte {
-        b'b' => Scheduled::Boot,
-        b's' => Scheduled::Step,
-        b'c' => Scheduled::Cut,
-        _ => Scheduled::Unread,
+        b'b' => Some(Scheduled::Boot),
+        b's' => Some(Scheduled::Step),
+        b'c' => Some(Scheduled::Cut),
+        _ => None,
     }
 }
 
 // The post of its digits.
-fn posting(event: u16, first: u16, second: u16, third: u16, fourth: u16) -> Scheduled
+#[tactic(auto, using(model::proofs::TestLaws::tests), unfolding(crate::specs::Sheet::posting, model::specs::Test::pick, model::specs::Test::both))]
+fn posting(event: u16, first: u16, second: u16, third: u16, fourth: u16) -> Option<Scheduled>
     ensures { call_of result ≡ posting event first second third fourth }
 {
-    if event > 15 {
-        return Scheduled::Unread;
+    if event > 15 || first > 15 || second > 15 || third > 15 || fourth > 15 {
+        return None;
     }
-    if first > 15 {
-        return Scheduled::Unread;
-    }
-    if second > 15 {
-        return Scheduled::Unread;
-    }
-    if third > 15 {
-        return Scheduled::Unread;
-    }
-    if fourth > 15 {
-        return Scheduled::Unread;
-    }
-    Scheduled::Post(event, 4096 * first + 256 * second + 16 * third + fourth)
+    Some(Scheduled::Post(event, 4096 * first + 256 * second + 16 * third + fourth))
 }
 
 // "p, an event digit and four data digits"
-fn post_of(line: &[u8]) -> Scheduled
+#[tactic(auto, using(model::proofs::TestLaws::tests), unfolding(crate::specs::Sheet::post_of, model::specs::Test::pick))]
+fn post_of(line: &[u8]) -> Option<Scheduled>
     requires { length line.now ≡ 6 }
     ensures { call_of result ≡ post_of line.now }
 {
     if line[0] != b'p' {
-        return Scheduled::Unread;
+        return None;
     }
     posting(
         digit(line[1]),
@@ -81,26 +48,22 @@ fn post_of(line: &[u8]) -> Scheduled
     )
 }
 
-fn read(line: &[u8]) -> Scheduled
+#[tactic(auto, using(model::proofs::TestLaws::tests), unfolding(crate::specs::Sheet::scheduled, model::specs::Test::pick))]
+fn read(line: &[u8]) -> Option<Scheduled>
     ensures { call_of result ≡ scheduled line.now }
 {
-    if line.len() == 1 {
-        return letter(line[0]);
+    match line.len() {
+        1 => letter(line[0]),
+        6 => post_of(line),
+        _ => None,
     }
-    if line.len() == 6 {
-        return post_of(line);
-    }
-    Scheduled::Unread
 }
 
 // The call of the bytes that are held.
-pub fn held(line: &[u8], count: usize) -> Scheduled
+pub fn held(line: &[u8], count: usize) -> Option<Scheduled>
     ensures { call_of result ≡ scheduled (take count line.now) }
 {
-    if count < line.len() {
-        return read(&line[..count]);
-    }
-    read(line)
+    read(&line[..count.min(line.len())])
 }
 
 // One byte more of the line. Seven bytes are no call, whatever follows.
@@ -111,14 +74,11 @@ pub fn hold(byte: u8, state: State) -> State
     if held >= 7 {
         return state;
     }
-    let device = state.device;
     let mut line = state.line;
     line[held] = byte;
     State {
-        device,
-        number: state.number,
         line,
         held: held + 1,
-        ended: state.ended,
+        ..state
     }
 }

@@ -1,14 +1,15 @@
 -- Laws of text: what is put behind what was put; numbers in decimal, as the kit's digits have them; words in hex. Assumes nothing.
-use Prim.Native.Nat.{ℕ, zero, suc, ◌-◌, ◌/◌, ◌%◌, ◌^◌, ◌≤◌, ◌<◌}
+use Prim.Native.Nat.{ℕ, zero, suc, ◌+◌, ◌-◌, ◌/◌, ◌%◌, ◌^◌, ◌≤◌, ◌<◌}
 use mathlib.Core.Bool.{Bool, true, false}
 use mathlib.Core.List.{List, [], ◌∷◌, ◌++◌, append_assoc, append-nil}
 use mathlib.Core.Path.{◌≡◌, refl, sym, ap, ◌∙◌}
 use native.Mathlib.Nat.{pow-suc, one-le-pow, pow-le-pow_right, mod-eq_of_lt, mod-lt, add-zero}
-use native.Mathlib.Numerals.{unary_clauses}
+use native.Mathlib.Numerals.{add-one, unary_clauses}
 use native.Mathlib.Omega.{arith}
 use borrow.Author.Tests.{lt-ltb, le-ltb, leb-true, leb-false, ltb-false}
 use lib.Dec.{leb}
-use lib.ListN.{length, take, length-append}
+use lib.ListN.{length, get_or, take, length-append}
+use lib.Seq.{take-suc}
 use Rattle.io.specs.Digits.{last_digits, IsDigitCount}
 use Rattle.model.proofs.TestLaws.{pick_case, pick_true, pick-false}
 use Rattle.text.specs.Puts.{Puts}
@@ -25,6 +26,9 @@ puts_then {t} {u} {v} {n} {m} {k} {xs} {ys} a b =
       ends = simp length-append (omega (arith, a.ends, b.ends));
       text = b.text ∙ ap (λ (l : List ℕ). l ++ ys) a.text ∙ append_assoc (take n t) xs ys;
     }
+
+-- nothing put, and something behind what was put
+pub ruleset puts = (puts_nothing, puts_then)
 
 -- the same text, said otherwise
 pub puts_as : {t u : List ℕ} {n m : ℕ} {xs ys : List ℕ} → Puts t n u m xs → xs ≡ ys → Puts t n u m ys
@@ -104,3 +108,18 @@ hex_append (x ∷ xs) ys = ap (λ (l : List ℕ). space ∷ hex_word x ++ l) (he
 pub hex_one : (w : ℕ) → hex_words (w ∷ []) ≡ space ∷ hex_word w
 unfolding hex_words
 hex_one w = append-nil (space ∷ hex_word w)
+
+-- a loop that puts the words one by one: none yet, and one more
+pub hex_words_none : (t : List ℕ) (n : ℕ) → Puts t n t n (hex_words [])
+unfolding hex_words
+hex_words_none t n = puts_nothing t n
+
+module _ {t u : List ℕ} {n m : ℕ} (words : List ℕ) where
+  pub hex_words_more : {v : List ℕ} {k : ℕ} (i : ℕ) → i < length words → Puts t n u m (hex_words (take i words)) → Puts u m v k (space ∷ hex_word (get_or words i 0)) → Puts t n v k (hex_words (take (i + 1) words))
+  hex_words_more i h a b =
+      rw add-one (puts_as (puts_then a b) (sym (ap hex_words (take-suc words i 0 h) ∙ hex_append (take i words) _ ∙ ap (λ (l : List ℕ). hex_words (take i words) ++ l) (hex_one _))))
+
+pub ruleset by_word = (hex_words_none, hex_words_more)
+
+-- the digits of a number that the kit makes, as they are defined
+pub ruleset in_decimal = (few_digits, decimal_is, puts_as)

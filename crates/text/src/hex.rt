@@ -1,10 +1,11 @@
 // Hex digits: words as four of them, and a byte's value as one.
 ghost use Rattle.std.specs.Prelude.{◌+◌, ◌*◌, ◌≤◌, ◌<◌, length, ◌∷◌, ◌≡◌};
-ghost use Rattle.text.specs.Text.{space, hex_digit, hex_word, hex_words, digit as digitOf};
+ghost use Rattle.text.specs.Text.{space, hex_digit, hex_word, hex_words, digit as digit_of};
 ghost use Rattle.text.specs.Puts.{Puts};
 
 use crate::put;
 
+#[tactic(auto, using(model::proofs::TestLaws::tests), unfolding(crate::specs::Text::hex_digit, model::specs::Test::pick))]
 fn hex_digit(n: u16) -> u8
     requires { n < 16 }
     ensures { result ≡ hex_digit n }
@@ -17,6 +18,7 @@ fn hex_digit(n: u16) -> u8
 }
 
 // A word behind a space.
+#[tactic(auto, unfolding(crate::specs::Text::hex_word))]
 pub fn hex_word(text: &mut [u8], at: usize, word: u16) -> usize
     requires { at + 5 ≤ length text.old }
     ensures { Puts text.old at text.new result (space ∷ hex_word word) }
@@ -37,35 +39,21 @@ pub fn hex_words(text: &mut [u8], at: usize, words: &[u16]) -> usize
     ensures value { result ≡ at + 5 * length words.now }
 {
     let mut end = at;
-    let mut i = 0;
-    while i < words.len() {
-        end = hex_word(text, end, words[i]);
-        i += 1;
+    for word in words {
+        end = hex_word(text, end, *word);
     }
     end
 }
 
 // A byte's digit, "in hex of either case"; 16 where it has none.
+#[tactic(auto, using(model::proofs::TestLaws::tests), unfolding(crate::specs::Text::digit, model::specs::Test::pick, model::specs::Test::both))]
 pub fn digit(byte: u8) -> u16
-    ensures { result ≡ digitOf byte }
+    ensures { result ≡ digit_of byte }
 {
-    if byte < b'0' {
-        return 16;
+    match byte {
+        b'0'..=b'9' => (byte - b'0') as u16,
+        b'A'..=b'F' => (byte - b'A') as u16 + 10,
+        b'a'..=b'f' => (byte - b'a') as u16 + 10,
+        _ => 16,
     }
-    if byte <= b'9' {
-        return (byte - b'0') as u16;
-    }
-    if byte < b'A' {
-        return 16;
-    }
-    if byte <= b'F' {
-        return (byte - b'A') as u16 + 10;
-    }
-    if byte < b'a' {
-        return 16;
-    }
-    if byte <= b'f' {
-        return (byte - b'a') as u16 + 10;
-    }
-    16
 }

@@ -3,8 +3,9 @@
 use Prim.Native.Char.{code}
 use Rattle.std.specs.Prelude.{ℕ, zero, suc, ◌+◌, ◌-◌, ◌*◌, ◌/◌, ◌%◌, Bool, true, List, [], ◌∷◌, ◌++◌, eqb, leb, ltb, get_or, length, take, drop, replicate}
 use Rattle.model.specs.Program.{word}
-use Rattle.model.specs.Store.{Record, Store, view, memory_at, log_at, queue_at}
+use Rattle.model.specs.Store.{Store, view, memory_at, log_at, queue_at}
 use Rattle.model.specs.Test.{pick}
+use Rattle.model.specs.declared.Record.{Record}
 use Rattle.text.specs.Ascii.{ascii}
 use Rattle.text.specs.Text.{space, decimal, spaced, hex_words}
 use Rattle.script.specs.Script.{names, run_call, set_program_call, line_feed}

@@ -1,93 +1,56 @@
 // A call as it is printed, and its answer, each put at a place of the text; a function answers where what it put ends.
-ghost use Rattle.std.specs.Prelude.{◌+◌, ◌≤◌, length, get_or, [], ◌≡◌};
-ghost use Rattle.model.specs.Test.{pick};
-ghost use Rattle.script.specs.Script.{names};
+ghost use Rattle.std.specs.Prelude.{◌+◌, ◌≤◌, length, ◌≡◌};
+ghost use Rattle.script.specs.Reads.{number_of};
 ghost use Rattle.text.specs.Puts.{Puts};
-ghost use Rattle.text.specs.Text.{spaced as spacedOf};
+ghost use Rattle.text.specs.Text.{spaced as spaced_of};
 ghost use Rattle.trace.specs.Trace.{shown_numbers, call_text, body_text, accepted_text, refused_text, answer_text, answer_cell};
 
-use crate::layout::{field, less};
+use crate::layout::field;
+use script::Name;
 use text::{decimal, put, spaced};
 
-const RUN: u64 = 11;
-
-const SET_PROGRAM: u64 = 14;
-
-// The name of call n + 1 where it is no call of the runtime; nothing behind the last.
-fn other_name(text: &mut [u8], at: usize, n: usize) -> usize
-    requires { (at + 14 ≤ length text.old) × (13 ≤ n) }
-    ensures puts { Puts text.old at text.new result (get_or names n []) }
-    ensures upper_bound { result ≤ at + 14 }
-{
-    match n {
-        13 => put(text, at, b"set-program"),
-        14 => put(text, at, b"set-store"),
-        15 => put(text, at, b"program-length"),
-        16 => put(text, at, b"store-length"),
-        17 => put(text, at, b"set-device"),
-        18 => put(text, at, b"set-totals"),
-        19 => put(text, at, b"keep"),
-        20 => put(text, at, b"restore"),
-        _ => at,
-    }
-}
-
-// The name of call n + 1; nothing behind the last.
-fn call_name(text: &mut [u8], at: usize, n: usize) -> usize
-    requires { at + 14 ≤ length text.old }
-    ensures puts { Puts text.old at text.new result (get_or names n []) }
-    ensures upper_bound { result ≤ at + 14 }
-{
-    match n {
-        0 => put(text, at, b"program"),
-        1 => put(text, at, b"sizes"),
-        2 => put(text, at, b"totals"),
-        3 => put(text, at, b"check"),
-        4 => put(text, at, b"format"),
-        5 => put(text, at, b"boot"),
-        6 => put(text, at, b"step"),
-        7 => put(text, at, b"cut"),
-        8 => put(text, at, b"post"),
-        9 => put(text, at, b"burst"),
-        10 => put(text, at, b"run"),
-        11 => put(text, at, b"lines-check"),
-        12 => put(text, at, b"raise"),
-        13.. => other_name(text, at, n),
-    }
-}
-
 // How many of its numbers are shown.
-fn shown_numbers(kind: usize) -> u8
-    ensures { result ≡ shown_numbers kind }
+#[tactic(auto, unfolding(crate::specs::Trace::shown_numbers, crate::specs::Trace::shown_counts, script::specs::Reads::number_of))]
+fn shown_numbers(name: Name) -> u8
+    ensures { result ≡ shown_numbers (number_of name) }
 {
-    let shown = [0u8, 0, 0, 0, 0, 2, 0, 0, 0, 2, 1, 1, 0, 2, 2, 2, 1, 1];
-    if kind < 18 { shown[kind] } else { 0 }
+    match name {
+        Name::Format | Name::Post | Name::Raise | Name::SetProgram | Name::SetStore => 2,
+        Name::Burst | Name::Run | Name::ProgramLength | Name::StoreLength => 1,
+        _ => 0,
+    }
 }
 
-// A number behind a space, if it is shown.
-fn shown(text: &mut [u8], at: usize, used: bool, n: u64) -> usize
+// A number behind a space.
+#[tactic(auto, using(text::proofs::TextLaws::puts), unfolding(text::specs::Text::spaced))]
+fn shown(text: &mut [u8], at: usize, n: u64) -> usize
     requires { at + 21 ≤ length text.old }
-    ensures puts { Puts text.old at text.new result (pick used (spacedOf n) []) }
+    ensures puts { Puts text.old at text.new result (spaced_of n) }
     ensures upper_bound { result ≤ at + 21 }
 {
-    if used {
-        let end = put(text, at, b" ");
-        return decimal(text, end, n);
-    }
-    at
+    let end = put(text, at, b" ");
+    decimal(text, end, n)
 }
 
-pub fn call_text(text: &mut [u8], at: usize, kind: u64, first: u64, second: u64) -> usize
+#[tactic(auto, using(text::proofs::TextLaws::puts, model::proofs::TestLaws::tests), unfolding(crate::specs::Trace::call_text, script::specs::Reads::text_of, model::specs::Test::pick))]
+pub fn call_text(text: &mut [u8], at: usize, name: Name, first: u64, second: u64) -> usize
     requires { at + 56 ≤ length text.old }
-    ensures puts { Puts text.old at text.new result (call_text kind first second) }
+    ensures puts { Puts text.old at text.new result (call_text (number_of name) first second) }
     ensures upper_bound { result ≤ at + 56 }
 {
-    let count = shown_numbers(kind as usize);
-    let end = call_name(text, at, less(kind as usize, 1));
-    let end = shown(text, end, 1 <= count, first);
-    shown(text, end, 2 <= count, second)
+    let count = shown_numbers(name);
+    let end = put(text, at, name.text());
+    if count < 1 {
+        return end;
+    }
+    let end = shown(text, end, first);
+    if count < 2 {
+        return end;
+    }
+    shown(text, end, second)
 }
 
+#[tactic(auto, using(text::proofs::TextLaws::puts, model::proofs::TestLaws::tests), unfolding(crate::specs::Trace::body_text, crate::specs::Trace::field, model::specs::Test::pick))]
 fn body_text(text: &mut [u8], at: usize, answer: &[u16; 6]) -> usize
     requires { at + 27 ≤ length text.old }
     ensures puts { Puts text.old at text.new result (body_text answer.now) }
@@ -99,6 +62,7 @@ fn body_text(text: &mut [u8], at: usize, answer: &[u16; 6]) -> usize
     field(text, at, b" event", answer[2])
 }
 
+#[tactic(auto, using(text::proofs::TextLaws::puts, model::proofs::TestLaws::tests), unfolding(crate::specs::Trace::accepted_text, model::specs::Test::pick))]
 fn accepted_text(text: &mut [u8], at: usize, answer: &[u16; 6]) -> usize
     requires { at + 59 ≤ length text.old }
     ensures puts { Puts text.old at text.new result (accepted_text answer.now) }
@@ -112,6 +76,7 @@ fn accepted_text(text: &mut [u8], at: usize, answer: &[u16; 6]) -> usize
     put(text, at, b"accepted")
 }
 
+#[tactic(auto, using(text::proofs::TextLaws::puts), unfolding(crate::specs::Trace::refused_text))]
 fn refused_text(text: &mut [u8], at: usize, answer: &[u16; 6]) -> usize
     requires { at + 70 ≤ length text.old }
     ensures puts { Puts text.old at text.new result (refused_text answer.now) }
@@ -123,6 +88,7 @@ fn refused_text(text: &mut [u8], at: usize, answer: &[u16; 6]) -> usize
     spaced(text, end, answer[4])
 }
 
+#[tactic(auto, using(text::proofs::TextLaws::puts), unfolding(crate::specs::Trace::answer_text, crate::specs::Trace::answer_texts))]
 fn answer_text(text: &mut [u8], at: usize, answer: &[u16; 6]) -> usize
     requires { at + 70 ≤ length text.old }
     ensures puts { Puts text.old at text.new result (answer_text answer.now) }
@@ -149,19 +115,22 @@ fn answer_text(text: &mut [u8], at: usize, answer: &[u16; 6]) -> usize
     }
 }
 
-// What a call of this kind answered, a run behind its steps; nothing of what is no call of the runtime.
-pub fn answer_cell(text: &mut [u8], at: usize, kind: u64, steps: u32, answer: &[u16; 6]) -> usize
+// What a call of this name answered, a run behind its steps; nothing of what is no call of the runtime.
+#[tactic(auto, using(text::proofs::TextLaws::puts), unfolding(crate::specs::Trace::answer_cell, script::specs::Reads::number_of, model::specs::Test::pick))]
+pub fn answer_cell(text: &mut [u8], at: usize, name: Name, steps: u32, answer: &[u16; 6]) -> usize
     requires { at + 98 ≤ length text.old }
-    ensures puts { Puts text.old at text.new result (answer_cell kind steps answer.now) }
+    ensures puts { Puts text.old at text.new result
+        (answer_cell (number_of name) steps answer.now) }
     ensures upper_bound { result ≤ at + 98 }
 {
-    if SET_PROGRAM <= kind {
-        return at;
+    match name {
+        Name::Run => {
+            let end = decimal(text, at, steps as u64);
+            let end = put(text, end, b" steps, ");
+            answer_text(text, end, answer)
+        }
+        Name::SetProgram | Name::SetStore | Name::ProgramLength | Name::StoreLength => at,
+        Name::SetDevice | Name::SetTotals | Name::Keep | Name::Restore => at,
+        _ => answer_text(text, at, answer),
     }
-    if kind == RUN {
-        let end = decimal(text, at, steps as u64);
-        let end = put(text, end, b" steps, ");
-        return answer_text(text, end, answer);
-    }
-    answer_text(text, at, answer)
 }

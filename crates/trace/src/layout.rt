@@ -1,32 +1,23 @@
 // Texts in columns and cells, each put at a place of the text; a function answers where what it put ends.
-ghost use Rattle.std.specs.Prelude.{◌+◌, ◌-◌, ◌≤◌, length, replicate, ◌∷◌, ◌≡◌};
+ghost use Rattle.std.specs.Prelude.{◌+◌, ◌≤◌, length, replicate, ◌∷◌, ◌≡◌};
 ghost use Rattle.text.specs.Puts.{Puts};
 ghost use Rattle.text.specs.Text.{space, decimal as decimal_of};
 ghost use Rattle.trace.specs.Trace.{tab, aligned, padded, field};
 
 use text::{decimal, put, spaced};
 
-// How much a is more than b; 0 where it isn't.
-pub fn less(a: usize, b: usize) -> usize
-    ensures { result ≡ a - b }
-{
-    if a < b { 0 } else { a - b }
-}
-
+#[tactic(auto, using(text::proofs::TextLaws::puts))]
 fn spaces(text: &mut [u8], at: usize, count: usize) -> usize
     requires { at + count ≤ length text.old }
     ensures puts { Puts text.old at text.new result (replicate count space) }
     ensures value { result ≡ at + count }
 {
-    let mut end = at;
-    let mut i = 0;
-    while i < count {
-        end = put(text, end, b" ");
-        i += 1;
-    }
+    let end = at + count;
+    text[at..end].fill(b' ');
     end
 }
 
+#[tactic(auto, using(text::proofs::TextLaws::puts), unfolding(crate::specs::Trace::aligned))]
 pub fn aligned(text: &mut [u8], at: usize, n: u64) -> usize
     requires { at + 26 ≤ length text.old }
     ensures puts { Puts text.old at text.new result (aligned n) }
@@ -34,10 +25,11 @@ pub fn aligned(text: &mut [u8], at: usize, n: u64) -> usize
 {
     let mut digits = [0u8; 20];
     let count = decimal(&mut digits, 0, n);
-    let end = spaces(text, at, less(6, count));
+    let end = spaces(text, at, 6usize.saturating_sub(count));
     put(text, end, &digits[..count])
 }
 
+#[tactic(auto, using(text::proofs::TextLaws::puts), unfolding(crate::specs::Trace::padded))]
 pub fn padded(text: &mut [u8], at: usize, width: usize, bytes: &[u8]) -> usize
     requires { at + width + 1 + length bytes.now ≤ length text.old }
     ensures puts { Puts text.old at text.new result (padded width bytes.now) }
@@ -45,10 +37,11 @@ pub fn padded(text: &mut [u8], at: usize, width: usize, bytes: &[u8]) -> usize
 {
     let end = put(text, at, bytes);
     let end = put(text, end, b" ");
-    spaces(text, end, less(width, 1 + bytes.len()))
+    spaces(text, end, width.saturating_sub(1 + bytes.len()))
 }
 
 // A number in a cell.
+#[tactic(auto, using(text::proofs::TextLaws::puts))]
 pub fn tabbed(text: &mut [u8], at: usize, n: u64) -> usize
     requires { at + 21 ≤ length text.old }
     ensures puts { Puts text.old at text.new result (tab ∷ decimal_of n) }
@@ -59,6 +52,7 @@ pub fn tabbed(text: &mut [u8], at: usize, n: u64) -> usize
 }
 
 // A value behind its name.
+#[tactic(auto, using(text::proofs::TextLaws::puts), unfolding(crate::specs::Trace::field))]
 pub fn field(text: &mut [u8], at: usize, name: &[u8], n: u16) -> usize
     requires { at + 21 + length name.now ≤ length text.old }
     ensures puts { Puts text.old at text.new result (field name.now n) }

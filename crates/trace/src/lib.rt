@@ -2,12 +2,14 @@
 
 #![tactic(auto)]
 
-ghost use Rattle.std.specs.Prelude.{◌+◌, ◌≤◌, length, get_or, []};
+ghost use Rattle.std.specs.Prelude.{◌+◌, ◌-◌, ◌≤◌, length, get_or, [], ◌≡◌};
+ghost use Rattle.script.specs.Reads.{number_of, number_of_mistake};
 ghost use Rattle.text.specs.Puts.{Puts};
 ghost use Rattle.trace.specs.Trace.{columns, cells, line, call_line, wrong_texts, unread_line, header};
 
 use answers::{answer_cell, call_text};
-use layout::{aligned, less, padded};
+use layout::{aligned, padded};
+use script::{Mistake, Name};
 use stored::{NOTHING, stored_cells, stored_column};
 use text::{decimal, put};
 
@@ -17,6 +19,7 @@ pub mod parts;
 mod stored;
 
 // For people: the call, its answer and what was stored, the last that is there without spaces behind it.
+#[tactic(auto, using(text::proofs::TextLaws::puts, model::proofs::TestLaws::tests), unfolding(crate::specs::Trace::columns, model::specs::Test::pick))]
 fn columns(text: &mut [u8], at: usize, call: &[u8], answer: &[u8], store: &[u16], i: u16) -> usize
     requires { (at + 266 ≤ length text.old) × (length call.now ≤ 56) × (length answer.now ≤ 98) }
     ensures puts { Puts text.old at text.new result
@@ -28,13 +31,14 @@ fn columns(text: &mut [u8], at: usize, call: &[u8], answer: &[u8], store: &[u16]
         let end = padded(text, end, 20, answer);
         return stored_column(text, end, store, i);
     }
-    if answer.len() == 0 {
+    if answer.is_empty() {
         return put(text, at, call);
     }
     let end = padded(text, at, 18, call);
     put(text, end, answer)
 }
 
+#[tactic(auto, using(text::proofs::TextLaws::puts), unfolding(crate::specs::Trace::cells))]
 fn cells(text: &mut [u8], at: usize, call: &[u8], answer: &[u8], store: &[u16], i: u16) -> usize
     requires { (at + 266 ≤ length text.old) × (length call.now ≤ 56) × (length answer.now ≤ 98) }
     ensures puts { Puts text.old at text.new result
@@ -48,6 +52,7 @@ fn cells(text: &mut [u8], at: usize, call: &[u8], answer: &[u8], store: &[u16], 
     stored_cells(text, end, store, i)
 }
 
+#[tactic(auto, using(text::proofs::TextLaws::puts), unfolding(crate::specs::Trace::line, model::specs::Test::pick))]
 fn line(
     text: &mut [u8],
     at: usize,
@@ -74,6 +79,7 @@ fn line(
     put(text, end, b"\n")
 }
 
+#[tactic(auto, unfolding(crate::specs::Trace::header, model::specs::Test::pick))]
 pub fn header(text: &mut [u8], at: usize, tabs: bool) -> usize
     requires { at + 512 ≤ length text.old }
     ensures puts { Puts text.old at text.new result (header tabs) }
@@ -90,12 +96,13 @@ pub fn header(text: &mut [u8], at: usize, tabs: bool) -> usize
 }
 
 // A call's line. The answer's sixth word is the index of the word that was stored, 65535 where none was.
+#[tactic(auto, using(text::proofs::TextLaws::puts), unfolding(crate::specs::Trace::call_line))]
 pub fn call_line(
     text: &mut [u8],
     at: usize,
     tabs: bool,
     number: u64,
-    kind: u64,
+    name: Name,
     first: u64,
     second: u64,
     steps: u32,
@@ -104,13 +111,13 @@ pub fn call_line(
 ) -> usize
     requires { at + 512 ≤ length text.old }
     ensures puts { Puts text.old at text.new result
-        (call_line tabs number kind first second steps answer.now store.now) }
+        (call_line tabs number (number_of name) first second steps answer.now store.now) }
     ensures upper_bound { result ≤ at + 512 }
 {
     let mut call = [0u8; 56];
-    let call_end = call_text(&mut call, 0, kind, first, second);
+    let call_end = call_text(&mut call, 0, name, first, second);
     let mut told = [0u8; 98];
-    let told_end = answer_cell(&mut told, 0, kind, steps, answer);
+    let told_end = answer_cell(&mut told, 0, name, steps, answer);
     line(
         text,
         at,
@@ -123,40 +130,38 @@ pub fn call_line(
     )
 }
 
-// What is wrong, by its number less 1; nothing behind the last.
-fn wrong_text(text: &mut [u8], at: usize, n: usize) -> usize
-    requires { at + 28 ≤ length text.old }
-    ensures puts { Puts text.old at text.new result (get_or wrong_texts n []) }
-    ensures upper_bound { result ≤ at + 28 }
+// What is told of a mistake.
+#[tactic(auto, unfolding(crate::specs::Trace::wrong_texts))]
+fn wrong_text(mistake: Mistake) -> &'static [u8]
+    ensures text { result.now ≡ get_or wrong_texts (number_of_mistake mistake - 1) [] }
+    ensures length_bound { length result.now ≤ 28 }
 {
-    match n {
-        0 => put(text, at, b"no call has this name"),
-        1 => put(text, at, b"one number too many"),
-        2 => put(text, at, b"a number has only digits"),
-        3 => put(text, at, b"a number is too large"),
-        4 => put(text, at, b"a number is missing"),
-        5 => put(text, at, b"this stands before the calls"),
-        6.. => at,
+    match mistake {
+        Mistake::NameUnknown => b"no call has this name",
+        Mistake::NumberMany => b"one number too many",
+        Mistake::NumberForm => b"a number has only digits",
+        Mistake::NumberLarge => b"a number is too large",
+        Mistake::NumberMissing => b"a number is missing",
+        Mistake::HeadingLate => b"this stands before the calls",
     }
 }
 
 // The line of what can't be read.
-pub fn unread_line(text: &mut [u8], at: usize, tabs: bool, number: u64, wrong: u64) -> usize
+#[tactic(auto, unfolding(crate::specs::Trace::unread_line))]
+pub fn unread_line(text: &mut [u8], at: usize, tabs: bool, number: u64, mistake: Mistake) -> usize
     requires { at + 512 ≤ length text.old }
-    ensures puts { Puts text.old at text.new result (unread_line tabs number wrong) }
+    ensures puts { Puts text.old at text.new result
+        (unread_line tabs number (number_of_mistake mistake)) }
     ensures upper_bound { result ≤ at + 512 }
 {
-    let mut told = [0u8; 28];
-    let told_end = wrong_text(&mut told, 0, less(wrong as usize, 1));
-    let no_store = [0u16; 1];
     line(
         text,
         at,
         tabs,
         number,
         b"unread",
-        &told[..told_end],
-        &no_store[..0],
+        wrong_text(mistake),
+        &[],
         NOTHING,
     )
 }

@@ -10,6 +10,7 @@ use crate::layout::{field, tabbed};
 use text::hex::hex_words;
 use text::{decimal, put};
 
+#[tactic(auto, using(text::proofs::TextLaws::puts), unfolding(crate::specs::Trace::labelled, model::specs::Test::pick))]
 fn labelled(text: &mut [u8], at: usize, tabs: bool, number: u64, label: &[u8]) -> usize
     requires { (at + 37 ≤ length text.old) × (length label.now ≤ 16) }
     ensures puts { Puts text.old at text.new result (labelled tabs number label.now) }
@@ -25,6 +26,7 @@ fn labelled(text: &mut [u8], at: usize, tabs: bool, number: u64, label: &[u8]) -
 }
 
 // What parts two cells, or two words.
+#[tactic(auto, using(text::proofs::TextLaws::puts), unfolding(model::specs::Test::pick))]
 fn parting(text: &mut [u8], at: usize, tabs: bool) -> usize
     requires { at + 1 ≤ length text.old }
     ensures { Puts text.old at text.new result (pick tabs tab space ∷ []) }
@@ -35,6 +37,7 @@ fn parting(text: &mut [u8], at: usize, tabs: bool) -> usize
     put(text, at, b" ")
 }
 
+#[tactic(auto, using(text::proofs::TextLaws::puts), unfolding(crate::specs::Trace::parted, model::specs::Test::pick))]
 fn parted(text: &mut [u8], at: usize, tabs: bool, bytes: &[u8]) -> usize
     requires { at + 1 + length bytes.now ≤ length text.old }
     ensures puts { Puts text.old at text.new result (parted tabs bytes.now) }
@@ -44,6 +47,7 @@ fn parted(text: &mut [u8], at: usize, tabs: bool, bytes: &[u8]) -> usize
     put(text, end, bytes)
 }
 
+#[tactic(auto, using(text::proofs::TextLaws::puts), unfolding(crate::specs::Trace::parted, model::specs::Test::pick))]
 fn numbered(text: &mut [u8], at: usize, tabs: bool, n: u64) -> usize
     requires { at + 21 ≤ length text.old }
     ensures puts { Puts text.old at text.new result (numbered tabs n) }
@@ -63,6 +67,7 @@ fn told(text: &mut [u8], at: usize, tabs: bool, n: u16) -> usize
 }
 
 // One line where a part can't be shown: the refusal whose answer has these words.
+#[tactic(auto, using(text::proofs::TextLaws::puts), unfolding(crate::specs::Trace::refused_part))]
 pub fn refused_part(
     text: &mut [u8],
     at: usize,
@@ -90,16 +95,14 @@ fn decimal_cells(text: &mut [u8], at: usize, words: &[u16]) -> usize
     ensures upper_bound { result ≤ at + 21 * length words.now }
 {
     let mut end = at;
-    let mut i = 0;
-    while i < words.len() {
-        let word = words[i];
-        end = tabbed(text, end, word as u64);
-        i += 1;
+    for word in words {
+        end = tabbed(text, end, *word as u64);
     }
     end
 }
 
 // A line of at most eight words, with the first one's address.
+#[tactic(auto, using(text::proofs::TextLaws::puts), unfolding(crate::specs::Trace::words_line, model::specs::Test::pick))]
 fn words_line(
     text: &mut [u8],
     at: usize,
@@ -125,14 +128,6 @@ fn words_line(
     put(text, end, b"\n")
 }
 
-// How many of these words a line has.
-fn line_words(words: &[u16]) -> usize
-    ensures words_value { take result words.now ≡ take 8 words.now }
-    ensures upper_bound { (result ≤ 8) × (result ≤ length words.now) }
-{
-    if words.len() < 8 { words.len() } else { 8 }
-}
-
 // Line k of the memory's words.
 fn memory_line(
     text: &mut [u8],
@@ -150,8 +145,8 @@ fn memory_line(
 {
     let first = 8 * k;
     let rest = &memory[first..];
-    let count = line_words(rest);
-    words_line(text, at, tabs, number, label, first as u64, &rest[..count])
+    let words = &rest[..rest.len().min(8)];
+    words_line(text, at, tabs, number, label, first as u64, words)
 }
 
 pub fn memory_part(
@@ -167,16 +162,14 @@ pub fn memory_part(
         (memory_part tabs number label.now memory.now) }
     ensures upper_bound { result ≤ at + 32768 }
 {
-    let count = (memory.len() + 7) / 8;
     let mut end = at;
-    let mut k = 0;
-    while k < count {
+    for k in 0..(memory.len() + 7) / 8 {
         end = memory_line(text, end, tabs, number, label, memory, k);
-        k += 1;
     }
     end
 }
 
+#[tactic(auto, using(text::proofs::TextLaws::puts), unfolding(crate::specs::Trace::control_columns))]
 fn control_columns(text: &mut [u8], at: usize, store: &[u16]) -> usize
     requires { (at + 176 ≤ length text.old) × (17 ≤ length store.now) }
     ensures puts { Puts text.old at text.new result (control_columns (view store.now)) }
@@ -190,6 +183,7 @@ fn control_columns(text: &mut [u8], at: usize, store: &[u16]) -> usize
     field(text, end, b", tail", store[15])
 }
 
+#[tactic(auto, using(text::proofs::TextLaws::puts), unfolding(crate::specs::Trace::commit_columns))]
 fn commit_columns(text: &mut [u8], at: usize, store: &[u16]) -> usize
     requires { (at + 103 ≤ length text.old) × (17 ≤ length store.now) }
     ensures puts { Puts text.old at text.new result (commit_columns (view store.now)) }
@@ -200,6 +194,7 @@ fn commit_columns(text: &mut [u8], at: usize, store: &[u16]) -> usize
     field(text, end, b", pending open", store[13])
 }
 
+#[tactic(auto, using(text::proofs::TextLaws::puts), unfolding(crate::specs::Trace::control_part, model::specs::Test::pick))]
 pub fn control_part(text: &mut [u8], at: usize, tabs: bool, number: u64, store: &[u16]) -> usize
     requires { (at + 512 ≤ length text.old) × (17 ≤ length store.now) }
     ensures puts { Puts text.old at text.new result (control_part tabs number store.now) }
@@ -216,6 +211,7 @@ pub fn control_part(text: &mut [u8], at: usize, tabs: bool, number: u64, store: 
 }
 
 // Two values, in cells or behind their names.
+#[tactic(auto, using(text::proofs::TextLaws::puts), unfolding(crate::specs::Trace::fields, model::specs::Test::pick))]
 fn fields(
     text: &mut [u8],
     at: usize,
@@ -238,6 +234,7 @@ fn fields(
 }
 
 // The line of a waiting record.
+#[tactic(auto, using(text::proofs::TextLaws::puts), unfolding(crate::specs::Trace::queue_line))]
 pub fn queue_line(
     text: &mut [u8],
     at: usize,
@@ -259,6 +256,7 @@ pub fn queue_line(
     put(text, end, b"\n")
 }
 
+#[tactic(auto, using(text::proofs::TextLaws::puts), unfolding(crate::specs::Trace::empty_line))]
 pub fn empty_line(text: &mut [u8], at: usize, tabs: bool, number: u64, label: &[u8]) -> usize
     requires { (at + 512 ≤ length text.old) × (length label.now ≤ 16) }
     ensures puts { Puts text.old at text.new result (empty_line tabs number label.now) }
@@ -270,6 +268,7 @@ pub fn empty_line(text: &mut [u8], at: usize, tabs: bool, number: u64, label: &[
 }
 
 // What uncut recovery took, and the task and open number of the store that it left.
+#[tactic(auto, using(text::proofs::TextLaws::puts), unfolding(crate::specs::Trace::recovery_line))]
 pub fn recovery_line(
     text: &mut [u8],
     at: usize,

@@ -7,7 +7,7 @@ ghost use Rattle.trace.specs.Trace.{control_names, pair_name, word_name, name_in
 use crate::layout::{field, tabbed};
 use text::{decimal, put, spaced};
 
-// No word's index: nothing was stored.
+// No word's index: nothing was stored. It stays a number, as the answer's words have it (the C interface).
 pub const NOTHING: u16 = 65535;
 
 // A word of the store; 0 where there is none.
@@ -18,26 +18,27 @@ fn word_at(store: &[u16], i: usize) -> u16
 }
 
 // The name of control word 8 + n; nothing behind the last.
-fn control_name(text: &mut [u8], at: usize, n: u16) -> usize
-    requires { at + 12 ≤ length text.old }
-    ensures puts { Puts text.old at text.new result (get_or control_names n []) }
-    ensures upper_bound { result ≤ at + 12 }
+#[tactic(auto, unfolding(crate::specs::Trace::control_names))]
+fn control_name(n: u16) -> &'static [u8]
+    ensures name { result.now ≡ get_or control_names n [] }
+    ensures length_bound { length result.now ≤ 12 }
 {
     match n {
-        0 => put(text, at, b"phase"),
-        1 => put(text, at, b"task"),
-        2 => put(text, at, b"open"),
-        3 => put(text, at, b"count"),
-        4 => put(text, at, b"pending"),
-        5 => put(text, at, b"pending open"),
-        6 => put(text, at, b"head"),
-        7 => put(text, at, b"tail"),
-        8 => put(text, at, b"begun"),
-        9..=0xFFFF => at,
+        0 => b"phase",
+        1 => b"task",
+        2 => b"open",
+        3 => b"count",
+        4 => b"pending",
+        5 => b"pending open",
+        6 => b"head",
+        7 => b"tail",
+        8 => b"begun",
+        9.. => b"",
     }
 }
 
 // Word i of a part whose words come in twos.
+#[tactic(auto, using(text::proofs::TextLaws::puts, model::proofs::TestLaws::tests), unfolding(crate::specs::Trace::pair_name, crate::specs::Trace::field, model::specs::Test::pick))]
 fn pair_name(text: &mut [u8], at: usize, even: &[u8], odd: &[u8], i: u16) -> usize
     requires { (at + 28 ≤ length text.old) × (length even.now ≤ 7) × (length odd.now ≤ 7) }
     ensures puts { Puts text.old at text.new result (pair_name even.now odd.now i) }
@@ -50,6 +51,7 @@ fn pair_name(text: &mut [u8], at: usize, even: &[u8], odd: &[u8], i: u16) -> usi
 }
 
 // The name of word i of a store of m memory words and l log pairs.
+#[tactic(auto, using(text::proofs::TextLaws::puts, model::proofs::TestLaws::tests), unfolding(crate::specs::Trace::word_name, crate::specs::Trace::field, model::specs::Test::pick))]
 fn word_name(text: &mut [u8], at: usize, m: u16, l: u16, i: u16) -> usize
     requires { at + 28 ≤ length text.old }
     ensures puts { Puts text.old at text.new result (word_name m l i) }
@@ -59,7 +61,7 @@ fn word_name(text: &mut [u8], at: usize, m: u16, l: u16, i: u16) -> usize
         return put(text, at, b"contents");
     }
     if i < 17 {
-        return control_name(text, at, i - 8);
+        return put(text, at, control_name(i - 8));
     }
     let address = i - 17;
     if address < m {
@@ -81,6 +83,7 @@ fn name_in(text: &mut [u8], at: usize, store: &[u16], i: u16) -> usize
 }
 
 // For people: index, name and value.
+#[tactic(auto, using(text::proofs::TextLaws::puts), unfolding(crate::specs::Trace::stored_column))]
 pub fn stored_column(text: &mut [u8], at: usize, store: &[u16], i: u16) -> usize
     requires { at + 72 ≤ length text.old }
     ensures puts { Puts text.old at text.new result (stored_column store.now i) }
@@ -94,6 +97,7 @@ pub fn stored_column(text: &mut [u8], at: usize, store: &[u16], i: u16) -> usize
 }
 
 // The last three cells, empty where nothing was stored.
+#[tactic(auto, using(text::proofs::TextLaws::puts, model::proofs::TestLaws::tests), unfolding(crate::specs::Trace::stored_cells, model::specs::Test::pick))]
 pub fn stored_cells(text: &mut [u8], at: usize, store: &[u16], i: u16) -> usize
     requires { at + 72 ≤ length text.old }
     ensures puts { Puts text.old at text.new result (stored_cells store.now i) }

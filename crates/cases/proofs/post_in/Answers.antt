@@ -1,6 +1,6 @@
 -- `post_in` meets its contract, by those of the calls. Assumes nothing.
 use mathlib.Core.Path.{ap, ◌∙◌}
-use Rattle.cases.proofs.Shown.{device_of_lem, store_of, from_none, post_seen}
+use Rattle.cases.proofs.Shown.{device_of, store_of, from_none, post_seen}
 use Rattle.device.specs.Result.{Result}
 use Rattle.model.specs.Calls.{RunOutcome}
 use Rattle.model.specs.Device.{fresh}
@@ -16,5 +16,5 @@ returns c =
     let p = a.program.now in
     let ran = from_none p a.steps _ _ c.run-ran.ensures c.none.ensures in
     ap (λ (x : Result). x.answer) c.post-further.ensures
-    ∙ post_seen p _ c.format.ensures.store_after (ap device_of_lem c.boot-on.ensures) a.steps (ap device_of_lem c.post-posted.ensures)
+    ∙ post_seen p _ c.format.ensures.store_after (ap device_of c.boot-on.ensures) a.steps (ap device_of c.post-posted.ensures)
     (ap store_of ran) (ap (λ (x : RunOutcome). x.device) ran)

@@ -1,6 +1,4 @@
 -- `runtime_boot` meets its contract, by whether the device words are those of a device state. Assumes nothing.
-use Rattle.model.specs.Types.{Some}
-use Rattle.std.proofs.Common.{ap}
 use mathlib.Core.Path.{refl}
 use Rattle.exports.proofs.OnDevice.{state-read, none_read}
 use Rattle.exports.proofs.Told.{told}

@@ -1,5 +1,4 @@
 -- `runtime_burst` meets its contract, by whether the device words are those of a device state, and by what the post's check finds. Assumes nothing.
-use Rattle.model.specs.Types.{Err, Ok, Some}
 use Prim.Native.Nat.{ℕ}
 use mathlib.Core.List.{List}
 use mathlib.Core.Path.{refl, sym, ap, ◌∙◌}

@@ -1,5 +1,4 @@
 -- `runtime_step` meets its contract, by whether the device words are those of a device state. Assumes nothing.
-use Rattle.model.specs.Types.{Some}
 use mathlib.Core.Path.{refl, ap, ◌∙◌}
 use Rattle.exports.proofs.OnDevice.{state-read, none_read}
 use Rattle.exports.proofs.Told.{told}

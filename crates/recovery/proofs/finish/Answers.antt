@@ -1,6 +1,6 @@
 -- `finish` meets its contract: a step of those that are left goes on or is refused, and the phase says when they suffice. Assumes nothing.
 use Rattle.std.proofs.Common.{◌≡◌, suc, ◌+◌, ◌-◌, refl, sym, ◌∙◌, arith}
-use Rattle.recovery.proofs.RecoveryLaws.{finish-none, finish_spent, finish-all, finish_stops, finish_goes}
+use Rattle.recovery.proofs.RecoveryLaws.{finish-none, finish_spent, finish-all, finish_stops, finish_goes, refused-on}
 use Rattle.recovery.proofs.finish.Goals as goal
 
 pub loop-made-init : goal.loop-made-init
@@ -12,7 +12,8 @@ returns-then-word-eq0 c = sym (finish-none _ _ _ _ _ (sym c.word.ensures ∙ c.i
 pub returns-in_err-refusal : goal.returns-in_err-refusal
 returns-in_err-refusal c =
     let left : c.args.allowed - c.loop-made.made ≡ suc (c.args.allowed - (c.loop-made.made + 1)) = omega arith in
-    sym (finish_stops _ _ _ _ _ _ left (λ z. c.if-word-eq0.false (c.word.ensures ∙ z)) c.step-result.ensures (sym c.refusal.ensures ∙ c.in_err-refusal.was)) ∙ c.loop-made.invariant.1
+    refused-on _ _ _ c.from_residual.ensures.1
+    ∙ (sym (finish_stops _ _ _ _ _ _ left (λ z. c.if-word-eq0.false (c.word.ensures ∙ z)) c.step-result.ensures (sym c.refusal.ensures ∙ c.in_err-refusal.was)) ∙ c.loop-made.invariant.1)
 
 pub loop-made-preserved : goal.loop-made-preserved
 loop-made-preserved c =
@@ -24,7 +25,7 @@ loop-made-preserved c =
 pub returns-then-word-eq0-2 : goal.returns-then-word-eq0-2
 returns-then-word-eq0-2 c =
     let all : c.loop-made.made ≡ c.args.allowed = omega arith in
-    rw (← all) (sym (finish-none _ _ _ _ _ (sym c.word-2.ensures ∙ c.if-word-eq0-2.true)) ∙ c.loop-made.invariant.1)
+    rw all at (sym (finish-none _ _ _ _ _ (sym c.word-2.ensures ∙ c.if-word-eq0-2.true)) ∙ c.loop-made.invariant.1)
 
 pub returns : goal.returns
 returns c =

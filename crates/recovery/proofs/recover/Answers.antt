@@ -3,12 +3,12 @@ use Prim.Native.Nat.{ℕ}
 use mathlib.Core.Path.{sym, ap, ◌∙◌}
 use Rattle.model.specs.Calls.{recovery}
 use Rattle.model.specs.Device.{fresh}
-use Rattle.recovery.proofs.RecoveryLaws.{recovery_stops, recovery_goes}
+use Rattle.recovery.proofs.RecoveryLaws.{recovery_stops, recovery_goes, refused-on}
 use Rattle.recovery.proofs.recover.Goals as goal
 
 pub returns-in_err-refusal : goal.returns-in_err-refusal
 unfolding fresh
-returns-in_err-refusal c = sym (recovery_stops _ _ _ c.boot-booted.ensures (sym c.refusal.ensures ∙ c.in_err-refusal.was))
+returns-in_err-refusal c = refused-on _ _ _ c.from_residual.ensures.1 ∙ (sym (recovery_stops _ _ _ c.boot-booted.ensures (sym c.refusal.ensures ∙ c.in_err-refusal.was)))
 
 pub returns : goal.returns
 unfolding fresh

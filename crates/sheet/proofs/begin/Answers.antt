@@ -20,4 +20,4 @@ returns-in_default c =
 
 pub returns : goal.returns
 unfolding header
-returns c = record { end_bound = omega (arith, c.put-end.ensures.ends); begins = λ fits. begins-accepted c.args.checked c.args.program.now c.args.store.now _ _ _ _ c.in-Accepted.is refl fits c.put-end.ensures.text c.start-2.ensures c.format.ensures.store_after }
+returns c = record { end_bound = omega (arith, c.put-end.ensures.ends); begins = λ fits. begins-accepted c.args.checked c.args.program.now c.args.store.now _ _ _ _ c.in-Ok.is refl fits c.put-end.ensures.text c.start-2.ensures c.format.ensures.store_after }

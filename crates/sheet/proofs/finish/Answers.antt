@@ -19,9 +19,9 @@ returns c =
     let state = c.args.state in
     let seven : length state.line ≡ 7 = search (rules, c.well_formed) in
     let some : 0 < length (take state.held state.line) = simp length-take (omega (arith, seven, c.if-state-eq0.false)) in record {
-      upper_bound = omega (arith, c.line-printed.ensures.short);
+      upper_bound = omega (arith, c.line.ensures.short);
       finishes = λ ready short.
           let (reached, sized) = ready c.if-state.false in
-          finishes_line c.args.program.now (length c.args.copy.now) (holding state c.args.store.now) _ _ some (c.line-printed.ensures.ends reached sized c.if-state.false) short
-          ∙ sym c.line-printed.ensures.puts.text;
+          finishes_line c.args.program.now (length c.args.copy.now) (holding state c.args.store.now) _ _ some (c.line.ensures.ends reached sized c.if-state.false) short
+          ∙ sym c.line.ensures.puts.text;
     }

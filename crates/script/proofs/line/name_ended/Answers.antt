@@ -1,4 +1,5 @@
 -- `line::name_ended` meets its contract. Assumes nothing.
+use Rattle.script.specs.Reads.{kind_of, wrong_of}
 use Prim.Native.Nat.{ℕ, zero-le}
 use mathlib.Core.Bool.{false}
 use mathlib.Core.List.{[]}
@@ -8,31 +9,30 @@ use borrow.Author.Tests.{eq-eqb, ne_eqb}
 use lib.ListN.{take}
 use lib.Seq.{length-take-le}
 use Rattle.model.proofs.TestLaws.{pick_true, pick-false, clash}
-use Rattle.script.proofs.ReadingLaws.{number-most, holds_as}
+use Rattle.script.proofs.ReadingLaws.{holds_as, number-some}
 use Rattle.script.specs.Script.{line_of, name_ended}
 use Rattle.script.proofs.line.name_ended.Goals as goal
 
-pub slice_bounds-number-end : goal.slice_bounds-number-end
-slice_bounds-number-end c = sym (length-take-le c.args.reading.held c.args.reading.name (omega arith))
+pub slice_bounds-named-end : goal.slice_bounds-named-end
+slice_bounds-named-end c = sym (length-take-le c.args.reading.held c.args.reading.name (omega arith))
 
-pub returns-then-kind-eq0 : goal.returns-then-kind-eq0
+pub returns-in-None : goal.returns-in-None
 unfolding name_ended
-returns-then-kind-eq0 c = λ words sizes. holds_as (c.mistaken.ensures words sizes) (sym (pick_true _ _ (eq-eqb _ _ (sym c.number-kind.ensures ∙ c.if-kind-eq0.true))))
+returns-in-None c = λ words sizes. holds_as (c.mistaken.ensures words sizes) (sym (pick_true _ _ (eq-eqb _ _ (sym c.named.ensures ∙ ap kind_of c.in-None.is))))
 
-pub returns : goal.returns
+pub returns-in-Some : goal.returns-in-Some
 unfolding name_ended
-returns c =
+returns-in-Some c =
     let now = c.args.reading in
     λ words sizes.
-    let known = c.number-kind.ensures in
+    let known = (ap kind_of (sym c.in-Some.is) ∙ c.named.ensures) in
     holds_as
     record {
-      read = ap (λ (kind : ℕ). line_of now.wrong now.comment (take now.held now.name) kind [] false 0) known;
+      read = ap (λ (kind : ℕ). line_of (wrong_of now.wrong) now.comment (take now.held now.name) kind [] false 0) known;
       sized = record {
         room = sizes.room;
-        name_long_lem = sizes.name_long_lem;
+        name_length = sizes.name_length;
         held_most = sizes.held_most;
-        kind_most = rw known (number-most (take now.held now.name));
         wide_long = sizes.wide_long;
         wide_in = λ i h. absurd (omega arith);
         count_most = zero-le;
@@ -40,4 +40,4 @@ returns c =
         value_most = zero-le;
       };
     }
-    (sym (pick-false _ _ (rw (sym known) (ne_eqb _ _ c.if-kind-eq0.false))))
+    (sym (pick-false _ _ (rw (sym known) (ne_eqb _ _ (λ e. absurd (omega (arith, number-some c.in-Some.name, e)))))))

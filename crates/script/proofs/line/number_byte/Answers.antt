@@ -1,4 +1,5 @@
 -- `line::number_byte` meets its contract. Assumes nothing.
+use Rattle.script.specs.Reads.{kind_of}
 use Prim.Native.Nat.{◌≤◌}
 use mathlib.Core.Path.{sym}
 use native.Mathlib.Omega.{arith}
@@ -12,7 +13,7 @@ pub returns-then-reading-most : goal.returns-then-reading-most
 unfolding number_byte
 returns-then-reading-most c =
     let now = c.args.reading in
-    let none : most_numbers now.kind ≤ now.count = omega (arith, c.most.ensures, c.if-reading-most.true) in
+    let none : most_numbers (kind_of now.kind) ≤ now.count = omega (arith, c.most.ensures, c.if-reading-most.true) in
     λ words sizes. holds_as (c.mistaken.ensures words sizes) (sym (pick_true _ _ (and_true (full sizes none) (rw (numbers-counted now words sizes) (le-leb _ _ none)))))
 
 pub digit_byte-requires : goal.digit_byte-requires

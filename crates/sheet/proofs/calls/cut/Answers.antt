@@ -25,7 +25,7 @@ returns c =
           record {
             puts = c.store_line-end.ensures.puts;
             short = c.store_line-end.ensures.short;
-            state = c.next-state.ensures ∙ ap (λ (x : Result). after_call x.device n false) (c.cut-off.ensures []);
+            state = c.next-state.ensures ∙ ap (λ (x : Result). after_call x.device n false) (c.cut.ensures []);
           };
       memory =
           λ d reached sized.

@@ -18,15 +18,6 @@ returns-then-words-gt1024 c =
       memory = λ most start inside. absurd (omega (arith, c.word-words.ensures));
     }
 
-pub returns-then-end-store : goal.returns-then-end-store
-returns-then-end-store c =
-    record {
-      printed = [];
-      puts = puts_nothing _ _;
-      short = omega arith;
-      memory = λ most start inside. absurd (omega (arith, c.word-words.ensures, c.word-start.ensures));
-    }
-
 pub returns : goal.returns
 returns c =
     let s = c.args.store.now in

@@ -1,14 +1,14 @@
--- `parts::control_part` meets its contract: cells, or columns. Assumes nothing.
-use native.Mathlib.Omega.{arith}
+-- `search` joins what is put, where the check's own `grind` looks at its parts.
+use Rattle.std.proofs.Common.{rules}
+use Rattle.model.specs.Test.{pick}
 use Rattle.text.proofs.TextLaws.{puts_then}
-use Rattle.trace.proofs.TraceLaws.{puts-left, puts-taken}
 use Rattle.trace.specs.Trace.{control_part}
 use Rattle.trace.proofs.parts.control_part.Goals as goal
 
-pub returns-then-tabs : goal.returns-then-tabs
-unfolding control_part
-returns-then-tabs c = record { puts = puts_then (puts-taken _ c.if-tabs.true (puts_then c.labelled-end.ensures.puts c.decimal_cells-end.ensures.puts)) c.put.ensures; upper_bound = omega (arith, c.labelled-end.ensures.upper_bound, c.decimal_cells-end.ensures.upper_bound, c.put.ensures.ends) }
+pub returns-then-tabs-clause-puts : goal.returns-then-tabs-clause-puts
+unfolding control_part pick
+returns-then-tabs-clause-puts c = rw c.if-tabs.true (search (rules, puts_then))
 
-pub returns : goal.returns
-unfolding control_part
-returns c = record { puts = puts_then (puts-left _ c.if-tabs.false (puts_then c.control_columns-end.ensures.puts c.commit_columns-end.ensures.puts)) c.put-2.ensures; upper_bound = omega (arith, c.control_columns-end.ensures.upper_bound, c.commit_columns-end.ensures.upper_bound, c.put-2.ensures.ends) }
+pub returns-clause-puts : goal.returns-clause-puts
+unfolding control_part pick
+returns-clause-puts c = rw c.if-tabs.false (search (rules, puts_then))

@@ -1,9 +1,0 @@
--- `printing::dropped_line` meets its contract: its parts, one behind the other. Assumes nothing.
-use native.Mathlib.Omega.{arith}
-use Rattle.text.proofs.TextLaws.{puts_then}
-use Rattle.sheet.specs.Sheet.{dropped_line}
-use Rattle.sheet.proofs.printing.dropped_line.Goals as goal
-
-pub returns : goal.returns
-unfolding dropped_line
-returns c = record { puts = puts_then (puts_then (puts_then (puts_then c.decimal-end.ensures.puts c.put-end.ensures) c.spaced-end.ensures.puts) c.spaced-end-2.ensures.puts) c.put.ensures; upper_bound = omega (arith, c.put.ensures.ends, c.put-end.ensures.ends, c.decimal-end.ensures.upper_bound, c.spaced-end.ensures.upper_bound, c.spaced-end-2.ensures.upper_bound) }

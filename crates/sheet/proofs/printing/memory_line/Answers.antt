@@ -1,9 +1,0 @@
--- `printing::memory_line` meets its contract. Assumes nothing.
-use native.Mathlib.Omega.{arith}
-use Rattle.text.proofs.TextLaws.{puts_then}
-use Rattle.sheet.specs.Sheet.{memory_line}
-use Rattle.sheet.proofs.printing.memory_line.Goals as goal
-
-pub returns : goal.returns
-unfolding memory_line
-returns c = record { puts = puts_then (puts_then c.decimal-end.ensures.puts c.hex_words-end.ensures.puts) c.put.ensures; upper_bound = omega (arith, c.put.ensures.ends, c.hex_words-end.ensures.value, c.decimal-end.ensures.upper_bound) }
