@@ -110,7 +110,9 @@ fn step_known(
     ensures eight_after { Eight burst.new }
 {
     if !known {
-        if let Err(why) = look::look(program, store, registers, burst, handler, core) {
+        let seen_handler = handler;
+        let seen_core = core;
+        if let Err(why) = look::look(program, store, registers, burst, seen_handler, seen_core) {
             return refused(handler, core, why);
         }
     }

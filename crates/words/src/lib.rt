@@ -114,43 +114,61 @@ pub fn with_burst(words: &[u16; 26], handler: Handler, burst: [u16; 8]) -> [u16;
 
 // ---- 26 words as a device state
 
-// The body of its two words, if they are the words of one.
+// The body of its two words.
 #[tactic(auto, using(crate::proofs::Parts::tests), unfolding(crate::specs::Words::body_of, model::specs::Test::pick))]
-fn read_body(kind: u16, number: u16) -> Option<Body>
-    ensures { result ≡ pick (leb kind 1) (Some (body_of kind number)) None }
+fn body_of(kind: u16, number: u16) -> Body
+    ensures { result ≡ body_of kind number }
 {
-    match kind {
-        0 => Some(Body::Task(number)),
-        1 => Some(Body::Event(number)),
-        _ => None,
+    if kind == 0 { Body::Task(number) } else { Body::Event(number) }
+}
+
+// The place of words 9 to 13, and whether they are the words of a place.
+#[tactic(auto, using(crate::proofs::Parts::tests), unfolding(crate::specs::Words::place_of, model::specs::Test::pick))]
+fn place_of(place: u16, kind: u16, number: u16, instruction: u16, made: u16) -> Place
+    ensures { result ≡ place_of place kind number instruction made }
+{
+    match place {
+        0 => Place::Free(made),
+        1 => Place::Run(body_of(kind, number), instruction, made),
+        _ => Place::Half(body_of(kind, number), instruction),
     }
 }
 
-// The place of words 9 to 13, if they are the words of one.
-#[tactic(auto, using(crate::proofs::Parts::tests), unfolding(crate::specs::Words::is_place, crate::specs::Words::place_of, crate::specs::Words::body_of, model::specs::Test::pick, model::specs::Test::both))]
-fn read_place(place: u16, kind: u16, number: u16, instruction: u16, made: u16) -> Option<Place>
-    ensures { result ≡ pick (is_place place kind number instruction made)
-        (Some (place_of place kind number instruction made)) None }
+#[tactic(auto, using(crate::proofs::Parts::tests), unfolding(crate::specs::Words::is_place, model::specs::Test::pick, model::specs::Test::both))]
+fn is_place(place: u16, kind: u16, number: u16, instruction: u16, made: u16) -> bool
+    ensures { result ≡ is_place place kind number instruction made }
 {
-    match (place, kind, number, instruction, made) {
-        (0, 0, 0, 0, _) => Some(Place::Free(made)),
-        (1, _, _, _, _) => Some(Place::Run(read_body(kind, number)?, instruction, made)),
-        (2, _, _, _, 0) => Some(Place::Half(read_body(kind, number)?, instruction)),
-        _ => None,
+    match place {
+        0 => kind == 0 && number == 0 && instruction == 0,
+        1 => kind <= 1,
+        2 => kind <= 1 && made == 0,
+        _ => false,
     }
 }
 
-// The handler of words 15 to 17, if they are the words of one.
-#[tactic(auto, using(crate::proofs::Parts::tests), unfolding(crate::specs::Words::is_handler, crate::specs::Words::handler_of, model::specs::Test::pick, model::specs::Test::both))]
-fn read_handler(work: u16, length: u16, made: u16) -> Option<Handler>
-    ensures { result ≡ pick (is_handler work length made) (Some (handler_of work length made)) None }
+// The handler of words 15 to 17, and whether they are the words of a handler.
+#[tactic(auto, using(crate::proofs::Parts::tests), unfolding(crate::specs::Words::handler_of, model::specs::Test::pick))]
+fn handler_of(work: u16, length: u16, made: u16) -> Handler
+    ensures { result ≡ handler_of work length made }
 {
-    match (work, length, made) {
-        (0, 0, 0) => Some(Handler::Resting),
-        (1, _, _) => Some(Handler::Storing(length, made)),
-        (2, 1, 0) => Some(Handler::Dropping),
-        (3, 1, _) => Some(Handler::Replacing(made)),
-        _ => None,
+    match work {
+        0 => Handler::Resting,
+        1 => Handler::Storing(length, made),
+        2 => Handler::Dropping,
+        _ => Handler::Replacing(made),
+    }
+}
+
+#[tactic(auto, using(crate::proofs::Parts::tests), unfolding(crate::specs::Words::is_handler, model::specs::Test::pick, model::specs::Test::both))]
+fn is_handler(work: u16, length: u16, made: u16) -> bool
+    ensures { result ≡ is_handler work length made }
+{
+    match work {
+        0 => length == 0 && made == 0,
+        1 => true,
+        2 => length == 1 && made == 0,
+        3 => length == 1,
+        _ => false,
     }
 }
 
@@ -178,33 +196,51 @@ fn are_records(words: &[u16; 26], length: u16) -> bool
         && is_record(length, 3, words[24], words[25])
 }
 
-// The device state of 26 words, if they are the words of one.
-#[tactic(auto, using(crate::proofs::Parts::tests), unfolding(crate::specs::Words::is_state, crate::specs::Words::state_of, model::specs::Test::pick, model::specs::Test::both))]
-pub fn read_device(words: &[u16; 26]) -> Option<Device>
-    ensures { result ≡ pick (is_state words.now) (Some (state_of words.now)) None }
+// Are 26 words those of a device state?
+#[tactic(auto, using(crate::proofs::Parts::tests), unfolding(crate::specs::Words::is_state, model::specs::Test::both))]
+#[inline(never)]
+fn is_state(words: &[u16; 26]) -> bool
+    ensures { result ≡ is_state words.now }
 {
-    if words[0] > 1 {
-        return None;
-    }
-    let place = read_place(words[9], words[10], words[11], words[12], words[13])?;
-    let handler = read_handler(words[15], words[16], words[17])?;
-    if !are_records(words, words[16]) {
-        return None;
-    }
+    words[0] <= 1
+        && is_place(words[9], words[10], words[11], words[12], words[13])
+        && is_handler(words[15], words[16], words[17])
+        && are_records(words, words[16])
+}
+
+// The device state of words that are one's.
+#[tactic(auto, using(crate::proofs::Parts::tests), unfolding(crate::specs::Words::state_of))]
+fn state_of(words: &[u16; 26]) -> Device
+    ensures { result ≡ state_of words.now }
+{
     let registers = [
         words[1], words[2], words[3], words[4], words[5], words[6], words[7], words[8],
     ];
     let burst = [
         words[18], words[19], words[20], words[21], words[22], words[23], words[24], words[25],
     ];
-    Some(Device {
+    Device {
         on: words[0] == 1,
         registers,
-        place,
+        place: place_of(words[9], words[10], words[11], words[12], words[13]),
         count: words[14],
-        handler,
+        handler: handler_of(words[15], words[16], words[17]),
         burst,
-    })
+    }
+}
+
+// The device state of 26 words, if they are the words of one. The test and the reading stand apart: an Option of each part, joined by `?`, takes a
+// step through the C functions 60 instructions more (docs/DESIGN-PASS.md).
+#[tactic(auto, unfolding(model::specs::Test::pick))]
+#[inline(always)]
+pub fn read_device(words: &[u16; 26]) -> Option<Device>
+    ensures { result ≡ pick (is_state words.now) (Some (state_of words.now)) None }
+{
+    if is_state(words) {
+        Some(state_of(words))
+    } else {
+        None
+    }
 }
 
 // ---- Answers as 5 words: case, kind of body, number, place
