@@ -20,7 +20,7 @@ unfolding spelt
 behind-count ns nine = sym (ap (drop 1) (spelt_all ns 9 nine))
 
 -- those behind the first two, where there are fewer, too
-pub behind-two : (ns : List ℕ) (k : ℕ) → k ≡ min 2 (length ns) → drop 2 ns ≡ take (length ns - k) (drop k ns)
+pub behind-two : (ns : List ℕ) (k : ℕ) → k ≡ min (length ns) 2 → drop 2 ns ≡ take (length ns - k) (drop k ns)
 behind-two ns k is = below_or (length ns) 2 few many
   where
     few : length ns < 2 → drop 2 ns ≡ take (length ns - k) (drop k ns)

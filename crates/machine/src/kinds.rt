@@ -120,8 +120,10 @@ pub fn burst(
         ≡ posts program.now (host_state store.now device totals)
         (carried (drop 1 numbers.now) (word_of numbers.now 0)) }
 {
-    let mut words = [0u16; 8];
-    words.copy_from_slice(&numbers[1..9]);
+    let words = [
+        numbers[1], numbers[2], numbers[3], numbers[4], numbers[5], numbers[6], numbers[7],
+        numbers[8],
+    ];
     let mut state = device;
     let mut answer = [0u16; 5];
     exports::runtime_burst(program, store, &mut state, numbers[0], &words, &mut answer);

@@ -7,5 +7,5 @@ use Rattle.machine.proofs.kinds.raise.Goals as goal
 pub returns : goal.returns
 unfolding raises
 returns c =
-    rw (c.told.ensures, ← c.word-line.ensures, ← c.word-level.ensures, behind-two c.args.numbers.now c.least-start.result c.least-start.ensures)
+    rw (c.told.ensures, ← c.word-line.ensures, ← c.word-level.ensures, behind-two c.args.numbers.now c.min-start.result c.min-start.ensures)
     (raise-made _ _ _ _ _ _ _ _ c.runtime_raise.ensures)
