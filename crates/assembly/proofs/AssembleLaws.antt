@@ -1,4 +1,5 @@
 -- Laws of the first mistake of all: where there is none, the words fit and the check accepts them. Assumes nothing.
+use Rattle.model.specs.Types.{Checked, Err, Ok}
 use Prim.Native.Nat.{ℕ, suc, ◌*◌, ◌≤◌, ◌<◌, min}
 use mathlib.Core.Bool.{Bool, true, false}
 use mathlib.Core.List.{List}
@@ -10,7 +11,6 @@ use lib.Dec.{eqb, leb}
 use lib.ListN.{length, length-take}
 use Rattle.model.proofs.TestLaws.{pick_true, pick-false}
 use Rattle.model.specs.Test.{pick}
-use Rattle.model.specs.declared.Checked.{Checked}
 use Rattle.text.specs.Puts.{Puts}
 use Rattle.tokens.proofs.LineLaws.{count-least}
 use Rattle.tokens.specs.Tokens.{line_count}

@@ -1,11 +1,11 @@
 -- Laws of the rules that the check finds broken: its words tell them. Assumes nothing.
+use Rattle.model.specs.Types.{Checked, Err, Ok}
 use Prim.Native.Nat.{ℕ}
 use mathlib.Core.List.{List}
 use mathlib.Core.Logic.{◌≢◌}
 use mathlib.Core.Path.{◌≡◌, refl}
 use native.Mathlib.Omega.{arith}
 use Rattle.model.specs.Program.{word}
-use Rattle.model.specs.declared.Checked.{Checked}
 use Rattle.words.specs.Words.{refused_words, checked_words}
 use Rattle.assembly.specs.Mistakes.{mistake_at}
 use Rattle.assembly.specs.Rules.{explained_by, rule_mistake}

@@ -1,8 +1,8 @@
 -- docs/ASSEMBLY.md: what `assemble` answers for a text, and what the library promises of it. Assumes nothing.
+use Rattle.model.specs.Types.{Ok}
 use Rattle.std.specs.Prelude.{ℕ, ◌≤◌, List, ◌≡◌, leb, length, take}
 use Rattle.model.specs.Check.{check}
 use Rattle.model.specs.Test.{pick, ◌and◌}
-use Rattle.model.specs.declared.Checked.{Checked}
 use Rattle.tokens.specs.Tokens.{lines, line_count}
 use Rattle.assembly.specs.Mistakes.{mistake_at}
 use Rattle.assembly.specs.Rules.{lines_mistake}

@@ -1,10 +1,10 @@
 -- docs/ASSEMBLY.md, "Rules that the check finds broken, by its number and place". Assumes nothing.
+use Rattle.model.specs.Types.{Checked, Err, Ok}
 use Rattle.std.specs.Prelude.{ℕ, suc, ◌-◌, min, Bool, not, List, eqb, leb, ltb}
 use Rattle.model.specs.Answer.{refusal}
 use Rattle.model.specs.Check.{check}
 use Rattle.model.specs.Program.{tasks, memory_words, instructions, opcode, field_a, field_b, code, operand}
 use Rattle.model.specs.Test.{pick, ◌and◌, ◌or◌}
-use Rattle.model.specs.declared.Checked.{Checked}
 use Rattle.tokens.specs.Uses.{is_jump, go_opcode}
 use Rattle.assembly.specs.Lines.{lines_at, memory_line, entry_line, task_line, event_line, body_line, instruction_line, place_of}
 use Rattle.assembly.specs.Mistakes.{or_else, mistake_if, mistake_at, or_next, mistake_of, program_long}

@@ -1,11 +1,11 @@
 -- What the library promises of a text, and what its inner functions ask of a program. Assumes nothing.
+use Rattle.model.specs.Types.{Ok}
 use Rattle.std.specs.Prelude.{ℕ, ◌≤◌, ◌<◌, List, ◌≢◌, ◌≡◌, take}
 use Rattle.listing.specs.Listing.{listing}
 use Rattle.listing.specs.declared.Listed.{Listed}
 use Rattle.model.specs.Accepted.{HasBody, RowsInside}
 use Rattle.model.specs.Check.{check}
 use Rattle.model.specs.Program.{bodies, instructions, opcode, code}
-use Rattle.model.specs.declared.Checked.{Checked}
 
 -- a program was checked, and printed into the text where the check accepts it
 pub record Lists (p text : List ℕ) (r : Listed) : Type 0 where

@@ -1,4 +1,5 @@
 -- A program that is printed and read again is the same: its text is read as the lines that are expected, and these are assembled to its words. Assumes nothing.
+use Rattle.model.specs.Types.{Ok}
 use Prim.Native.Nat.{ℕ}
 use mathlib.Core.List.{List}
 use mathlib.Core.Path.{◌≡◌, ap, ◌∙◌}
@@ -10,7 +11,6 @@ use Rattle.assembly.specs.declared.Mistake.{Mistake}
 use Rattle.listing.specs.Listing.{listing}
 use Rattle.model.proofs.TestLaws.{pick_true}
 use Rattle.model.specs.Check.{check}
-use Rattle.model.specs.declared.Checked.{Checked}
 use Rattle.round_trip.proofs.Assembling.{words_are, lines_free}
 use Rattle.round_trip.proofs.Reading.{lines_of_listing, count_of_listing, listing-fits}
 use Rattle.round_trip.specs.Expected.{expected, flat}

@@ -1,4 +1,5 @@
 -- docs/ASSEMBLY.md: "`assemble` of what `disassemble` prints gives the same words, for every program that the check accepts". Assumes nothing.
+use Rattle.model.specs.Types.{Ok}
 use Rattle.std.specs.Prelude.{ℕ, List, ◌≡◌, take}
 use Rattle.assembly.specs.Assembles.{Assembles, assemble_mistake, assembled}
 use Rattle.assembly.specs.Mistakes.{mistake_at}
@@ -7,7 +8,6 @@ use Rattle.listing.specs.Listing.{listing}
 use Rattle.listing.specs.Lists.{Lists}
 use Rattle.listing.specs.declared.Listed.{Listed}
 use Rattle.model.specs.Check.{check}
-use Rattle.model.specs.declared.Checked.{Checked}
 
 -- of the definitions: the text that is printed has no mistake, and its words are the program
 abbrev pub RoundTrip : Type 0

@@ -3,11 +3,15 @@ use Prim.Native.Nat.{ℕ, zero, suc, ◌+◌, ◌≤◌, ◌<◌}
 use mathlib.Core.Bool.{Bool, true, false}
 use mathlib.Core.List.{List, [], ◌∷◌, ◌++◌}
 use mathlib.Core.Logic.{◌≢◌}
-use mathlib.Core.Path.{◌≡◌, refl}
+use mathlib.Core.Path.{◌≡◌, refl, sym}
 use native.Mathlib.Omega.{arith}
 use borrow.Author.Tests.{eq-eqb, ne_eqb}
 use lib.Dec.{eqb}
-use lib.ListN.{length, get_or}
+use native.Mathlib.Numerals.{add-one}
+use lib.ListN.{length, get_or, drop, get_or-eq_default}
+use lib.Seq.{drop-cons, drop-length}
+use Rattle.text.proofs.TextLaws.{puts_nothing, puts_as}
+use Rattle.text.specs.Puts.{Puts}
 use Rattle.model.proofs.TestLaws.{pick_true, pick-false}
 use Rattle.model.specs.Test.{pick}
 use Rattle.tokens.specs.Tokens.{line_feed, start, next, finished, lines_from, line_count, named, statement_names, all_named}
@@ -35,6 +39,15 @@ count_of byte bytes = go (eqb byte line_feed) where
   go true = omega arith
   go false = omega arith
 
+-- of the text's bytes from i on
+pub count_step : (text : List ℕ) (i : ℕ) → i < length text
+    → line_count (drop i text) ≡ pick (eqb (get_or text i 0) line_feed) 1 0 + line_count (drop (i + 1) text)
+count_step text i h = rw (add-one, drop-cons text i 0) (count_of (get_or text i 0) (drop (suc i) text))
+
+pub count-end : (text : List ℕ) (i : ℕ) → i ≡ length text → line_count (drop i text) ≡ 1
+unfolding line_count
+count-end text i e = rw (e, drop-length text)
+
 pub count-least : (bytes : List ℕ) → 1 ≤ line_count bytes
 unfolding line_count
 count-least [] = omega arith
@@ -48,3 +61,12 @@ module _ (now : Reading) (byte : ℕ) (bytes : List ℕ) where
   pub other_goes_on : byte ≢ line_feed → lines_from now (byte ∷ bytes) ≡ lines_from (next now byte) bytes
   unfolding lines_from
   other_goes_on e = pick-false _ _ (ne_eqb _ _ e)
+
+-- ---- The statements' names, by their places
+
+-- the name at place n was put, or nothing behind the last
+pub puts_name : {t u : List ℕ} {at m : ℕ} {xs : List ℕ} (n k : ℕ) → Puts t at u m xs → n ≡ k → xs ≡ get_or statement_names k [] → Puts t at u m (get_or statement_names n [])
+puts_name n k puts e name = rw e (puts_as puts name)
+
+pub puts_no_name : (t : List ℕ) (at n : ℕ) → 22 ≤ n → Puts t at t at (get_or statement_names n [])
+puts_no_name t at n h = puts_as (puts_nothing t at) (sym (get_or-eq_default statement_names [] (rw names-length h)))

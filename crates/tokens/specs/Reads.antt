@@ -15,7 +15,7 @@ pub record Takes (byte : ℕ) (room : List ℕ) (before : Progress) (left : List
       (rest : List ℕ)
       → take (6 * after.done) left ++ lines_from after.reading rest ≡ take (6 * before.done) room ++ lines_from before.reading (byte ∷ rest)
   pub count : (rest : List ℕ) → after.done + line_count rest ≡ before.done + line_count (byte ∷ rest)
-  pub small : Small after.reading
+  pub small_value : Small after.reading
 
 -- a text was read into room for so many numbers: how many lines it has, 0 where there isn't room for them
 pub record Reads (text room : List ℕ) (n : ℕ) : Type 0 where

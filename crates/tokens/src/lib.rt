@@ -3,7 +3,7 @@
 #![tactic(auto)]
 
 ghost use Rattle.std.specs.Prelude.{◌+◌, ◌*◌, ◌<◌, ◌≤◌, eqb, length, take, ◌++◌, ◌≡◌};
-ghost use Rattle.tokens.specs.Tokens.{start as start_of, numbers as numbers_of, line_feed, line_count as lineCountOf};
+ghost use Rattle.tokens.specs.Tokens.{start as start_of, numbers as numbers_of, line_feed, line_count};
 ghost use Rattle.tokens.specs.Reads.{Small, Takes, Reads};
 ghost use Rattle.model.specs.Test.{pick};
 
@@ -36,9 +36,10 @@ pub struct Reading {
     pub comment: bool,
 }
 
+#[tactic(auto, unfolding(crate::specs::Tokens::start))]
 fn start() -> Reading
     ensures value { result ≡ start_of }
-    ensures small { Small result }
+    ensures small_value { Small result }
 {
     Reading {
         wrong: 0,
@@ -53,54 +54,38 @@ fn start() -> Reading
     }
 }
 
-// Numbers at a place of the room.
-fn put(room: &mut [u64], at: usize, numbers: &[u64])
-    requires { at + length numbers.now ≤ length room.old }
-    ensures { take (at + length numbers.now) room.new ≡ take at room.old ++ numbers.now }
-{
-    let mut i = 0;
-    while i < numbers.len() {
-        room[at + i] = numbers[i];
-        i += 1;
-    }
-}
-
 // A line's numbers at a place of the room.
+#[tactic(auto, using(std::proofs::lemmas::Slice::overwrites), unfolding(crate::specs::Tokens::numbers))]
 fn write(room: &mut [u64], at: usize, reading: Reading)
     requires { at + 6 ≤ length room.old }
     ensures { take (at + 6) room.new ≡ take at room.old ++ numbers_of reading }
 {
-    let numbers = [
+    room[at..at + 6].copy_from_slice(&[
         reading.wrong,
         reading.label,
         statements::statement(reading.first),
         reading.second,
         reading.third,
         reading.fourth,
-    ];
-    put(room, at, &numbers);
+    ]);
 }
 
 // A line feed ends one line more.
+#[tactic(auto, using(model::proofs::TestLaws::tests), unfolding(model::specs::Test::pick))]
 fn feed(byte: u8) -> usize
     ensures value { result ≡ pick (eqb byte line_feed) 1 0 }
     ensures upper_bound { result ≤ 1 }
 {
-    if byte == b'\n' {
-        return 1;
-    }
-    0
+    if byte == b'\n' { 1 } else { 0 }
 }
 
 // How many lines the text has.
 fn count(text: &[u8]) -> usize
-    ensures { result ≡ lineCountOf text.now }
+    ensures { result ≡ line_count text.now }
 {
     let mut lines = 1;
-    let mut i = 0;
-    while i < text.len() {
-        lines += feed(text[i]);
-        i += 1;
+    for &byte in text {
+        lines += feed(byte);
     }
     lines
 }
@@ -114,8 +99,8 @@ pub struct Progress {
 
 // A byte of the text.
 fn take(room: &mut [u64], byte: u8, progress: Progress) -> Progress
-    requires done_in_bounds { 6 * progress.done + 6 ≤ length room.old }
-    requires small { Small progress.reading }
+    requires room_left { 6 * progress.done + 6 ≤ length room.old }
+    requires small_value { Small progress.reading }
     ensures { Takes byte room.old progress room.new result }
 {
     let done = progress.done;
@@ -145,10 +130,8 @@ pub fn read(text: &[u8], room: &mut [u64]) -> usize
         done: 0,
         reading: start(),
     };
-    let mut i = 0;
-    while i < text.len() {
-        progress = take(room, text[i], progress);
-        i += 1;
+    for &byte in text {
+        progress = take(room, byte, progress);
     }
     let reading = progress.reading;
     write(room, 6 * progress.done, line::last(reading));

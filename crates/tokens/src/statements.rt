@@ -1,7 +1,7 @@
 // The statements' names, and the number of the statement that a word begins.
 ghost use Rattle.std.specs.Prelude.{◌+◌, ◌≤◌, ◌<◌, [], ◌≡◌, length, get_or};
 ghost use Rattle.text.specs.Puts.{Puts};
-ghost use Rattle.tokens.specs.Tokens.{named as named_of, statement as statementOf, statement_names, statement_word};
+ghost use Rattle.tokens.specs.Tokens.{named as named_of, statement as statement_of, statement_names, statement_word};
 
 use crate::line;
 use text::put;
@@ -12,15 +12,14 @@ fn named(bytes: &[u8]) -> u64
     ensures { result ≡ named_of bytes.now }
 {
     let mut value = 0u64;
-    let mut i = 0;
-    while i < bytes.len() {
-        value = 38 * value + line::character(bytes[i]);
-        i += 1;
+    for &byte in bytes {
+        value = 38 * value + line::character(byte);
     }
     value + 65536
 }
 
 // The name of statement n + 1 at a place of the text, and where it ends; nothing behind the last.
+#[tactic(auto, using(crate::proofs::LineLaws::puts_name, crate::proofs::LineLaws::puts_no_name), unfolding(crate::specs::Tokens::statement_names))]
 pub fn put_name(text: &mut [u8], at: usize, n: u64) -> usize
     requires { at + 11 ≤ length text.old }
     ensures puts { Puts text.old at text.new result (get_or statement_names n []) }
@@ -49,7 +48,7 @@ pub fn put_name(text: &mut [u8], at: usize, n: u64) -> usize
         19 => put(text, at, b"transaction"),
         20 => put(text, at, b"task"),
         21 => put(text, at, b"event"),
-        22..=0xFFFF_FFFF_FFFF_FFFF => at,
+        22.. => at,
     }
 }
 
@@ -67,17 +66,15 @@ fn word(n: u64) -> u64
 
 // The statement that a word begins: 0 where there is none, 23 where it is no statement's name.
 pub fn statement(first: u64) -> u64
-    ensures { result ≡ statementOf first }
+    ensures { result ≡ statement_of first }
 {
     if first == 0 {
         return 0;
     }
-    let mut n = 0u64;
-    while n < 22 {
+    for n in 0..22 {
         if first == word(n) {
             return n + 1;
         }
-        n += 1;
     }
     23
 }

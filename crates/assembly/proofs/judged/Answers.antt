@@ -1,9 +1,9 @@
 -- `judged` meets its contract. Assumes nothing.
+use Rattle.model.specs.Types.{Checked}
 use mathlib.Core.Path.{sym, ap, ◌∙◌}
 use native.Mathlib.Omega.{arith}
 use lib.ListN.{take}
 use lib.Seq.{length-take-le}
-use Rattle.model.specs.declared.Checked.{Checked}
 use Rattle.assembly.specs.Rules.{rule_mistake}
 use Rattle.assembly.proofs.judged.Goals as goal
 

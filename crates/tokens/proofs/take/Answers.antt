@@ -30,7 +30,7 @@ returns-then-byte-eq10 c =
           ∙ append_assoc (take (6 * done) room) (finished reading) _
           ∙ ap (λ (l : List ℕ). take (6 * done) room ++ l) (sym (feed_ends reading byte rest c.if-byte-eq10.true));
       count = λ rest. omega (arith, count_of byte rest, pick_true {A = ℕ} 1 0 (eq-eqb _ _ c.if-byte-eq10.true));
-      small = c.start.ensures.small;
+      small_value = c.start.ensures.small_value;
     }
 
 pub returns : goal.returns
@@ -45,5 +45,5 @@ returns c =
           ap (λ (r : Reading). take (6 * done) room ++ lines_from r rest) c.next.ensures.value
           ∙ ap (λ (l : List ℕ). take (6 * done) room ++ l) (sym (other_goes_on reading byte rest c.if-byte-eq10.false));
       count = λ rest. omega (arith, count_of byte rest, pick-false {A = ℕ} 1 0 (ne_eqb _ _ c.if-byte-eq10.false));
-      small = c.next.ensures.small;
+      small_value = c.next.ensures.small_value;
     }
