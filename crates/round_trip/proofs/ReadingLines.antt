@@ -1,5 +1,4 @@
 -- How lines are read: behind a margin its words, one after the other, up to the line feed; and lines behind lines. Assumes nothing.
-use Rattle.model.specs.Types.{Some}
 use Prim.Native.Char.{code}
 use Prim.Native.Nat.{ℕ, zero, suc, ◌+◌, ◌*◌, ◌≤◌, ◌<◌}
 use mathlib.Core.Bool.{true, false}

@@ -1,15 +1,15 @@
 -- A program that is printed and read again is the same: its text is read as the lines that are expected, and these are assembled to its words. Assumes nothing.
-use Rattle.model.specs.Types.{Ok}
+use Rattle.model.specs.Types.{Err, Ok}
 use Prim.Native.Nat.{ℕ}
 use mathlib.Core.List.{List}
-use mathlib.Core.Path.{◌≡◌, ap, ◌∙◌}
+use mathlib.Core.Path.{◌≡◌, refl, ap, ◌∙◌}
 use lib.ListN.{length}
 use Rattle.assembly.specs.Assembles.{assemble_mistake, assembled}
 use Rattle.assembly.specs.Rules.{lines_mistake}
 use Rattle.assembly.specs.Words.{words}
 use Rattle.assembly.specs.declared.Mistake.{Mistake}
 use Rattle.listing.specs.Listing.{listing}
-use Rattle.model.proofs.TestLaws.{pick_true}
+use Rattle.model.proofs.TestLaws.{impossible, pick_true}
 use Rattle.model.specs.Check.{check}
 use Rattle.round_trip.proofs.Assembling.{words_are, lines_free}
 use Rattle.round_trip.proofs.Reading.{lines_of_listing, count_of_listing, listing-fits}
@@ -29,8 +29,9 @@ round_trip p passed =
     (pick_true _ _ (listing-fits p passed) ∙ through lines_mistake p passed ∙ lines_free p passed, through words p passed ∙ words_are p passed)
 
 pub libraries_round_trip : LibrariesRoundTrip
-libraries_round_trip p text left listed made passed lists assembles =
-    let accepted = lists.checked ∙ passed in
-    let text-is = lists.listed accepted in
-    let mistake = assembles.mistake ∙ ap assemble_mistake text-is ∙ (round_trip p passed).0 in
-    (mistake, assembles.made (ap (λ (m : Mistake). m.number) mistake) ∙ ap assembled text-is ∙ (round_trip p passed).1)
+libraries_round_trip p text left (Ok end) made passed lists assembles =
+    let text-is = lists.listed end refl in
+    let promised = assembles end refl in
+    let mistake = promised.mistake ∙ ap assemble_mistake text-is ∙ (round_trip p passed).0 in
+    (mistake, promised.made (ap (λ (m : Mistake). m.number) mistake) ∙ ap assembled text-is ∙ (round_trip p passed).1)
+libraries_round_trip p text left (Err refusal) made passed lists assembles = let refused = lists.refused refusal refl in impossible (cc)

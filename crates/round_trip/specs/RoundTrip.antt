@@ -1,12 +1,12 @@
 -- docs/ASSEMBLY.md: "`assemble` of what `disassemble` prints gives the same words, for every program that the check accepts". Assumes nothing.
-use Rattle.model.specs.Types.{Ok}
+use Rattle.model.specs.Types.{Ok, Result}
+use Rattle.model.specs.declared.Refusal.{Refusal}
 use Rattle.std.specs.Prelude.{ℕ, List, ◌≡◌, take}
 use Rattle.assembly.specs.Assembles.{Assembles, assemble_mistake, assembled}
 use Rattle.assembly.specs.Mistakes.{mistake_at}
 use Rattle.assembly.specs.declared.Assembled.{Assembled}
 use Rattle.listing.specs.Listing.{listing}
 use Rattle.listing.specs.Lists.{Lists}
-use Rattle.listing.specs.declared.Listed.{Listed}
 use Rattle.model.specs.Check.{check}
 
 -- of the definitions: the text that is printed has no mistake, and its words are the program
@@ -16,8 +16,8 @@ RoundTrip = (p : List ℕ) → check p ≡ Ok tt → (assemble_mistake (listing 
 -- of the two libraries, from their promises alone: what disassemble left of a text, assemble made into words
 abbrev pub LibrariesRoundTrip : Type 0
 LibrariesRoundTrip =
-    (p text left : List ℕ) (listed : Listed) (made : Assembled)
+    (p text left : List ℕ) (listed : Result ℕ Refusal) (made : Assembled)
     → check p ≡ Ok tt
     → Lists p text listed
-    → Assembles (take listed.end text) left made
+    → ((end : ℕ) → listed ≡ Ok end → Assembles (take end text) left made)
     → (made.mistake ≡ mistake_at 0 0) × (take made.count left ≡ p)
