@@ -3,18 +3,20 @@ use Prim.Native.Nat.{ℕ, zero, suc, ◌+◌, ◌≤◌, ◌<◌}
 use mathlib.Core.Bool.{Bool, true, false}
 use mathlib.Core.List.{List, [], ◌∷◌, ◌++◌}
 use mathlib.Core.Logic.{◌≢◌}
-use mathlib.Core.Path.{◌≡◌, refl, sym}
+use mathlib.Core.Path.{◌≡◌, refl, sym, ap}
 use native.Mathlib.Omega.{arith}
 use borrow.Author.Tests.{eq-eqb, ne_eqb}
 use lib.Dec.{eqb}
+use Rattle.std.specs.Prelude.{Some}
 use native.Mathlib.Numerals.{add-one}
-use lib.ListN.{length, get_or, drop, get_or-eq_default}
-use lib.Seq.{drop-cons, drop-length}
+use lib.ListN.{length, get_or, set, take, drop, get_or-eq_default}
+use lib.Seq.{drop-cons, drop-length, take-suc-set}
 use Rattle.text.proofs.TextLaws.{puts_nothing, puts_as}
 use Rattle.text.specs.Puts.{Puts}
 use Rattle.model.proofs.TestLaws.{pick_true, pick-false}
 use Rattle.model.specs.Test.{pick}
-use Rattle.tokens.specs.Tokens.{line_feed, start, next, finished, lines_from, line_count, named, statement_names, all_named}
+use Rattle.tokens.specs.Tokens.{line_feed, start, next, finished, lines_from, line_count, named, statement_names, all_named, wrong_number, all_numbers}
+use Rattle.tokens.specs.declared.SourceLine.{SourceLine}
 use Rattle.tokens.specs.declared.Reading.{Reading}
 
 pub table_length : length (all_named statement_names) ≡ 22
@@ -70,3 +72,19 @@ puts_name n k puts e name = rw e (puts_as puts name)
 
 pub puts_no_name : (t : List ℕ) (at n : ℕ) → 22 ≤ n → Puts t at t at (get_or statement_names n [])
 puts_no_name t at n h = puts_as (puts_nothing t at) (sym (get_or-eq_default statement_names [] (rw names-length h)))
+
+-- ---- Lines in a room, as six numbers each
+
+pub numbers_append : (ls ks : List SourceLine) → all_numbers (ls ++ ks) ≡ all_numbers ls ++ all_numbers ks
+unfolding all_numbers
+numbers_append [] ks = refl
+numbers_append (l ∷ ls) ks =
+    ap (λ (ns : List ℕ). wrong_number l.wrong ∷ l.label ∷ l.statement ∷ l.first ∷ l.second ∷ l.third ∷ ns) (numbers_append ls ks)
+
+-- a line that was put behind those that stand there
+pub numbers_set : (room : List SourceLine) (at : ℕ) (l : SourceLine) → at < length room
+    → all_numbers (take (at + 1) (set room at l)) ≡ all_numbers (take at room) ++ all_numbers (l ∷ [])
+numbers_set room at l h = rw (add-one, take-suc-set room at l h) (numbers_append (take at room) (l ∷ []))
+
+pub same_some : {n m : ℕ} → Some n ≡ Some m → n ≡ m
+same_some e = cc

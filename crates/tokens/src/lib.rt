@@ -1,9 +1,9 @@
-// The lines of a text, each as six numbers: what is wrong in it, its label, its statement and the words behind that.
+// The lines of a text: what is wrong in each, its label, its statement and the words behind that.
 
 #![tactic(auto)]
 
 ghost use Rattle.std.specs.Prelude.{◌+◌, ◌*◌, ◌<◌, ◌≤◌, eqb, length, take, ◌++◌, ◌≡◌};
-ghost use Rattle.tokens.specs.Tokens.{start as start_of, numbers as numbers_of, line_feed, line_count};
+ghost use Rattle.tokens.specs.Tokens.{start as start_of, numbers as numbers_of, line_feed, line_count, all_numbers};
 ghost use Rattle.tokens.specs.Reads.{Small, Takes, Reads};
 ghost use Rattle.model.specs.Test.{pick};
 
@@ -22,10 +22,32 @@ pub enum Kind {
     Name,
 }
 
+// What is wrong in a line.
+#[derive(Clone, Copy)]
+pub enum Wrong {
+    Character,
+    NumberLarge,
+    NumberForm,
+    NameLong,
+    WordsMany,
+    Colon,
+}
+
+// A line: its label, the number of its statement and the words behind that, 0 where there is none.
+#[derive(Clone, Copy)]
+pub struct SourceLine {
+    pub wrong: Option<Wrong>,
+    pub label: u64,
+    pub statement: u64,
+    pub first: u64,
+    pub second: u64,
+    pub third: u64,
+}
+
 // A line, as far as it is read.
 #[derive(Clone, Copy)]
 pub struct Reading {
-    pub wrong: u64,
+    pub wrong: Option<Wrong>,
     pub label: u64,
     pub first: u64,
     pub second: u64,
@@ -42,7 +64,7 @@ fn start() -> Reading
     ensures small_value { Small result }
 {
     Reading {
-        wrong: 0,
+        wrong: None,
         label: 0,
         first: 0,
         second: 0,
@@ -54,20 +76,19 @@ fn start() -> Reading
     }
 }
 
-// A line's numbers at a place of the room.
-#[tactic(auto, using(std::proofs::lemmas::Slice::overwrites), unfolding(crate::specs::Tokens::numbers))]
-fn write(room: &mut [u64], at: usize, reading: Reading)
-    requires { at + 6 ≤ length room.old }
-    ensures { take (at + 6) room.new ≡ take at room.old ++ numbers_of reading }
+// A line at a place of the room.
+fn write(room: &mut [SourceLine], at: usize, reading: Reading)
+    requires { at < length room.old }
+    ensures { all_numbers (take (at + 1) room.new) ≡ all_numbers (take at room.old) ++ numbers_of reading }
 {
-    room[at..at + 6].copy_from_slice(&[
-        reading.wrong,
-        reading.label,
-        statements::statement(reading.first),
-        reading.second,
-        reading.third,
-        reading.fourth,
-    ]);
+    room[at] = SourceLine {
+        wrong: reading.wrong,
+        label: reading.label,
+        statement: statements::statement(reading.first),
+        first: reading.second,
+        second: reading.third,
+        third: reading.fourth,
+    };
 }
 
 // A line feed ends one line more.
@@ -98,15 +119,15 @@ pub struct Progress {
 }
 
 // A byte of the text.
-fn take(room: &mut [u64], byte: u8, progress: Progress) -> Progress
-    requires room_left { 6 * progress.done + 6 ≤ length room.old }
+fn take(room: &mut [SourceLine], byte: u8, progress: Progress) -> Progress
+    requires room_left { progress.done < length room.old }
     requires small_value { Small progress.reading }
     ensures { Takes byte room.old progress room.new result }
 {
     let done = progress.done;
     let reading = progress.reading;
     if byte == b'\n' {
-        write(room, 6 * done, line::last(reading));
+        write(room, done, line::last(reading));
         return Progress {
             done: done + 1,
             reading: start(),
@@ -118,13 +139,13 @@ fn take(room: &mut [u64], byte: u8, progress: Progress) -> Progress
     }
 }
 
-// The lines of a text, six numbers each, and how many they are; 0 where there isn't room for them.
-pub fn read(text: &[u8], room: &mut [u64]) -> usize
+// The lines of a text, and how many they are; none where there isn't room for them.
+pub fn read(text: &[u8], room: &mut [SourceLine]) -> Option<usize>
     ensures { Reads text.now room.new result }
 {
     let lines = count(text);
-    if lines > room.len() / 6 {
-        return 0;
+    if lines > room.len() {
+        return None;
     }
     let mut progress = Progress {
         done: 0,
@@ -133,7 +154,6 @@ pub fn read(text: &[u8], room: &mut [u64]) -> usize
     for &byte in text {
         progress = take(room, byte, progress);
     }
-    let reading = progress.reading;
-    write(room, 6 * progress.done, line::last(reading));
-    lines
+    write(room, progress.done, line::last(progress.reading));
+    Some(lines)
 }

@@ -4,19 +4,7 @@ ghost use Rattle.tokens.specs.Tokens.{character as character_of, is_space, mista
 ghost use Rattle.tokens.specs.Reads.{Small};
 ghost use Rattle.tokens.specs.declared.Kind.{Kind};
 
-use crate::{Kind, Reading};
-
-const CHARACTER_WRONG: u64 = 1;
-
-const NUMBER_LARGE: u64 = 2;
-
-const NUMBER_FORM: u64 = 3;
-
-const NAME_LONG: u64 = 4;
-
-const WORDS_MANY: u64 = 5;
-
-const COLON_WRONG: u64 = 6;
+use crate::{Kind, Reading, Wrong};
 
 // The least value of a name of 12 characters: 38 to the 11.
 const TWELVE: u64 = 238572050223552512;
@@ -44,12 +32,15 @@ fn is_space(byte: u8) -> bool
 }
 
 #[tactic(auto, unfolding(crate::specs::Tokens::mistaken))]
-fn mistaken(reading: Reading, wrong: u64) -> Reading
+fn mistaken(reading: Reading, wrong: Wrong) -> Reading
     requires { Small reading }
     ensures value { result ≡ mistaken_of reading wrong }
     ensures small_value { Small result }
 {
-    Reading { wrong, ..reading }
+    Reading {
+        wrong: Some(wrong),
+        ..reading
+    }
 }
 
 #[tactic(auto, unfolding(crate::specs::Tokens::with_word))]
@@ -112,14 +103,14 @@ fn digit(reading: Reading, kind: Kind, base: u64, character: u64) -> Reading
     ensures small_value { Small result }
 {
     if character > base {
-        return mistaken(reading, NUMBER_FORM);
+        return mistaken(reading, Wrong::NumberForm);
     }
     if reading.value > 65535 {
-        return mistaken(reading, NUMBER_LARGE);
+        return mistaken(reading, Wrong::NumberLarge);
     }
     let value = base * reading.value + (character - 1);
     if value > 65535 {
-        return mistaken(reading, NUMBER_LARGE);
+        return mistaken(reading, Wrong::NumberLarge);
     }
     with_word(reading, kind, value)
 }
@@ -163,7 +154,7 @@ fn longer(reading: Reading, character: u64) -> Reading
     ensures small_value { Small result }
 {
     if reading.value >= TWELVE {
-        return mistaken(reading, NAME_LONG);
+        return mistaken(reading, Wrong::NameLong);
     }
     with_word(reading, Kind::Name, 38 * reading.value + character)
 }
@@ -207,7 +198,7 @@ fn added(reading: Reading, word: u64) -> Reading
     if reading.fourth == 0 {
         return with_words(reading, label, first, second, third, word);
     }
-    mistaken(reading, WORDS_MANY)
+    mistaken(reading, Wrong::WordsMany)
 }
 
 // Where a word ends.
@@ -220,7 +211,7 @@ fn ended(reading: Reading) -> Reading
     match reading.kind {
         Kind::Nothing => reading,
         Kind::Zero | Kind::Decimal | Kind::Hex => added(reading, reading.value + 1),
-        Kind::HexMark => mistaken(reading, NUMBER_FORM),
+        Kind::HexMark => mistaken(reading, Wrong::NumberForm),
         Kind::Name => added(reading, reading.value + 65536),
     }
 }
@@ -232,11 +223,11 @@ fn labelled(reading: Reading) -> Reading
     ensures value { result ≡ if_right reading (labelled_of reading) }
     ensures small_value { Small result }
 {
-    if reading.wrong != 0 {
+    if reading.wrong.is_some() {
         return reading;
     }
     if reading.first <= 65535 || reading.second != 0 || reading.label != 0 {
-        return mistaken(reading, COLON_WRONG);
+        return mistaken(reading, Wrong::Colon);
     }
     with_words(reading, reading.first, 0, 0, 0, 0)
 }
@@ -258,7 +249,7 @@ fn read_byte(reading: Reading, byte: u8) -> Reading
     }
     let character = character(byte);
     if character == 0 {
-        return mistaken(reading, CHARACTER_WRONG);
+        return mistaken(reading, Wrong::Character);
     }
     goes_on(reading, character)
 }
@@ -270,7 +261,7 @@ pub fn next(reading: Reading, byte: u8) -> Reading
     ensures value { result ≡ next_of reading byte }
     ensures small_value { Small result }
 {
-    if reading.wrong != 0 || reading.comment {
+    if reading.wrong.is_some() || reading.comment {
         return reading;
     }
     read_byte(reading, byte)
@@ -283,7 +274,7 @@ pub fn last(reading: Reading) -> Reading
     ensures value { result ≡ last_of reading }
     ensures small_value { Small result }
 {
-    if reading.wrong != 0 || reading.comment {
+    if reading.wrong.is_some() || reading.comment {
         return reading;
     }
     ended(reading)
