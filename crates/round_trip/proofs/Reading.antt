@@ -10,7 +10,7 @@ use borrow.Author.Tests.{ltb-true, leb-true, le-leb}
 use lib.Dec.{eqb, ltb, leb}
 use lib.ListN.{length, get_or, length-append}
 use Rattle.assembly.specs.Lines.{task_line}
-use Rattle.assembly.specs.declared.Line.{Line}
+use Rattle.assembly.specs.Lines.{Line}
 use Rattle.listing.proofs.ListingLaws.{sound_printable}
 use Rattle.listing.specs.Listing.{task_name, transaction_name, has_number, transaction_line, transaction_lines, register, target, instruction_text, instruction_line, instruction_lines, transaction_word, heading, body_lines, first_lines, listing}
 use Rattle.model.proofs.ProgramLaws.{row-passed, check-passed}

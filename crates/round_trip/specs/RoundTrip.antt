@@ -4,7 +4,7 @@ use Rattle.model.specs.declared.Refusal.{Refusal}
 use Rattle.std.specs.Prelude.{ℕ, List, ◌≡◌, take}
 use Rattle.assembly.specs.Assembles.{Assembles, assemble_mistake, assembled}
 use Rattle.assembly.specs.Mistakes.{mistake_at}
-use Rattle.assembly.specs.declared.Assembled.{Assembled}
+use Rattle.assembly.specs.declared.Mistake.{Mistake}
 use Rattle.listing.specs.Listing.{listing}
 use Rattle.listing.specs.Lists.{Lists}
 use Rattle.model.specs.Check.{check}
@@ -16,8 +16,8 @@ RoundTrip = (p : List ℕ) → check p ≡ Ok tt → (assemble_mistake (listing 
 -- of the two libraries, from their promises alone: what disassemble left of a text, assemble made into words
 abbrev pub LibrariesRoundTrip : Type 0
 LibrariesRoundTrip =
-    (p text left : List ℕ) (listed : Result ℕ Refusal) (made : Assembled)
+    (p text left : List ℕ) (listed : Result ℕ Refusal) (made : Result ℕ Mistake)
     → check p ≡ Ok tt
     → Lists p text listed
     → ((end : ℕ) → listed ≡ Ok end → Assembles (take end text) left made)
-    → (made.mistake ≡ mistake_at 0 0) × (take made.count left ≡ p)
+    → (count : ℕ) × (made ≡ Ok count) × (take count left ≡ p)
