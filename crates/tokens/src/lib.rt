@@ -44,6 +44,18 @@ pub struct SourceLine {
     pub third: u64,
 }
 
+impl SourceLine {
+    // A line with nothing in it.
+    pub const BLANK: SourceLine = SourceLine {
+        wrong: None,
+        label: 0,
+        statement: 0,
+        first: 0,
+        second: 0,
+        third: 0,
+    };
+}
+
 // A line, as far as it is read.
 #[derive(Clone, Copy)]
 pub struct Reading {
