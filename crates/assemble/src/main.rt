@@ -52,11 +52,7 @@ fn assemble(rt: &HostRuntime, command: Command, text: &[u8]) -> io::Result<()> {
     Ok(())
 }
 
-fn assemble_input(
-    rt: &HostRuntime,
-    command: Command,
-    text: &mut [u8; 1048577],
-) -> io::Result<()> {
+fn assemble_input(rt: &HostRuntime, command: Command, text: &mut [u8; 1048577]) -> io::Result<()> {
     let got = command::read_input(rt, command.input, text);
     if got.ok && got.count <= text.len() {
         return assemble(rt, command, &text[..got.count]);
