@@ -1,6 +1,6 @@
 -- Laws of the first mistake of all: where there is none, the words fit and the check accepts them. Assumes nothing.
 use Rattle.model.specs.Types.{Checked, Err, Ok}
-use Prim.Native.Nat.{ℕ, suc, ◌*◌, ◌≤◌, ◌<◌, min}
+use Prim.Native.Nat.{ℕ, suc, ◌≤◌, ◌<◌, min}
 use mathlib.Core.Bool.{Bool, true, false}
 use mathlib.Core.List.{List}
 use mathlib.Core.Logic.{◌≢◌}
@@ -17,7 +17,6 @@ use Rattle.std.specs.Prelude.{Option, Some, None}
 use Rattle.model.proofs.TestLaws.{impossible, pick_true, pick-false}
 use Rattle.model.specs.Test.{pick}
 use Rattle.text.specs.Puts.{Puts}
-use Rattle.tokens.proofs.LineLaws.{count-least}
 use Rattle.tokens.specs.Tokens.{line_count}
 use Rattle.assembly.specs.Mistakes.{MistakeNumbers, mistake_at, kind_number, or_else, mistake_if, or_next, text_mistake, of_text, mistake_of, program_length}
 use Rattle.assembly.specs.Rules.{size_mistake, row_mistake, operand_mistake, instruction_mistake, instruction_rule, rule_number, explained_by, rule_mistake, lines_mistake}

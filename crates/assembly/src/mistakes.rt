@@ -88,11 +88,7 @@ fn missing_transaction(lines: &[SourceLine], name: u64) -> bool
 }
 
 #[tactic(auto, using(model::proofs::TestLaws::tests, crate::proofs::MistakeLaws::in_turn))]
-fn name_mistake(
-    lines: &[SourceLine],
-    start: usize,
-    line: SourceLine,
-) -> Result<(), MistakeKind>
+fn name_mistake(lines: &[SourceLine], start: usize, line: SourceLine) -> Result<(), MistakeKind>
     requires { start ≤ length lines.now }
     ensures { found_number result ≡ name_mistake_of (all_numbers lines.now) (length lines.now) start (as_line line) }
 {
@@ -150,7 +146,11 @@ pub fn next_start(lines: &[SourceLine], start: usize, i: usize) -> usize
     ensures value { result ≡ pick (is_body (line_at (all_numbers lines.now) i)) (i + 1) start }
     ensures upper_bound { result ≤ i + 1 }
 {
-    if lines::is_body(lines[i]) { i + 1 } else { start }
+    if lines::is_body(lines[i]) {
+        i + 1
+    } else {
+        start
+    }
 }
 
 #[tactic(auto, using(crate::proofs::MistakeLaws::among_in_turn))]

@@ -17,11 +17,7 @@ fn label_outside(start: usize, line: SourceLine) -> bool
 
 // Its label, behind the lines of its body so far.
 #[tactic(auto, using(model::proofs::TestLaws::tests, crate::proofs::MistakeLaws::in_turn), unfolding(model::specs::Test::pick))]
-pub fn label_mistake(
-    start: usize,
-    line: SourceLine,
-    body: &[SourceLine],
-) -> Result<(), MistakeKind>
+pub fn label_mistake(start: usize, line: SourceLine, body: &[SourceLine]) -> Result<(), MistakeKind>
     ensures { found_number result ≡ label_mistake_of start (as_line line) (as_lines body.now) }
 {
     if line.label == 0 {

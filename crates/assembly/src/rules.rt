@@ -52,7 +52,14 @@ fn row_mistake(words: &[u16], i: u16) -> MistakeKind
 
 // The rules of k by the opcode, where the registers are right.
 #[tactic(auto, using(model::proofs::TestLaws::tests), unfolding(crate::specs::Rules::operand_mistake, crate::specs::Mistakes::or_else, crate::specs::Mistakes::mistake_if, model::specs::Test::pick, model::specs::Test::both))]
-fn operand_mistake(memory: u16, tasks: u16, count: u16, is_task: bool, opcode: u16, k: u16) -> MistakeKind
+fn operand_mistake(
+    memory: u16,
+    tasks: u16,
+    count: u16,
+    is_task: bool,
+    opcode: u16,
+    k: u16,
+) -> MistakeKind
     ensures { kind_number result ≡ operand_mistake memory tasks count is_task opcode k }
 {
     if opcode == SHR && k >= 16 {

@@ -2,14 +2,31 @@
 
 #![tactic(auto)]
 
-ghost use Rattle.std.specs.Prelude.{◌≤◌, ◌≡◌, length, get_or, []};
+ghost use Rattle.std.specs.Prelude.{◌≤◌, ◌≡◌, length, get_or, [], Some};
 ghost use Rattle.text.specs.Puts.{Puts};
 ghost use Rattle.assembly.specs.Mistakes.{kind_number, mistake_at};
+ghost use Rattle.tokens.specs.Tokens.{wrong_number};
 ghost use Rattle.mistakes.specs.Told.{mistake_texts, told};
 
 use assembly::{Mistake, MistakeKind};
-use tokens::Wrong;
 use text::{decimal, put};
+use tokens::Wrong;
+
+// What is wrong in a line as it is read, in words.
+#[tactic(auto, unfolding(crate::specs::Told::mistake_texts))]
+fn reading_words(wrong: Wrong) -> &'static [u8]
+    ensures value { result.now ≡ get_or mistake_texts (wrong_number (Some wrong)) [] }
+    ensures upper_bound { length result.now ≤ 60 }
+{
+    match wrong {
+        Wrong::Character => b"this character can't stand here",
+        Wrong::NumberLarge => b"a number is at most 65535",
+        Wrong::NumberForm => b"a number is decimal digits, or 0x and hex digits",
+        Wrong::NameLong => b"a name has at most 12 characters",
+        Wrong::WordsMany => b"a line has at most four words behind its label",
+        Wrong::Colon => b"a colon stands behind the line's first word, a name",
+    }
+}
 
 // What a mistake is, in words.
 #[tactic(auto, unfolding(crate::specs::Told::mistake_texts))]
@@ -18,12 +35,7 @@ fn words(kind: MistakeKind) -> &'static [u8]
     ensures upper_bound { length result.now ≤ 60 }
 {
     match kind {
-        MistakeKind::Reading(Wrong::Character) => b"this character can't stand here",
-        MistakeKind::Reading(Wrong::NumberLarge) => b"a number is at most 65535",
-        MistakeKind::Reading(Wrong::NumberForm) => b"a number is decimal digits, or 0x and hex digits",
-        MistakeKind::Reading(Wrong::NameLong) => b"a name has at most 12 characters",
-        MistakeKind::Reading(Wrong::WordsMany) => b"a line has at most four words behind its label",
-        MistakeKind::Reading(Wrong::Colon) => b"a colon stands behind the line's first word, a name",
+        MistakeKind::Reading(wrong) => reading_words(wrong),
         MistakeKind::NoStatement => b"no statement begins so",
         MistakeKind::WordCount => b"this statement has another number of words",
         MistakeKind::NameDue => b"a name is due here",

@@ -3,7 +3,7 @@ use Prim.Native.Nat.{ℕ, zero, suc, ◌+◌, ◌≤◌, ◌<◌}
 use mathlib.Core.Bool.{Bool, true, false}
 use mathlib.Core.List.{List, [], ◌∷◌, ◌++◌}
 use mathlib.Core.Logic.{◌≢◌}
-use mathlib.Core.Path.{◌≡◌, refl, sym, ap}
+use mathlib.Core.Path.{◌≡◌, refl, sym, ap, ◌∙◌}
 use native.Mathlib.Omega.{arith}
 use borrow.Author.Tests.{eq-eqb, ne_eqb}
 use lib.Dec.{eqb}
@@ -88,3 +88,12 @@ numbers_set room at l h = rw (add-one, take-suc-set room at l h) (numbers_append
 
 pub same_some : {n m : ℕ} → Some n ≡ Some m → n ≡ m
 same_some e = cc
+
+-- the word of the name that was put
+pub word_put : (n end : ℕ) {t u : List ℕ} → Puts t 0 u end (get_or statement_names n []) → n < 22 → named (take end u) ≡ get_or (all_named statement_names) n 0
+word_put n end puts h = ap named puts.text ∙ named-at statement_names n (rw names-length h)
+
+pub no_word : (n : ℕ) → 22 ≤ n → 0 ≡ get_or (all_named statement_names) n 0
+no_word n h = sym (get_or-eq_default (all_named statement_names) 0 (rw table_length h))
+
+pub ruleset statement_words = (word_put, no_word)

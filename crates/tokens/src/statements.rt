@@ -53,6 +53,7 @@ pub fn put_name(text: &mut [u8], at: usize, n: u64) -> usize
 }
 
 // The word of the name of statement n + 1; 0 behind the last.
+#[tactic(auto, using(crate::proofs::LineLaws::statement_words))]
 fn word(n: u64) -> u64
     ensures { result ≡ statement_word n }
 {

@@ -1,18 +1,17 @@
 -- `assemble_lines` meets its contract. Assumes nothing.
 use Prim.Native.Nat.{ℕ}
 use mathlib.Core.List.{List}
-use mathlib.Core.Path.{◌≡◌, refl, sym, ap, subst, ◌∙◌}
+use mathlib.Core.Path.{◌≡◌, sym, ap, subst, ◌∙◌}
 use native.Mathlib.Omega.{arith}
 use borrow.Author.Rules.{rules}
 use lib.ListN.{length}
 use Rattle.assembly.proofs.AssembleLaws.{short-enough, put_inside, makes_mistake, makes_words}
 use Rattle.assembly.proofs.MistakeLaws.{all_first, all_next}
 use Rattle.assembly.specs.Assembles.{AssemblesLines}
-use Rattle.assembly.specs.Mistakes.{MistakeNumbers, mistake_of, mistake_at, mistake_numbers}
+use Rattle.assembly.specs.Mistakes.{MistakeNumbers, mistake_of, mistake_numbers}
 use Rattle.assembly.specs.Rules.{lines_mistake, rule_mistake}
-use Rattle.assembly.specs.declared.Mistake.{Mistake}
 use Rattle.model.specs.Check.{check}
-use Rattle.model.specs.Types.{Checked, Err, Ok, Result}
+use Rattle.model.specs.Types.{Err}
 use Rattle.tokens.specs.Tokens.{all_numbers}
 use Rattle.assembly.proofs.assemble_lines.Goals as goal
 
