@@ -1,9 +1,10 @@
 -- Laws of a text's lines: how many there are, and what a byte brings. Assumes nothing.
-use Prim.Native.Nat.{ℕ, zero, suc, ◌+◌, ◌≤◌, ◌<◌}
+use Prim.Native.Nat.{ℕ, zero, suc, ◌+◌, ◌*◌, ◌^◌, ◌≤◌, ◌<◌}
 use mathlib.Core.Bool.{Bool, true, false}
 use mathlib.Core.List.{List, [], ◌∷◌, ◌++◌}
 use mathlib.Core.Logic.{◌≢◌}
 use mathlib.Core.Path.{◌≡◌, refl, sym, ap, ◌∙◌}
+use native.Mathlib.Nat.{pow-suc, pow-le-pow_right}
 use native.Mathlib.Omega.{arith}
 use borrow.Author.Tests.{eq-eqb, ne_eqb}
 use lib.Dec.{eqb}
@@ -15,7 +16,7 @@ use Rattle.text.proofs.TextLaws.{puts_nothing, puts_as}
 use Rattle.text.specs.Puts.{Puts}
 use Rattle.model.proofs.TestLaws.{pick_true, pick-false}
 use Rattle.model.specs.Test.{pick}
-use Rattle.tokens.specs.Tokens.{line_feed, start, next, finished, lines_from, line_count, named, statement_names, all_named, wrong_number, all_numbers}
+use Rattle.tokens.specs.Tokens.{line_feed, start, next, finished, lines_from, line_count, named, statement_names, all_named, number_of, statement, character, spelled, wrong_number, all_numbers}
 use Rattle.tokens.specs.declared.SourceLine.{SourceLine}
 use Rattle.tokens.specs.declared.Reading.{Reading}
 
@@ -97,3 +98,58 @@ pub no_word : (n : ℕ) → 22 ≤ n → 0 ≡ get_or (all_named statement_names
 no_word n h = sym (get_or-eq_default (all_named statement_names) 0 (rw table_length h))
 
 pub ruleset statement_words = (word_put, no_word)
+
+-- the statement of a word, as far as the names are gone through
+pub statement_none : (first : ℕ) → first ≡ 0 → 0 ≡ statement first
+unfolding statement
+statement_none first e = sym (pick_true _ _ (eq-eqb _ _ e))
+
+pub statement_is : (first n : ℕ) → first ≢ 0 → n ≡ number_of (all_named statement_names) first 1 → n ≡ statement first
+unfolding statement
+statement_is first n some e = e ∙ sym (pick-false _ _ (ne_eqb _ _ some))
+
+module _ (first n : ℕ) (h : n < 22) where
+  names_here : drop n (all_named statement_names) ≡ get_or (all_named statement_names) n 0 ∷ drop (suc n) (all_named statement_names)
+  names_here = drop-cons (all_named statement_names) n 0 (rw table_length h)
+
+  pub number_here : first ≡ get_or (all_named statement_names) n 0 → n + 1 ≡ number_of (drop n (all_named statement_names)) first (n + 1)
+  unfolding number_of
+  number_here e = rw names_here (sym (pick_true _ _ (eq-eqb _ _ e)))
+
+  pub number_next : first ≢ get_or (all_named statement_names) n 0
+      → number_of (drop n (all_named statement_names)) first (n + 1) ≡ number_of (drop (n + 1) (all_named statement_names)) first (n + 1 + 1)
+  unfolding number_of
+  number_next e = rw (names_here, add-one n) (pick-false _ _ (ne_eqb _ _ e))
+
+pub number_end : (first n : ℕ) → n ≡ 22 → number_of (drop n (all_named statement_names)) first (n + 1) ≡ 23
+unfolding number_of
+number_end first n e = rw (e, ← table_length, drop-length (all_named statement_names)) (omega (arith, table_length))
+
+pub ruleset statement_of_word = (statement_none, statement_is, number_here, number_next, number_end)
+
+pub ruleset counting = (count_step, count-end)
+
+-- a name's value, as far as its characters are gone through: small enough for one more, and what it spells with those to come
+pub name_room : (value i : ℕ) → value < 38 ^ i → i < 12 → 38 * value + 38 ≤ 38 ^ 12
+name_room value i h l =
+    let most : 38 ^ i ≤ 38 ^ 11 = pow-le-pow_right {n = 38} (omega arith) {i = i} {j = 11} (omega arith) in
+    omega (arith, most)
+
+pub name_most : (value i : ℕ) → value < 38 ^ i → i ≤ 12 → value < 38 ^ 12
+name_most value i h l =
+    let most : 38 ^ i ≤ 38 ^ 12 = pow-le-pow_right {n = 38} (omega arith) {i = i} {j = 12} l in
+    omega (arith, most)
+
+pub name_more : (value c i : ℕ) → value < 38 ^ i → c < 38 → 38 * value + c < 38 ^ (i + 1)
+name_more value c i h l = rw add-one (omega (arith, pow-suc 38 i))
+
+pub spelled_step : (value : ℕ) (bytes : List ℕ) (i : ℕ) → i < length bytes
+    → spelled value (drop i bytes) ≡ spelled (38 * value + character (get_or bytes i 0)) (drop (i + 1) bytes)
+unfolding spelled
+spelled_step value bytes i h = rw (add-one, drop-cons bytes i 0) refl
+
+pub spelled_end : (value : ℕ) (bytes : List ℕ) (i : ℕ) → i ≡ length bytes → spelled value (drop i bytes) ≡ value
+unfolding spelled
+spelled_end value bytes i e = rw (e, drop-length bytes) refl
+
+pub ruleset spelling = (name_room, name_most, name_more, spelled_step, spelled_end)

@@ -113,6 +113,7 @@ fn feed(byte: u8) -> usize
 }
 
 // How many lines the text has.
+#[tactic(auto, using(crate::proofs::LineLaws::counting))]
 fn count(text: &[u8]) -> usize
     ensures { result ≡ line_count text.now }
 {

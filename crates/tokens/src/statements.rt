@@ -7,6 +7,7 @@ use crate::line;
 use text::put;
 
 // The word of a name's bytes.
+#[tactic(auto, using(crate::proofs::LineLaws::spelling))]
 fn named(bytes: &[u8]) -> u64
     requires { length bytes.now ≤ 12 }
     ensures { result ≡ named_of bytes.now }
@@ -66,6 +67,7 @@ fn word(n: u64) -> u64
 }
 
 // The statement that a word begins: 0 where there is none, 23 where it is no statement's name.
+#[tactic(auto, using(crate::proofs::LineLaws::statement_of_word))]
 pub fn statement(first: u64) -> u64
     ensures { result ≡ statement_of first }
 {
