@@ -1,5 +1,6 @@
 -- Laws of the first mistake of all: where there is none, the words fit and the check accepts them. Assumes nothing.
-use Prim.Native.Nat.{ℕ, suc, ◌*◌, ◌≤◌, ◌<◌, min}
+use Rattle.model.specs.Types.{Checked, Err, Ok}
+use Prim.Native.Nat.{ℕ, suc, ◌≤◌, ◌<◌, min}
 use mathlib.Core.Bool.{Bool, true, false}
 use mathlib.Core.List.{List}
 use mathlib.Core.Logic.{◌≢◌}
@@ -7,32 +8,34 @@ use mathlib.Core.Path.{◌≡◌, refl, sym, ap, ◌∙◌}
 use native.Mathlib.Omega.{arith}
 use borrow.Author.Tests.{eqb-true, eqb-false, eq-eqb, ne_eqb, leb-true, leb-false, ltb-false}
 use lib.Dec.{eqb, leb}
-use lib.ListN.{length, length-take}
-use Rattle.model.proofs.TestLaws.{pick_true, pick-false}
-use Rattle.model.specs.Test.{pick}
-use Rattle.model.specs.declared.Checked.{Checked}
-use Rattle.text.specs.Puts.{Puts}
-use Rattle.tokens.proofs.LineLaws.{count-least}
-use Rattle.tokens.specs.Tokens.{line_count}
-use Rattle.assembly.specs.Mistakes.{or_else, mistake_if, or_next, text_mistake, of_text, mistake_of, program_length}
-use Rattle.assembly.specs.Rules.{size_mistake, row_mistake, operand_mistake, instruction_mistake, instruction_rule, rule_number, explained_by, rule_mistake}
+use lib.ListN.{length, take, length-take}
+use Rattle.assembly.specs.Assembles.{AssemblesLines, Assembles, assemble_mistake}
+use Rattle.assembly.specs.Words.{words}
 use Rattle.assembly.specs.declared.Mistake.{Mistake}
+use Rattle.model.specs.Check.{check}
+use Rattle.std.specs.Prelude.{Option, Some, None}
+use Rattle.model.proofs.TestLaws.{impossible, pick_true, pick-false}
+use Rattle.model.specs.Test.{pick}
+use Rattle.text.specs.Puts.{Puts}
+use Rattle.tokens.specs.Tokens.{line_count}
+use Rattle.assembly.specs.Mistakes.{MistakeNumbers, mistake_at, kind_number, or_else, mistake_if, or_next, text_mistake, of_text, mistake_of, program_length}
+use Rattle.assembly.specs.Rules.{size_mistake, row_mistake, operand_mistake, instruction_mistake, instruction_rule, rule_number, explained_by, rule_mistake, lines_mistake}
 
 -- ---- Of two mistakes
 
-pub next_is : (m k : Mistake) → m.number ≡ 0 → or_next m k ≡ k
+pub next_is : (m k : MistakeNumbers) → m.number ≡ 0 → or_next m k ≡ k
 unfolding or_next
 next_is m k e = pick_true _ _ (eq-eqb _ _ e)
 
-pub first_is : (m k : Mistake) → m.number ≢ 0 → or_next m k ≡ m
+pub first_is : (m k : MistakeNumbers) → m.number ≢ 0 → or_next m k ≡ m
 unfolding or_next
 first_is m k e = pick-false _ _ (ne_eqb _ _ e)
 
-next-none : (m k : Mistake) → (or_next m k).number ≡ 0 → k.number ≡ 0
+next-none : (m k : MistakeNumbers) → (or_next m k).number ≡ 0 → k.number ≡ 0
 next-none m k e = go (eqb m.number 0) refl where
   go : (b : Bool) → eqb m.number 0 ≡ b → k.number ≡ 0
-  go true t = sym (ap (λ (x : Mistake). x.number) (next_is m k (eqb-true _ _ t))) ∙ e
-  go false t = absurd (eqb-false _ _ t (sym (ap (λ (x : Mistake). x.number) (first_is m k (eqb-false _ _ t))) ∙ e))
+  go true t = sym (ap (λ (x : MistakeNumbers). x.number) (next_is m k (eqb-true _ _ t))) ∙ e
+  go false t = absurd (eqb-false _ _ t (sym (ap (λ (x : MistakeNumbers). x.number) (first_is m k (eqb-false _ _ t))) ∙ e))
 
 else_none : (m n : ℕ) → or_else m n ≡ 0 → n ≡ 0
 unfolding or_else
@@ -53,7 +56,7 @@ unfolding of_text
 text-none room n e = go (eqb (text_mistake room n) 0) refl where
   go : (b : Bool) → eqb (text_mistake room n) 0 ≡ b → text_mistake room n ≡ 0
   go true t = eqb-true _ _ t
-  go false t = sym (ap (λ (m : Mistake). m.number) (pick-false _ _ t)) ∙ e
+  go false t = sym (ap (λ (m : MistakeNumbers). m.number) (pick-false _ _ t)) ∙ e
 
 pub short-enough : (room : List ℕ) (n : ℕ) → (mistake_of room n).number ≡ 0 → program_length room n ≤ 65535
 unfolding mistake_of text_mistake
@@ -98,15 +101,38 @@ pub put_inside : {t u xs : List ℕ} {m : ℕ} → Puts t 0 u m xs → m ≤ len
 put_inside {t} {u} {xs} {m} puts =
     let same : min m (length u) ≡ length xs = sym (length-take m u) ∙ ap length puts.text in omega (arith, same, puts.ends)
 
-module _ (text : List ℕ) (size n : ℕ) (read : n ≡ pick (leb (6 * line_count text) size) (line_count text) 0) where
-  pub read_all : n ≢ 0 → (6 * line_count text ≤ size) × (n ≡ line_count text)
-  read_all h = go (leb (6 * line_count text) size) refl where
-    go : (b : Bool) → leb (6 * line_count text) size ≡ b → (6 * line_count text ≤ size) × (n ≡ line_count text)
-    go true t = (leb-true _ _ t, read ∙ pick_true _ _ t)
-    go false t = absurd (h (read ∙ pick-false _ _ t))
+module _ (text : List ℕ) (size : ℕ) (r : Option ℕ) where
+  read_case : (b : Bool) → r ≡ pick b (Some (line_count text)) None → (n : ℕ) → r ≡ Some n → (b ≡ true) × (n ≡ line_count text)
+  unfolding pick
+  read_case true e n h = (refl, cc)
+  read_case false e n h = impossible (cc)
 
-  pub read_none : n ≡ 0 → size < 6 * line_count text
-  read_none z = go (leb (6 * line_count text) size) refl where
-    go : (b : Bool) → leb (6 * line_count text) size ≡ b → size < 6 * line_count text
-    go true t = absurd (omega (arith, count-least text, sym (pick_true {A = ℕ} (line_count text) 0 t) ∙ sym read ∙ z))
-    go false t = leb-false _ _ t
+  pub read_all : (n : ℕ) → r ≡ pick (leb (line_count text) size) (Some (line_count text)) None → r ≡ Some n → (line_count text ≤ size) × (n ≡ line_count text)
+  read_all n e h = let c = read_case _ e n h in (leb-true _ _ c.0, c.1)
+
+  none_case : (b : Bool) → r ≡ pick b (Some (line_count text)) None → r ≡ None → b ≡ false
+  unfolding pick
+  none_case true e h = impossible (cc)
+  none_case false e h = refl
+
+  pub read_none : r ≡ pick (leb (line_count text) size) (Some (line_count text)) None → r ≡ None → size < line_count text
+  read_none e h = leb-false _ _ (none_case _ e h)
+
+-- ---- What is promised of an answer
+
+module _ (room : List ℕ) (n : ℕ) (left : List ℕ) where
+  pub makes_mistake : (m : Mistake) → mistake_at m.line (kind_number m.kind) ≡ lines_mistake room n → AssemblesLines room n left (Err m)
+  makes_mistake m e = record { mistake = e; inside = λ k h. impossible (cc); made = λ k h. impossible (cc); accepted = λ k h. impossible (cc) }
+
+  pub makes_words : (k : ℕ) → mistake_at 0 0 ≡ lines_mistake room n → mistake_at 0 0 ≡ rule_mistake room n (words room n) (check (words room n)) → k ≤ length left → take k left ≡ words room n
+      → AssemblesLines room n left (Ok k)
+  makes_words k e f inside made =
+      record {
+        mistake = e;
+        inside = λ j h. let same : k ≡ j = cc in rw same at inside;
+        made = λ j h. let same : k ≡ j = cc in rw same at made;
+        accepted = λ j h. rule-accepted room n (words room n) (check (words room n)) (ap (λ (m : MistakeNumbers). m.number) (sym f));
+      }
+
+pub is_long : (text left : List ℕ) (m : Mistake) → mistake_at m.line (kind_number m.kind) ≡ assemble_mistake text → Assembles text left (Err m)
+is_long text left m e = record { mistake = e; inside = λ k h. impossible (cc); made = λ k h. impossible (cc); accepted = λ k h. impossible (cc) }

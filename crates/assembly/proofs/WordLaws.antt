@@ -6,10 +6,10 @@ use mathlib.Core.Path.{◌≡◌, refl, ap, ◌∙◌}
 use native.Mathlib.Omega.{arith}
 use lib.ListN.{length}
 use Rattle.model.proofs.TestLaws.{pick_true, pick-false}
+use Rattle.text.proofs.TextLaws.{puts_nothing, puts_then}
 use Rattle.assembly.proofs.LineLaws.{one-instruction, one-body, not_instruction, not_body}
-use Rattle.assembly.specs.Lines.{line_at, body_line, instruction_line, is_body, is_instruction, one}
+use Rattle.assembly.specs.Lines.{Line, line_at, body_line, instruction_line, is_body, is_instruction, one}
 use Rattle.assembly.specs.Words.{instruction_words, row_words}
-use Rattle.assembly.specs.declared.Line.{Line}
 
 pub instruction-length : (room : List ℕ) (n start : ℕ) (l : Line) → length (instruction_words room n start l) ≡ 2 * one instruction_line l
 unfolding instruction_words
@@ -29,3 +29,5 @@ row-length room n i = go (is_body (line_at room i)) refl where
 pub five : {m a b c d e a' b' c' d' e' : ℕ} → a ≡ a' → b ≡ b' → c ≡ c' → d ≡ d' → e ≡ e'
     → m ∷ a ∷ b ∷ c ∷ d ∷ e ∷ [] ≡ m ∷ a' ∷ b' ∷ c' ∷ d' ∷ e' ∷ []
 five p q r s t = rw (p, q, r, s, t)
+
+pub ruleset putting = (puts_nothing, puts_then)

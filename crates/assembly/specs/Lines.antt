@@ -2,9 +2,27 @@
 use Rattle.std.specs.Prelude.{ℕ, zero, suc, ◌+◌, ◌-◌, ◌*◌, Bool, true, false, List, [], ◌∷◌, eqb, leb, ltb}
 use Rattle.model.specs.Program.{word}
 use Rattle.model.specs.Test.{pick, ◌and◌}
-use Rattle.assembly.specs.declared.Line.{Line}
+use Rattle.tokens.specs.Tokens.{wrong_number}
+use Rattle.tokens.specs.declared.SourceLine.{SourceLine}
 
 -- ---- Lines: what is wrong in it, its label, its statement, and the words behind that
+
+pub record Line : Type 0 where
+  pub wrong : ℕ
+  pub label : ℕ
+  pub statement : ℕ
+  pub first : ℕ
+  pub second : ℕ
+  pub third : ℕ
+
+-- a line of crate tokens, with what is wrong in it by its number
+abbrev pub as_line : SourceLine → Line
+as_line l =
+    record { wrong = wrong_number l.wrong; label = l.label; statement = l.statement; first = l.first; second = l.second; third = l.third }
+
+unfoldable pub as_lines : List SourceLine → List Line
+as_lines [] = []
+as_lines (l ∷ ls) = as_line l ∷ as_lines ls
 
 unfoldable pub line_at : List ℕ → ℕ → Line
 line_at room i =

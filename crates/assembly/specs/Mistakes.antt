@@ -1,12 +1,51 @@
 -- docs/ASSEMBLY.md, "Mistakes": the first mistake of a line, of the lines and of the text; 0 where there is none. Assumes nothing.
-use Rattle.std.specs.Prelude.{ℕ, zero, suc, ◌+◌, ◌-◌, ◌*◌, Bool, not, List, eqb, leb, ltb}
+use Rattle.std.specs.Prelude.{ℕ, zero, suc, ◌+◌, ◌-◌, ◌*◌, Bool, not, List, eqb, leb, ltb, Some, Result, Ok, Err}
 use Rattle.model.specs.Test.{pick, ◌and◌, ◌or◌}
 use Rattle.tokens.specs.Uses.{uses_a, uses_b, uses_k, is_jump, go_opcode}
-use Rattle.assembly.specs.Lines.{line_at, lines_at, memory_line, entry_line, transaction_line, task_line, event_line, other_line, body_line, instruction_line, is_instruction, is_name_word, none, count, numbered, transaction_value, label_number, has_label, body_start}
-use Rattle.assembly.specs.declared.Line.{Line}
+use Rattle.assembly.specs.Lines.{Line, line_at, lines_at, memory_line, entry_line, transaction_line, task_line, event_line, other_line, body_line, instruction_line, is_instruction, is_name_word, none, count, numbered, transaction_value, label_number, has_label, body_start}
 use Rattle.assembly.specs.declared.Mistake.{Mistake}
+use Rattle.assembly.specs.declared.MistakeKind.{MistakeKind}
+use Rattle.tokens.specs.Tokens.{wrong_number}
 
 -- ---- Their numbers; 1 to 6 are crate tokens'
+
+abbrev pub kind_number : MistakeKind → ℕ
+kind_number (MistakeKind.Reading wrong) = wrong_number (Some wrong)
+kind_number MistakeKind.NoStatement = 7
+kind_number MistakeKind.WordCount = 8
+kind_number MistakeKind.NameDue = 9
+kind_number MistakeKind.NumberDue = 10
+kind_number MistakeKind.LabelPlace = 11
+kind_number MistakeKind.LabelTaken = 12
+kind_number MistakeKind.InstructionPlace = 13
+kind_number MistakeKind.TaskPlace = 14
+kind_number MistakeKind.NameTaken = 15
+kind_number MistakeKind.GivenAbove = 16
+kind_number MistakeKind.NoTask = 17
+kind_number MistakeKind.NoLabel = 18
+kind_number MistakeKind.NoTransaction = 19
+kind_number MistakeKind.NoMemory = 20
+kind_number MistakeKind.NoEntry = 21
+kind_number MistakeKind.ProgramLong = 22
+kind_number MistakeKind.TaskCount = 23
+kind_number MistakeKind.EventCount = 24
+kind_number MistakeKind.MemorySize = 25
+kind_number MistakeKind.NoTaskNumber = 26
+kind_number MistakeKind.BodySize = 27
+kind_number MistakeKind.TransactionLarge = 28
+kind_number MistakeKind.RegisterLarge = 29
+kind_number MistakeKind.ShiftLarge = 30
+kind_number MistakeKind.AddressLarge = 31
+kind_number MistakeKind.TargetLarge = 32
+kind_number MistakeKind.GoPlace = 33
+kind_number MistakeKind.DonePlace = 34
+kind_number MistakeKind.BodyEnd = 35
+kind_number MistakeKind.TextLong = 36
+
+-- of what a function finds: 0 where nothing is wrong
+abbrev pub found_number : Result Unit MistakeKind → ℕ
+found_number (Ok _) = 0
+found_number (Err kind) = kind_number kind
 
 abbrev pub no_statement : ℕ
 no_statement = 7
@@ -117,21 +156,26 @@ statement_mistake l = or_else (mistake_if (eqb l.statement other_line) no_statem
 
 -- ---- "A line among the others": line i, in the body that begins at start, of n lines
 
-unfoldable pub label_mistake : List ℕ → ℕ → ℕ → ℕ
-label_mistake room start i =
-    let l = line_at room i in
+-- of line l behind the lines of its body so far
+abbrev pub label_mistake_of : ℕ → Line → List Line → ℕ
+label_mistake_of start l body =
     pick (eqb l.label 0) 0
     (or_else (mistake_if (eqb start 0 or (not (eqb l.statement 0) and not (is_instruction l))) label_place)
-    (mistake_if (has_label l.label (lines_at room start (i - start))) label_taken))
+    (mistake_if (has_label l.label body) label_taken))
 
-unfoldable pub place_mistake : List ℕ → ℕ → ℕ → ℕ
-place_mistake room start i =
-    let l = line_at room i in
-    let above = lines_at room 0 i in
+unfoldable pub label_mistake : List ℕ → ℕ → ℕ → ℕ
+label_mistake room start i = label_mistake_of start (line_at room i) (lines_at room start (i - start))
+
+-- of line l behind all lines above
+abbrev pub place_mistake_of : ℕ → Line → List Line → ℕ
+place_mistake_of start l above =
     or_else (mistake_if (is_instruction l and eqb start 0) instruction_place)
     (or_else (mistake_if (eqb l.statement task_line and ltb 0 (count event_line above)) task_place)
     (or_else (mistake_if (name_first l.statement and ltb (numbered l.statement l.first above 0) none) name_taken)
     (mistake_if ((eqb l.statement memory_line or eqb l.statement entry_line) and ltb 0 (count l.statement above)) given_above)))
+
+unfoldable pub place_mistake : List ℕ → ℕ → ℕ → ℕ
+place_mistake room start i = place_mistake_of start (line_at room i) (lines_at room 0 i)
 
 -- GO
 abbrev pub go_line : ℕ
@@ -160,30 +204,42 @@ missing_label room n start name = is_name_word name and eqb (label_number name (
 unfoldable pub missing_transaction : List ℕ → ℕ → ℕ → Bool
 missing_transaction room n name = is_name_word name and eqb (transaction_value name (lines_at room 0 n)) none
 
-unfoldable pub name_mistake : List ℕ → ℕ → ℕ → ℕ → ℕ
-name_mistake room n start i =
-    let l = line_at room i in
+-- of a line l
+abbrev pub name_mistake_of : List ℕ → ℕ → ℕ → Line → ℕ
+name_mistake_of room n start l =
     or_else (mistake_if (missing_task room n (task_word l)) no_task)
     (or_else (mistake_if (missing_label room n start (label_word l)) no_label) (mistake_if (missing_transaction room n (transaction_word l)) no_transaction))
+
+unfoldable pub name_mistake : List ℕ → ℕ → ℕ → ℕ → ℕ
+name_mistake room n start i = name_mistake_of room n start (line_at room i)
 
 unfoldable pub among_mistake : List ℕ → ℕ → ℕ → ℕ → ℕ
 among_mistake room n start i = or_else (label_mistake room start i) (or_else (place_mistake room start i) (name_mistake room n start i))
 
 -- ---- The first of all: its line, counted from 1, and its number; 0 and 0 where there is none
 
-abbrev pub mistake_at : ℕ → ℕ → Mistake
+pub record MistakeNumbers : Type 0 where
+  pub line : ℕ
+  pub number : ℕ
+
+abbrev pub mistake_at : ℕ → ℕ → MistakeNumbers
 mistake_at line number = record { line = line; number = number }
+
+-- of an answer
+abbrev pub mistake_numbers : {T : Type 0} → Result T Mistake → MistakeNumbers
+mistake_numbers (Ok _) = mistake_at 0 0
+mistake_numbers (Err m) = mistake_at m.line (kind_number m.kind)
 
 -- "what is wrong in a line by itself, reading it and as a statement, line by line": of the k lines from line i on
 unfoldable pub own_mistake : Line → ℕ
 own_mistake l = or_else l.wrong (statement_mistake l)
 
-unfoldable pub first_own : List ℕ → ℕ → ℕ → Mistake
+unfoldable pub first_own : List ℕ → ℕ → ℕ → MistakeNumbers
 first_own room i zero = mistake_at 0 0
 first_own room i (suc k) = let m = own_mistake (line_at room i) in pick (eqb m 0) (first_own room (suc i) k) (mistake_at (suc i) m)
 
 -- "then what is wrong with a line among the others, line by line"
-unfoldable pub first_among : List ℕ → ℕ → ℕ → ℕ → Mistake
+unfoldable pub first_among : List ℕ → ℕ → ℕ → ℕ → MistakeNumbers
 first_among room n i zero = mistake_at 0 0
 first_among room n i (suc k) =
     let m = among_mistake room n (body_start room i) i in
@@ -200,11 +256,11 @@ text_mistake room n =
     (or_else (mistake_if (eqb (count entry_line all) 0) no_entry) (mistake_if (ltb 65535 (program_length room n)) program_long))
 
 -- "then the mistakes of the text", in its last line
-unfoldable pub of_text : List ℕ → ℕ → Mistake
+unfoldable pub of_text : List ℕ → ℕ → MistakeNumbers
 of_text room n = pick (eqb (text_mistake room n) 0) (mistake_at 0 0) (mistake_at n (text_mistake room n))
 
-unfoldable pub or_next : Mistake → Mistake → Mistake
+unfoldable pub or_next : MistakeNumbers → MistakeNumbers → MistakeNumbers
 or_next m next = pick (eqb m.number 0) next m
 
-unfoldable pub mistake_of : List ℕ → ℕ → Mistake
+unfoldable pub mistake_of : List ℕ → ℕ → MistakeNumbers
 mistake_of room n = or_next (first_own room 0 n) (or_next (first_among room n 0 n) (of_text room n))

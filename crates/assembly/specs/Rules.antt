@@ -1,15 +1,14 @@
 -- docs/ASSEMBLY.md, "Rules that the check finds broken, by its number and place". Assumes nothing.
+use Rattle.model.specs.Types.{Checked, Err, Ok}
 use Rattle.std.specs.Prelude.{ℕ, suc, ◌-◌, min, Bool, not, List, eqb, leb, ltb}
 use Rattle.model.specs.Answer.{refusal}
 use Rattle.model.specs.Check.{check}
 use Rattle.model.specs.Program.{tasks, memory_words, instructions, opcode, field_a, field_b, code, operand}
 use Rattle.model.specs.Test.{pick, ◌and◌, ◌or◌}
-use Rattle.model.specs.declared.Checked.{Checked}
 use Rattle.tokens.specs.Uses.{is_jump, go_opcode}
 use Rattle.assembly.specs.Lines.{lines_at, memory_line, entry_line, task_line, event_line, body_line, instruction_line, place_of}
-use Rattle.assembly.specs.Mistakes.{or_else, mistake_if, mistake_at, or_next, mistake_of, program_long}
+use Rattle.assembly.specs.Mistakes.{MistakeNumbers, or_else, mistake_if, mistake_at, or_next, mistake_of, program_long}
 use Rattle.assembly.specs.Words.{words}
-use Rattle.assembly.specs.declared.Mistake.{Mistake}
 
 -- ---- Their numbers
 
@@ -108,12 +107,12 @@ rule_place room n number i j =
 
 -- ---- The mistake of the lines whose words the check accepts or refuses; and the first of all
 
-unfoldable pub explained_by : List ℕ → ℕ → List ℕ → ℕ → ℕ → ℕ → Mistake
+unfoldable pub explained_by : List ℕ → ℕ → List ℕ → ℕ → ℕ → ℕ → MistakeNumbers
 explained_by room n p number i j = mistake_at (suc (rule_place room n number i j)) (rule_number p number i j)
 
-unfoldable pub rule_mistake : List ℕ → ℕ → List ℕ → Checked → Mistake
+unfoldable pub rule_mistake : List ℕ → ℕ → List ℕ → Checked → MistakeNumbers
 rule_mistake room n p (Ok _) = mistake_at 0 0
 rule_mistake room n p (Err r) = explained_by room n p (refusal r).number (refusal r).first (refusal r).second
 
-unfoldable pub lines_mistake : List ℕ → ℕ → Mistake
+unfoldable pub lines_mistake : List ℕ → ℕ → MistakeNumbers
 lines_mistake room n = or_next (mistake_of room n) (rule_mistake room n (words room n) (check (words room n)))

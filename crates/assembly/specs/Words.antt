@@ -3,9 +3,8 @@ use Rattle.std.specs.Prelude.{ℕ, zero, suc, ◌+◌, ◌-◌, ◌*◌, min, Li
 use Rattle.model.specs.Program.{program_mark}
 use Rattle.model.specs.Test.{pick}
 use Rattle.tokens.specs.Uses.{uses_a, uses_b, uses_k, is_jump, go_opcode}
-use Rattle.assembly.specs.Lines.{line_at, lines_at, memory_line, entry_line, task_line, event_line, body_line, instruction_line, is_body, is_instruction, is_name_word, value, count, body_count, numbered, transaction_value, label_number, given, body_start}
+use Rattle.assembly.specs.Lines.{Line, line_at, lines_at, memory_line, entry_line, task_line, event_line, body_line, instruction_line, is_body, is_instruction, is_name_word, value, count, body_count, numbered, transaction_value, label_number, given, body_start}
 use Rattle.assembly.specs.Mistakes.{opcode_of, operand_of, transaction_word, program_length}
-use Rattle.assembly.specs.declared.Line.{Line}
 
 -- what doesn't fit is the largest value, which no rule allows: a word, and a register
 unfoldable pub as_word : ℕ → ℕ

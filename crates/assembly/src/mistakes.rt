@@ -1,31 +1,21 @@
 // The first mistake of a text's lines.
-ghost use Rattle.std.specs.Prelude.{◌+◌, ◌*◌, ◌-◌, ◌≤◌, ◌<◌, ◌≡◌, length};
+ghost use Rattle.std.specs.Prelude.{◌+◌, ◌^◌, ◌≤◌, ◌<◌, ◌≡◌, length};
 ghost use Rattle.model.specs.Test.{pick, ◌and◌};
-ghost use Rattle.assembly.specs.Lines.{line_at, is_body, is_instruction as isInstructionLine};
-ghost use Rattle.assembly.specs.Mistakes.{opcode_of, operand_of, task_word, label_word, transaction_word, missing_task, missing_label, missing_transaction, name_mistake, among_mistake, own_mistake, first_own, first_among, program_length, text_mistake, of_text, mistake_of};
+ghost use Rattle.assembly.specs.Lines.{as_line, line_at, is_body, is_instruction};
+ghost use Rattle.assembly.specs.Mistakes.{opcode_of, operand_of, task_word, label_word, transaction_word, missing_task, missing_label, missing_transaction, name_mistake_of, among_mistake, own_mistake, found_number, mistake_numbers, first_own, first_among, program_length, text_mistake, of_text, mistake_of};
+ghost use Rattle.tokens.specs.Tokens.{all_numbers};
 ghost use Rattle.tokens.specs.Uses.{is_jump};
 
-use crate::{Line, Mistake, lines, place, statement};
-use tokens::uses;
-
-const NO_TASK: u64 = 17;
-
-const NO_LABEL: u64 = 18;
-
-const NO_TRANSACTION: u64 = 19;
-
-const NO_MEMORY: u64 = 20;
-
-const NO_ENTRY: u64 = 21;
-
-const PROGRAM_LONG: u64 = 22;
+use crate::{Mistake, MistakeKind, lines, place, statement};
+use tokens::{SourceLine, uses};
 
 const GO_LINE: u64 = 16;
 
 // The word that is k.
-pub fn operand_of(line: Line) -> u64
+#[tactic(auto, using(model::proofs::TestLaws::tests), unfolding(crate::specs::Mistakes::operand_of, model::specs::Test::pick))]
+pub fn operand_of(line: SourceLine) -> u64
     requires { (1 ≤ line.statement) × (line.statement ≤ 17) }
-    ensures { result ≡ operand_of line }
+    ensures { result ≡ operand_of (as_line line) }
 {
     let used = uses::used(line.statement - 1);
     if used.b {
@@ -38,224 +28,189 @@ pub fn operand_of(line: Line) -> u64
 }
 
 // The word that names a task; 0 where there is none.
-fn task_word(line: Line) -> u64
-    ensures { result ≡ task_word line }
+#[tactic(auto, using(model::proofs::TestLaws::tests), unfolding(crate::specs::Mistakes::task_word, model::specs::Test::pick, model::specs::Test::either))]
+fn task_word(line: SourceLine) -> u64
+    ensures { result ≡ task_word (as_line line) }
 {
-    if line.statement == lines::ENTRY {
-        return line.first;
+    match line.statement {
+        lines::ENTRY | GO_LINE => line.first,
+        _ => 0,
     }
-    if line.statement == GO_LINE {
-        return line.first;
-    }
-    0
 }
 
-fn is_jump(line: Line) -> bool
-    ensures { result ≡ (isInstructionLine line and is_jump (opcode_of line)) }
+#[tactic(auto, using(model::proofs::TestLaws::tests, crate::proofs::LineLaws::instruction_in), unfolding(model::specs::Test::both))]
+fn is_jump(line: SourceLine) -> bool
+    ensures { result ≡ (is_instruction (as_line line) and is_jump (opcode_of (as_line line))) }
 {
-    if lines::is_instruction(line) {
-        return uses::is_jump(line.statement - 1);
-    }
-    false
+    lines::is_instruction(line) && uses::is_jump(line.statement - 1)
 }
 
 // The word that names a label.
-fn label_word(line: Line) -> u64
-    ensures { result ≡ label_word line }
+#[tactic(auto, using(model::proofs::TestLaws::tests, crate::proofs::LineLaws::jump_in), unfolding(crate::specs::Mistakes::label_word, model::specs::Test::pick))]
+fn label_word(line: SourceLine) -> u64
+    ensures { result ≡ label_word (as_line line) }
 {
-    if is_jump(line) {
-        return operand_of(line);
-    }
-    0
+    if is_jump(line) { operand_of(line) } else { 0 }
 }
 
 // The word that names a transaction.
-pub fn transaction_word(line: Line) -> u64
-    ensures { result ≡ transaction_word line }
+#[tactic(auto, using(model::proofs::TestLaws::tests), unfolding(crate::specs::Mistakes::transaction_word, model::specs::Test::pick))]
+pub fn transaction_word(line: SourceLine) -> u64
+    ensures { result ≡ transaction_word (as_line line) }
 {
     if line.statement == lines::TASK {
-        return line.second;
+        line.second
+    } else {
+        0
     }
-    0
 }
 
-fn missing_task(room: &[u64], n: usize, name: u64) -> bool
-    requires { 6 * n ≤ length room.now }
-    ensures { result ≡ missing_task room.now n name }
+#[tactic(auto, using(model::proofs::TestLaws::tests, crate::proofs::LineLaws::room), unfolding(crate::specs::Mistakes::missing_task, model::specs::Test::both))]
+fn missing_task(lines: &[SourceLine], name: u64) -> bool
+    ensures { result ≡ missing_task (all_numbers lines.now) (length lines.now) name }
 {
-    if statement::is_name(name) {
-        return lines::numbered(room, n, lines::TASK, name) == lines::NONE;
-    }
-    false
+    statement::is_name(name) && lines::numbered(lines, lines::TASK, name) == lines::NONE
 }
 
-fn missing_label(room: &[u64], n: usize, start: usize, name: u64) -> bool
-    requires n_in_bounds { 6 * n ≤ length room.now }
-    requires start_le_n { start ≤ n }
-    ensures { result ≡ missing_label room.now n start name }
+#[tactic(auto, using(model::proofs::TestLaws::tests, crate::proofs::LineLaws::room), unfolding(crate::specs::Mistakes::missing_label, model::specs::Test::both))]
+fn missing_label(lines: &[SourceLine], start: usize, name: u64) -> bool
+    requires { start ≤ length lines.now }
+    ensures { result ≡ missing_label (all_numbers lines.now) (length lines.now) start name }
 {
-    if statement::is_name(name) {
-        return lines::label_number(room, n, start, name) == lines::NONE;
-    }
-    false
+    statement::is_name(name) && lines::label_number(&lines[start..], name) == lines::NONE
 }
 
-fn missing_transaction(room: &[u64], n: usize, name: u64) -> bool
-    requires { 6 * n ≤ length room.now }
-    ensures { result ≡ missing_transaction room.now n name }
+#[tactic(auto, using(model::proofs::TestLaws::tests, crate::proofs::LineLaws::room), unfolding(crate::specs::Mistakes::missing_transaction, model::specs::Test::both))]
+fn missing_transaction(lines: &[SourceLine], name: u64) -> bool
+    ensures { result ≡ missing_transaction (all_numbers lines.now) (length lines.now) name }
 {
-    if statement::is_name(name) {
-        return lines::transaction_value(room, n, name) == lines::NONE;
-    }
-    false
+    statement::is_name(name) && lines::transaction_value(lines, name) == lines::NONE
 }
 
-fn name_mistake(room: &[u64], n: usize, start: usize, i: usize) -> u64
-    requires n_in_bounds { 6 * n ≤ length room.now }
-    requires start_le_i { (start ≤ i) × (i < n) }
-    ensures { result ≡ name_mistake room.now n start i }
+#[tactic(auto, using(model::proofs::TestLaws::tests, crate::proofs::MistakeLaws::in_turn))]
+fn name_mistake(lines: &[SourceLine], start: usize, line: SourceLine) -> Result<(), MistakeKind>
+    requires { start ≤ length lines.now }
+    ensures { found_number result ≡ name_mistake_of (all_numbers lines.now) (length lines.now) start (as_line line) }
 {
-    let line = lines::line_at(room, i);
-    if missing_task(room, n, task_word(line)) {
-        return NO_TASK;
+    if missing_task(lines, task_word(line)) {
+        return Err(MistakeKind::NoTask);
     }
-    if missing_label(room, n, start, label_word(line)) {
-        return NO_LABEL;
+    if missing_label(lines, start, label_word(line)) {
+        return Err(MistakeKind::NoLabel);
     }
-    if missing_transaction(room, n, transaction_word(line)) {
-        return NO_TRANSACTION;
+    if missing_transaction(lines, transaction_word(line)) {
+        return Err(MistakeKind::NoTransaction);
     }
-    0
+    Ok(())
 }
 
-// Line i by itself.
-fn own_mistake(room: &[u64], i: usize) -> u64
-    requires { 6 * i + 6 ≤ length room.now }
-    ensures { result ≡ own_mistake (line_at room.now i) }
+// A line by itself.
+#[tactic(auto, using(crate::proofs::MistakeLaws::in_turn), unfolding(crate::specs::Mistakes::own_mistake))]
+fn own_mistake(line: SourceLine) -> Result<(), MistakeKind>
+    ensures { found_number result ≡ own_mistake (as_line line) }
 {
-    let line = lines::line_at(room, i);
-    if line.wrong != 0 {
-        return line.wrong;
+    match line.wrong {
+        Some(wrong) => Err(MistakeKind::Reading(wrong)),
+        None => statement::statement_mistake(line),
     }
-    statement::statement_mistake(line)
 }
 
-fn first_own(room: &[u64], n: usize) -> Mistake
-    requires { 6 * n ≤ length room.now }
-    ensures { result ≡ first_own room.now 0 n }
+#[tactic(auto, using(crate::proofs::MistakeLaws::own_in_turn))]
+fn first_own(lines: &[SourceLine]) -> Result<(), Mistake>
+    ensures { mistake_numbers result ≡ first_own (all_numbers lines.now) 0 (length lines.now) }
 {
-    let mut i = 0;
-    while i < n {
-        let number = own_mistake(room, i);
-        if number != 0 {
-            return Mistake {
-                line: i + 1,
-                number,
-            };
+    for i in 0..lines.len() {
+        if let Err(kind) = own_mistake(lines[i]) {
+            return Err(Mistake { line: i + 1, kind });
         }
-        i += 1;
     }
-    Mistake { line: 0, number: 0 }
+    Ok(())
 }
 
 // Line i among the others, in the body that begins at `start`.
-fn among_mistake(room: &[u64], n: usize, start: usize, i: usize) -> u64
-    requires n_in_bounds { 6 * n ≤ length room.now }
-    requires start_le_i { (start ≤ i) × (i < n) }
-    ensures { result ≡ among_mistake room.now n start i }
+#[tactic(auto, using(crate::proofs::MistakeLaws::in_turn, crate::proofs::MistakeLaws::placed), unfolding(crate::specs::Mistakes::among_mistake))]
+fn among_mistake(lines: &[SourceLine], start: usize, i: usize) -> Result<(), MistakeKind>
+    requires { (start ≤ i) × (i < length lines.now) }
+    ensures { found_number result ≡ among_mistake (all_numbers lines.now) (length lines.now) start i }
 {
-    let of_label = place::label_mistake(room, start, i);
-    if of_label != 0 {
-        return of_label;
-    }
-    let of_place = place::place_mistake(room, start, i);
-    if of_place != 0 {
-        return of_place;
-    }
-    name_mistake(room, n, start, i)
+    let line = lines[i];
+    place::label_mistake(start, line, &lines[start..i])?;
+    place::place_mistake(start, line, &lines[..i])?;
+    name_mistake(lines, start, line)
 }
 
 // Where the body of the next line begins.
-pub fn next_start(room: &[u64], start: usize, i: usize) -> usize
-    requires i_in_bounds { 6 * i + 6 ≤ length room.now }
-    requires start_le_i { start ≤ i }
-    ensures value { result ≡ pick (is_body (line_at room.now i)) (i + 1) start }
+#[tactic(auto, using(crate::proofs::LineLaws::room), unfolding(model::specs::Test::pick))]
+pub fn next_start(lines: &[SourceLine], start: usize, i: usize) -> usize
+    requires { (start ≤ i) × (i < length lines.now) }
+    ensures value { result ≡ pick (is_body (line_at (all_numbers lines.now) i)) (i + 1) start }
     ensures upper_bound { result ≤ i + 1 }
 {
-    if lines::is_body(lines::line_at(room, i)) {
-        return i + 1;
+    if lines::is_body(lines[i]) {
+        i + 1
+    } else {
+        start
     }
-    start
 }
 
-fn first_among(room: &[u64], n: usize) -> Mistake
-    requires { 6 * n ≤ length room.now }
-    ensures { result ≡ first_among room.now n 0 n }
+#[tactic(auto, using(crate::proofs::MistakeLaws::among_in_turn))]
+fn first_among(lines: &[SourceLine]) -> Result<(), Mistake>
+    ensures { mistake_numbers result ≡ first_among (all_numbers lines.now) (length lines.now) 0 (length lines.now) }
 {
     let mut start = 0;
-    let mut i = 0;
-    while i < n {
-        let number = among_mistake(room, n, start, i);
-        if number != 0 {
-            return Mistake {
-                line: i + 1,
-                number,
-            };
+    for i in 0..lines.len() {
+        if let Err(kind) = among_mistake(lines, start, i) {
+            return Err(Mistake { line: i + 1, kind });
         }
-        start = next_start(room, start, i);
-        i += 1;
+        start = next_start(lines, start, i);
     }
-    Mistake { line: 0, number: 0 }
+    Ok(())
 }
 
 // The words of the whole program.
-pub fn program_length(room: &[u64], n: usize) -> u64
-    requires { 6 * n ≤ length room.now }
-    ensures { result ≡ program_length room.now n }
+#[tactic(auto, using(crate::proofs::LineLaws::room), unfolding(crate::specs::Mistakes::program_length))]
+pub fn program_length(lines: &[SourceLine]) -> u64
+    ensures { result ≡ program_length (all_numbers lines.now) (length lines.now) }
 {
-    6 + 3 * lines::count(room, n, lines::BODY) + 2 * lines::count(room, n, lines::INSTRUCTION)
+    6 + 3 * lines::count(lines, lines::BODY) + 2 * lines::count(lines, lines::INSTRUCTION)
 }
 
-fn text_mistake(room: &[u64], n: usize) -> u64
-    requires { 6 * n ≤ length room.now }
-    ensures { result ≡ text_mistake room.now n }
+#[tactic(auto, using(model::proofs::TestLaws::tests, crate::proofs::MistakeLaws::in_turn, crate::proofs::LineLaws::room), unfolding(crate::specs::Mistakes::text_mistake))]
+fn text_mistake(lines: &[SourceLine]) -> Result<(), MistakeKind>
+    ensures { found_number result ≡ text_mistake (all_numbers lines.now) (length lines.now) }
 {
-    if lines::count(room, n, lines::MEMORY) == 0 {
-        return NO_MEMORY;
+    if lines::count(lines, lines::MEMORY) == 0 {
+        return Err(MistakeKind::NoMemory);
     }
-    if lines::count(room, n, lines::ENTRY) == 0 {
-        return NO_ENTRY;
+    if lines::count(lines, lines::ENTRY) == 0 {
+        return Err(MistakeKind::NoEntry);
     }
-    if program_length(room, n) > 65535 {
-        return PROGRAM_LONG;
+    if program_length(lines) > 65535 {
+        return Err(MistakeKind::ProgramLong);
     }
-    0
+    Ok(())
 }
 
 // The text's, in its last line.
-fn of_text(room: &[u64], n: usize) -> Mistake
-    requires { 6 * n ≤ length room.now }
-    ensures { result ≡ of_text room.now n }
+#[tactic(auto, using(crate::proofs::MistakeLaws::at_line), unfolding(crate::specs::Mistakes::of_text))]
+fn of_text(lines: &[SourceLine]) -> Result<(), Mistake>
+    ensures { mistake_numbers result ≡ of_text (all_numbers lines.now) (length lines.now) }
 {
-    let number = text_mistake(room, n);
-    if number == 0 {
-        return Mistake { line: 0, number: 0 };
+    match text_mistake(lines) {
+        Ok(()) => Ok(()),
+        Err(kind) => Err(Mistake {
+            line: lines.len(),
+            kind,
+        }),
     }
-    Mistake { line: n, number }
 }
 
 // The first of lines by themselves, then of lines among the others, then of the text.
-pub fn mistake_of(room: &[u64], n: usize) -> Mistake
-    requires { 6 * n ≤ length room.now }
-    ensures { result ≡ mistake_of room.now n }
+#[tactic(auto, using(crate::proofs::MistakeLaws::first_of_all), unfolding(crate::specs::Mistakes::mistake_of))]
+pub fn mistake_of(lines: &[SourceLine]) -> Result<(), Mistake>
+    ensures { mistake_numbers result ≡ mistake_of (all_numbers lines.now) (length lines.now) }
 {
-    let own = first_own(room, n);
-    if own.number != 0 {
-        return own;
-    }
-    let among = first_among(room, n);
-    if among.number != 0 {
-        return among;
-    }
-    of_text(room, n)
+    first_own(lines)?;
+    first_among(lines)?;
+    of_text(lines)
 }

@@ -1,129 +1,101 @@
-// A line among the others: line i, in the body that begins at `start`.
-ghost use Rattle.std.specs.Prelude.{◌+◌, ◌*◌, ◌≤◌, ◌<◌, not, ◌≡◌, eqb, ltb, length};
+// A line among the others, in the body that begins at `start`.
+ghost use Rattle.std.specs.Prelude.{not, ◌≡◌, eqb, ltb};
 ghost use Rattle.model.specs.Test.{◌and◌, ◌or◌};
-ghost use Rattle.assembly.specs.Lines.{lines_at, is_instruction as isInstructionLine, memory_line, entry_line, task_line, event_line, none, count as count_of, numbered as numberedOf};
-ghost use Rattle.assembly.specs.Mistakes.{name_first, label_mistake, place_mistake};
+ghost use Rattle.assembly.specs.Lines.{as_line, as_lines, is_instruction, memory_line, entry_line, task_line, event_line, none, count, numbered};
+ghost use Rattle.assembly.specs.Mistakes.{found_number, name_first, label_mistake_of, place_mistake_of};
 
-use crate::{Line, lines};
-
-const LABEL_PLACE: u64 = 11;
-
-const LABEL_TAKEN: u64 = 12;
-
-const INSTRUCTION_PLACE: u64 = 13;
-
-const TASK_PLACE: u64 = 14;
-
-const NAME_TAKEN: u64 = 15;
-
-const GIVEN_ABOVE: u64 = 16;
+use crate::{MistakeKind, lines};
+use tokens::SourceLine;
 
 // A label stands in a body, alone or before an instruction.
-fn label_outside(start: usize, line: Line) -> bool
-    ensures { result ≡ (eqb start 0 or (not (eqb line.statement 0) and not (isInstructionLine line))) }
+#[tactic(auto, using(model::proofs::TestLaws::tests), unfolding(model::specs::Test::both, model::specs::Test::either))]
+fn label_outside(start: usize, line: SourceLine) -> bool
+    ensures { result ≡ (eqb start 0 or (not (eqb line.statement 0) and not (is_instruction (as_line line)))) }
 {
-    if start == 0 {
-        return true;
-    }
-    if line.statement == 0 {
-        return false;
-    }
-    !lines::is_instruction(line)
+    start == 0 || line.statement != 0 && !lines::is_instruction(line)
 }
 
-pub fn label_mistake(room: &[u64], start: usize, i: usize) -> u64
-    requires i_in_bounds { 6 * i + 6 ≤ length room.now }
-    requires start_le_i { start ≤ i }
-    ensures { result ≡ label_mistake room.now start i }
+// Its label, behind the lines of its body so far.
+#[tactic(auto, using(model::proofs::TestLaws::tests, crate::proofs::MistakeLaws::in_turn), unfolding(model::specs::Test::pick))]
+pub fn label_mistake(start: usize, line: SourceLine, body: &[SourceLine]) -> Result<(), MistakeKind>
+    ensures { found_number result ≡ label_mistake_of start (as_line line) (as_lines body.now) }
 {
-    let line = lines::line_at(room, i);
     if line.label == 0 {
-        return 0;
+        return Ok(());
     }
     if label_outside(start, line) {
-        return LABEL_PLACE;
+        return Err(MistakeKind::LabelPlace);
     }
-    if lines::has_label(room, i, start, line.label) {
-        return LABEL_TAKEN;
+    if lines::has_label(body, line.label) {
+        return Err(MistakeKind::LabelTaken);
     }
-    0
+    Ok(())
 }
 
-fn instruction_outside(start: usize, line: Line) -> bool
-    ensures { result ≡ (isInstructionLine line and eqb start 0) }
+#[tactic(auto, using(model::proofs::TestLaws::tests), unfolding(model::specs::Test::both))]
+fn instruction_outside(start: usize, line: SourceLine) -> bool
+    ensures { result ≡ (is_instruction (as_line line) and eqb start 0) }
 {
-    if lines::is_instruction(line) {
-        return start == 0;
-    }
-    false
+    lines::is_instruction(line) && start == 0
 }
 
-fn behind_event(room: &[u64], i: usize, line: Line) -> bool
-    requires { 6 * i ≤ length room.now }
-    ensures { result ≡ (eqb line.statement task_line and ltb 0 (count_of event_line (lines_at room.now 0 i))) }
+#[tactic(auto, using(model::proofs::TestLaws::tests), unfolding(model::specs::Test::both))]
+fn behind_event(above: &[SourceLine], line: SourceLine) -> bool
+    ensures { result ≡ (eqb line.statement task_line and ltb 0 (count event_line (as_lines above.now))) }
 {
-    if line.statement != lines::TASK {
-        return false;
-    }
-    lines::count(room, i, lines::EVENT) > 0
+    line.statement == lines::TASK && lines::count(above, lines::EVENT) > 0
 }
 
 // A transaction, a task and an event have a name first.
+#[tactic(auto, using(model::proofs::TestLaws::tests), unfolding(crate::specs::Mistakes::name_first, model::specs::Test::both))]
 pub fn name_first(statement: u64) -> bool
     ensures { result ≡ name_first statement }
 {
-    if statement < lines::TRANSACTION {
-        return false;
-    }
-    statement <= lines::EVENT
+    matches!(statement, lines::TRANSACTION..=lines::EVENT)
 }
 
-fn name_taken(room: &[u64], i: usize, line: Line) -> bool
-    requires { 6 * i ≤ length room.now }
-    ensures { result ≡ (name_first line.statement and ltb (numberedOf line.statement line.first (lines_at room.now 0 i) 0) none) }
+#[tactic(auto, using(model::proofs::TestLaws::tests), unfolding(model::specs::Test::both))]
+fn name_taken(above: &[SourceLine], line: SourceLine) -> bool
+    ensures { result ≡ (name_first line.statement and ltb (numbered line.statement line.first (as_lines above.now) 0) none) }
 {
-    if name_first(line.statement) {
-        return lines::numbered(room, i, line.statement, line.first) < lines::NONE;
-    }
-    false
+    name_first(line.statement) && lines::numbered(above, line.statement, line.first) < lines::NONE
 }
 
 // memory and entry
+#[tactic(auto, using(model::proofs::TestLaws::tests), unfolding(model::specs::Test::either))]
 fn is_once(statement: u64) -> bool
     ensures { result ≡ (eqb statement memory_line or eqb statement entry_line) }
 {
-    if statement == lines::MEMORY {
-        return true;
-    }
-    statement == lines::ENTRY
+    matches!(statement, lines::MEMORY | lines::ENTRY)
 }
 
-fn given_above(room: &[u64], i: usize, line: Line) -> bool
-    requires { 6 * i ≤ length room.now }
-    ensures { result ≡ ((eqb line.statement memory_line or eqb line.statement entry_line) and ltb 0 (count_of line.statement (lines_at room.now 0 i))) }
+#[tactic(auto, using(model::proofs::TestLaws::tests), unfolding(model::specs::Test::both))]
+fn given_above(above: &[SourceLine], line: SourceLine) -> bool
+    ensures { result ≡ ((eqb line.statement memory_line or eqb line.statement entry_line) and ltb 0 (count line.statement (as_lines above.now))) }
 {
-    if is_once(line.statement) {
-        return lines::count(room, i, line.statement) > 0;
-    }
-    false
+    is_once(line.statement) && lines::count(above, line.statement) > 0
 }
 
-pub fn place_mistake(room: &[u64], start: usize, i: usize) -> u64
-    requires { 6 * i + 6 ≤ length room.now }
-    ensures { result ≡ place_mistake room.now start i }
+// Its place, behind all lines above.
+#[tactic(auto, using(model::proofs::TestLaws::tests, crate::proofs::MistakeLaws::in_turn))]
+pub fn place_mistake(
+    start: usize,
+    line: SourceLine,
+    above: &[SourceLine],
+) -> Result<(), MistakeKind>
+    ensures { found_number result ≡ place_mistake_of start (as_line line) (as_lines above.now) }
 {
-    let line = lines::line_at(room, i);
     if instruction_outside(start, line) {
-        return INSTRUCTION_PLACE;
+        return Err(MistakeKind::InstructionPlace);
     }
-    if behind_event(room, i, line) {
-        return TASK_PLACE;
+    if behind_event(above, line) {
+        return Err(MistakeKind::TaskPlace);
     }
-    if name_taken(room, i, line) {
-        return NAME_TAKEN;
+    if name_taken(above, line) {
+        return Err(MistakeKind::NameTaken);
     }
-    if given_above(room, i, line) {
-        return GIVEN_ABOVE;
+    if given_above(above, line) {
+        return Err(MistakeKind::GivenAbove);
     }
-    0
+    Ok(())
 }

@@ -1,71 +1,62 @@
 // A statement by itself: how many words it has, and whether each is a name or a number.
 ghost use Rattle.std.specs.Prelude.{◌+◌, ◌-◌, ◌≤◌, ◌<◌, not, ◌≡◌};
 ghost use Rattle.model.specs.Test.{◌and◌, ◌or◌};
-ghost use Rattle.assembly.specs.Mistakes.{bit as bit_of, operands as operandsOf, words_least, words_most, words_behind, name_first, number_only, number_first, number_second, number_third, kind_mistake, count_mistake, statement_mistake};
-ghost use Rattle.assembly.specs.Lines.{is_name_word};
+ghost use Rattle.assembly.specs.Mistakes.{bit, operands, words_least, words_most, words_behind, number_only, number_first, number_second, number_third, kind_mistake, count_mistake, statement_mistake, found_number};
+ghost use Rattle.assembly.specs.Lines.{as_line, is_name_word};
 ghost use Rattle.tokens.specs.Uses.{uses_a, uses_b};
 
-use crate::{Line, lines, place};
-use tokens::uses;
-
-const NO_STATEMENT: u64 = 7;
-
-const WORD_COUNT: u64 = 8;
-
-const NAME_DUE: u64 = 9;
-
-const NUMBER_DUE: u64 = 10;
+use crate::{MistakeKind, lines, place};
+use tokens::{SourceLine, uses};
 
 const OTHER: u64 = 23;
 
 const GO: u64 = 15;
 
+#[tactic(auto, unfolding(crate::specs::Mistakes::bit, model::specs::Test::pick))]
 fn bit(b: bool) -> u64
-    ensures value { result ≡ bit_of b }
+    ensures value { result ≡ bit b }
     ensures upper_bound { result ≤ 1 }
 {
-    if b {
-        return 1;
-    }
-    0
+    if b { 1 } else { 0 }
 }
 
 // How many of a, b and k an opcode uses.
+#[tactic(auto, unfolding(crate::specs::Mistakes::operands))]
 fn operands(opcode: u64) -> u64
     requires { opcode ≤ 16 }
-    ensures { result ≡ operandsOf opcode }
+    ensures { result ≡ operands opcode }
 {
     let used = uses::used(opcode);
     bit(used.a) + bit(used.b) + bit(used.k)
 }
 
+#[tactic(auto, using(model::proofs::TestLaws::tests), unfolding(crate::specs::Mistakes::words_least, model::specs::Test::pick))]
 fn words_least(statement: u64) -> u64
     ensures { result ≡ words_least statement }
 {
-    if statement == 0 {
-        return 0;
+    match statement {
+        0 => 0,
+        1..=17 => operands(statement - 1),
+        lines::TRANSACTION => 2,
+        _ => 1,
     }
-    if statement <= 17 {
-        return operands(statement - 1);
-    }
-    if statement == lines::TRANSACTION {
-        return 2;
-    }
-    1
 }
 
+#[tactic(auto, using(model::proofs::TestLaws::tests), unfolding(crate::specs::Mistakes::words_most, model::specs::Test::pick))]
 fn words_most(statement: u64) -> u64
     ensures { result ≡ words_most statement }
 {
     if statement == lines::TASK {
-        return 2;
+        2
+    } else {
+        words_least(statement)
     }
-    words_least(statement)
 }
 
 // The words behind the statement.
-fn words_behind(line: Line) -> u64
-    ensures { result ≡ words_behind line }
+#[tactic(auto, using(model::proofs::TestLaws::tests), unfolding(crate::specs::Mistakes::words_behind, model::specs::Test::pick))]
+fn words_behind(line: SourceLine) -> u64
+    ensures { result ≡ words_behind (as_line line) }
 {
     if line.first == 0 {
         return 0;
@@ -79,158 +70,97 @@ fn words_behind(line: Line) -> u64
     3
 }
 
-fn count_mistake(line: Line) -> u64
-    ensures { result ≡ count_mistake line }
+#[tactic(auto, using(model::proofs::TestLaws::tests, crate::proofs::MistakeLaws::in_turn), unfolding(crate::specs::Mistakes::count_mistake, model::specs::Test::either))]
+fn count_mistake(line: SourceLine) -> Result<(), MistakeKind>
+    ensures { found_number result ≡ count_mistake (as_line line) }
 {
     let behind = words_behind(line);
-    if behind < words_least(line.statement) {
-        return WORD_COUNT;
+    if behind < words_least(line.statement) || words_most(line.statement) < behind {
+        return Err(MistakeKind::WordCount);
     }
-    if words_most(line.statement) < behind {
-        return WORD_COUNT;
-    }
-    0
+    Ok(())
 }
 
 // k is a number and nothing else.
+#[tactic(auto, using(model::proofs::TestLaws::tests), unfolding(crate::specs::Mistakes::number_only, model::specs::Test::both))]
 fn number_only(opcode: u64) -> bool
     ensures { result ≡ number_only opcode }
 {
-    if uses::is_jump(opcode) {
-        return false;
-    }
-    opcode != GO
+    !uses::is_jump(opcode) && opcode != GO
 }
 
-fn number_first(line: Line) -> bool
-    ensures { result ≡ number_first line }
+#[tactic(auto, using(model::proofs::TestLaws::tests, crate::proofs::LineLaws::instruction_in), unfolding(crate::specs::Mistakes::number_first, model::specs::Test::both, model::specs::Test::either))]
+fn number_first(line: SourceLine) -> bool
+    ensures { result ≡ number_first (as_line line) }
 {
-    if line.statement == lines::MEMORY {
-        return true;
-    }
-    if lines::is_instruction(line) {
-        return uses::used(line.statement - 1).a;
-    }
-    false
+    line.statement == lines::MEMORY
+        || lines::is_instruction(line) && uses::used(line.statement - 1).a
 }
 
 // The second word of an instruction is b, or k.
+#[tactic(auto, using(model::proofs::TestLaws::tests), unfolding(model::specs::Test::both, model::specs::Test::either))]
 fn second_is_number(opcode: u64) -> bool
     requires { opcode ≤ 16 }
     ensures { result ≡ (uses_b opcode or (uses_a opcode and number_only opcode)) }
 {
     let used = uses::used(opcode);
-    if used.b {
-        return true;
-    }
-    if used.a {
-        return number_only(opcode);
-    }
-    false
+    used.b || used.a && number_only(opcode)
 }
 
-fn number_second(line: Line) -> bool
-    ensures { result ≡ number_second line }
+#[tactic(auto, using(model::proofs::TestLaws::tests, crate::proofs::LineLaws::instruction_in), unfolding(crate::specs::Mistakes::number_second, model::specs::Test::both, model::specs::Test::either))]
+fn number_second(line: SourceLine) -> bool
+    ensures { result ≡ number_second (as_line line) }
 {
-    if line.statement == lines::TRANSACTION {
-        return true;
-    }
-    if lines::is_instruction(line) {
-        return second_is_number(line.statement - 1);
-    }
-    false
+    line.statement == lines::TRANSACTION
+        || lines::is_instruction(line) && second_is_number(line.statement - 1)
 }
 
 // The third word of an instruction is k.
+#[tactic(auto, using(model::proofs::TestLaws::tests), unfolding(model::specs::Test::both))]
 fn third_is_number(opcode: u64) -> bool
     requires { opcode ≤ 16 }
     ensures { result ≡ (uses_b opcode and number_only opcode) }
 {
-    let used = uses::used(opcode);
-    if used.b {
-        return number_only(opcode);
-    }
-    false
+    uses::used(opcode).b && number_only(opcode)
 }
 
-fn number_third(line: Line) -> bool
-    ensures { result ≡ number_third line }
+#[tactic(auto, using(model::proofs::TestLaws::tests, crate::proofs::LineLaws::instruction_in), unfolding(crate::specs::Mistakes::number_third, model::specs::Test::both))]
+fn number_third(line: SourceLine) -> bool
+    ensures { result ≡ number_third (as_line line) }
 {
-    if lines::is_instruction(line) {
-        return third_is_number(line.statement - 1);
-    }
-    false
+    lines::is_instruction(line) && third_is_number(line.statement - 1)
 }
 
+#[tactic(auto, using(model::proofs::TestLaws::tests))]
 pub fn is_name(word: u64) -> bool
     ensures { result ≡ is_name_word word }
 {
     word > 65536
 }
 
-fn no_name_first(line: Line) -> bool
-    ensures { result ≡ (name_first line.statement and not (is_name_word line.first)) }
+#[tactic(auto, using(model::proofs::TestLaws::tests, crate::proofs::MistakeLaws::in_turn), unfolding(crate::specs::Mistakes::kind_mistake, model::specs::Test::both))]
+fn kind_mistake(line: SourceLine) -> Result<(), MistakeKind>
+    ensures { found_number result ≡ kind_mistake (as_line line) }
 {
-    if place::name_first(line.statement) {
-        return !is_name(line.first);
+    if place::name_first(line.statement) && !is_name(line.first) {
+        return Err(MistakeKind::NameDue);
     }
-    false
+    if number_first(line) && is_name(line.first)
+        || number_second(line) && is_name(line.second)
+        || number_third(line) && is_name(line.third)
+    {
+        return Err(MistakeKind::NumberDue);
+    }
+    Ok(())
 }
 
-fn no_number_first(line: Line) -> bool
-    ensures { result ≡ (number_first line and is_name_word line.first) }
-{
-    if number_first(line) {
-        return is_name(line.first);
-    }
-    false
-}
-
-fn no_number_second(line: Line) -> bool
-    ensures { result ≡ (number_second line and is_name_word line.second) }
-{
-    if number_second(line) {
-        return is_name(line.second);
-    }
-    false
-}
-
-fn no_number_third(line: Line) -> bool
-    ensures { result ≡ (number_third line and is_name_word line.third) }
-{
-    if number_third(line) {
-        return is_name(line.third);
-    }
-    false
-}
-
-fn kind_mistake(line: Line) -> u64
-    ensures { result ≡ kind_mistake line }
-{
-    if no_name_first(line) {
-        return NAME_DUE;
-    }
-    if no_number_first(line) {
-        return NUMBER_DUE;
-    }
-    if no_number_second(line) {
-        return NUMBER_DUE;
-    }
-    if no_number_third(line) {
-        return NUMBER_DUE;
-    }
-    0
-}
-
-pub fn statement_mistake(line: Line) -> u64
-    ensures { result ≡ statement_mistake line }
+#[tactic(auto, using(model::proofs::TestLaws::tests, crate::proofs::MistakeLaws::in_turn), unfolding(crate::specs::Mistakes::statement_mistake))]
+pub fn statement_mistake(line: SourceLine) -> Result<(), MistakeKind>
+    ensures { found_number result ≡ statement_mistake (as_line line) }
 {
     if line.statement == OTHER {
-        return NO_STATEMENT;
+        return Err(MistakeKind::NoStatement);
     }
-    let mistake = count_mistake(line);
-    if mistake != 0 {
-        return mistake;
-    }
+    count_mistake(line)?;
     kind_mistake(line)
 }

@@ -4,8 +4,7 @@
 
 use command::{Command, Got};
 use image::Loaded;
-use listing::Listed;
-use model::Checked;
+use model::Refusal;
 use std::io;
 
 fn usage(to: &impl Print) -> io::Result<()> {
@@ -18,9 +17,9 @@ fn print_number(rt: &HostRuntime, number: u16) -> io::Result<()> {
 }
 
 // A refusal with its number and place.
-fn tell(rt: &HostRuntime, checked: Result<(), Refusal>) -> io::Result<()> {
+fn tell(rt: &HostRuntime, refusal: Refusal) -> io::Result<()> {
     let mut told = [0u16; 5];
-    words::write_checked(&mut told, checked);
+    words::write_checked(&mut told, Err(refusal));
     eprint!(rt; "refused")?;
     print_number(rt, told[2])?;
     print_number(rt, told[3])?;
@@ -53,11 +52,9 @@ fn write_listed(
 
 fn list(rt: &HostRuntime, command: Command, program: &[u16]) -> io::Result<()> {
     let mut text = [0u8; 524288];
-    let listed = listing::disassemble(program, &mut text);
-    let checked = listed.checked;
-    match checked {
-        Ok(()) => write_listed(rt, command, &text, listed.end, program.len()),
-        Err(why) => tell(rt, Err(why)),
+    match listing::disassemble(program, &mut text) {
+        Ok(end) => write_listed(rt, command, &text, end, program.len()),
+        Err(refusal) => tell(rt, refusal),
     }
 }
 
@@ -74,10 +71,9 @@ fn list_loaded(
     loaded: Loaded,
     words: &[u16; 65535],
 ) -> io::Result<()> {
-    let checked = loaded.checked;
-    match checked {
+    match loaded.checked {
         Ok(()) => list_words(rt, command, words, loaded.length),
-        Err(why) => tell(rt, Err(why)),
+        Err(refusal) => tell(rt, refusal),
     }
 }
 

@@ -1,9 +1,9 @@
 -- Worked rows of what is printed. proofs/Rows.antt has the theorem, in which the checker computes every row from the definitions.
+use Rattle.model.specs.Types.{Ok}
 use Rattle.std.specs.Prelude.{ℕ, List, [], ◌∷◌, ◌++◌, ◌≡◌}
 use Rattle.listing.specs.Listing.{label_name, spaces, instruction_text, listing}
 use Rattle.model.specs.Check.{check}
 use Rattle.model.specs.Starred.{counting}
-use Rattle.model.specs.declared.Checked.{Checked}
 use Rattle.text.specs.Ascii.{ascii}
 
 -- two tasks, the first of transaction 7, and an event, each with jumps or GO

@@ -11,21 +11,15 @@ ghost use Rattle.model.specs.Program.{tasks, bodies, instructions};
 ghost use Rattle.text.specs.Puts.{Puts};
 
 use lines::numbered;
-use model::Checked;
+use model::Refusal;
 use program::rows;
 use text::put;
 
 mod lines;
 
-// What the check says of the words, and where the text ends: 0 where they are refused.
-#[derive(Clone, Copy)]
-pub struct Listed {
-    pub checked: Result<(), Refusal>,
-    pub end: usize,
-}
-
+#[tactic(auto, using(crate::proofs::ListingLaws::putting), unfolding(crate::specs::Listing::first_lines, text::specs::Text::spaced, crate::specs::Listing::task_name))]
 fn first_lines(text: &mut [u8], program: &[u16]) -> usize
-    requires in_bounds { 60 ≤ length text.old }
+    requires room_left { 60 ≤ length text.old }
     requires contents { Contents program.now }
     ensures puts { Puts text.old 0 text.new result (first_lines program.now) }
     ensures upper_bound { result ≤ 40 }
@@ -37,23 +31,22 @@ fn first_lines(text: &mut [u8], program: &[u16]) -> usize
 }
 
 // A task has this transaction number.
+#[tactic(auto, using(model::proofs::TestLaws::tests, crate::proofs::ListingLaws::search_for_number), unfolding(crate::specs::Listing::has_number))]
 fn has_number(program: &[u16], n: u16) -> bool
     requires { RowsInside program.now }
     ensures { result ≡ has_number program.now n (tasks program.now) }
 {
-    let count = program[1];
-    let mut task = 0;
-    while task < count {
+    for task in 0..program[1] {
         if rows::transaction(program, task) == n {
             return true;
         }
-        task += 1;
     }
     false
 }
 
+#[tactic(auto, using(crate::proofs::ListingLaws::putting), unfolding(crate::specs::Listing::transaction_line, crate::specs::Listing::transaction_name, text::specs::Text::spaced, model::specs::Test::pick))]
 fn transaction_line(text: &mut [u8], at: usize, program: &[u16], n: u16) -> usize
-    requires at_in_bounds { at + 60 ≤ length text.old }
+    requires room_left { at + 60 ≤ length text.old }
     requires rows_inside { RowsInside program.now }
     ensures puts { Puts text.old at text.new result (transaction_line program.now n) }
     ensures upper_bound { result ≤ at + 40 }
@@ -67,22 +60,22 @@ fn transaction_line(text: &mut [u8], at: usize, program: &[u16], n: u16) -> usiz
 }
 
 // The lines of the transaction numbers that tasks have.
+#[tactic(auto, using(crate::proofs::ListingLaws::putting, crate::proofs::ListingLaws::one_more), unfolding(crate::specs::Listing::transaction_lines))]
 fn transaction_lines(text: &mut [u8], at: usize, program: &[u16]) -> usize
-    requires at_in_bounds { at + 10300 ≤ length text.old }
+    requires room_left { at + 10300 ≤ length text.old }
     requires rows_inside { RowsInside program.now }
     ensures puts { Puts text.old at text.new result (transaction_lines program.now 255) }
     ensures upper_bound { result ≤ at + 10200 }
 {
     let mut end = at;
-    let mut n = 0u16;
-    while n < 255 {
+    for n in 0..255 {
         end = transaction_line(text, end, program, n + 1);
-        n += 1;
     }
     end
 }
 
 // A task's transaction, behind its name.
+#[tactic(auto, using(crate::proofs::ListingLaws::putting, model::proofs::TestLaws::tests), unfolding(crate::specs::Listing::transaction_word, crate::specs::Listing::transaction_name, model::specs::Test::pick))]
 fn transaction_word(text: &mut [u8], at: usize, n: u16) -> usize
     requires { at + 26 ≤ length text.old }
     ensures puts { Puts text.old at text.new result (transaction_word n) }
@@ -95,8 +88,9 @@ fn transaction_word(text: &mut [u8], at: usize, n: u16) -> usize
 }
 
 // An empty line, and the line that begins a body.
+#[tactic(auto, using(crate::proofs::ListingLaws::putting, model::proofs::TestLaws::tests), unfolding(crate::specs::Listing::heading, crate::specs::Listing::task_name, crate::specs::Listing::event_name, model::specs::Test::pick))]
 fn heading(text: &mut [u8], at: usize, program: &[u16], body: u16) -> usize
-    requires at_in_bounds { at + 60 ≤ length text.old }
+    requires room_left { at + 60 ≤ length text.old }
     requires has_row { HasRow program.now body }
     ensures puts { Puts text.old at text.new result (heading program.now body) }
     ensures upper_bound { result ≤ at + 40 }
@@ -110,8 +104,9 @@ fn heading(text: &mut [u8], at: usize, program: &[u16], body: u16) -> usize
     put(text, end, b"\n")
 }
 
+#[tactic(auto, using(crate::proofs::ListingLaws::putting))]
 fn body(text: &mut [u8], at: usize, program: &[u16], body: u16) -> usize
-    requires at_in_bounds { at + 10360 ≤ length text.old }
+    requires room_left { at + 10360 ≤ length text.old }
     requires printable_body { PrintableBody program.now body }
     ensures puts { Puts text.old at text.new result (heading program.now body
         ++ instruction_lines program.now body (instructions program.now body)) }
@@ -122,32 +117,27 @@ fn body(text: &mut [u8], at: usize, program: &[u16], body: u16) -> usize
 }
 
 // Tasks, then events.
+#[tactic(auto, using(crate::proofs::ListingLaws::putting, crate::proofs::ListingLaws::one_more), unfolding(crate::specs::Listing::body_lines))]
 fn body_lines(text: &mut [u8], at: usize, program: &[u16]) -> usize
-    requires at_in_bounds { at + 503800 ≤ length text.old }
+    requires room_left { at + 503800 ≤ length text.old }
     requires printable { Printable program.now }
     ensures puts { Puts text.old at text.new result (body_lines program.now (bodies program.now)) }
     ensures upper_bound { result ≤ at + 493440 }
 {
-    let count = program[1] + program[2];
     let mut end = at;
-    let mut number = 0;
-    while number < count {
+    for number in 0..program[1] + program[2] {
         end = body(text, end, program, number);
-        number += 1;
     }
     end
 }
 
-// The program's text, or its refusal.
-pub fn disassemble(program: &[u16], text: &mut [u8; 524288]) -> Listed
+// Where the program's text ends, or its refusal.
+pub fn disassemble(program: &[u16], text: &mut [u8; 524288]) -> Result<usize, Refusal>
     ensures { Lists program.now text.new result }
 {
-    let checked = program::check(program);
-    let Ok(()) = checked else {
-        return Listed { checked, end: 0 };
-    };
+    program::check(program)?;
     let end = first_lines(text, program);
     let end = transaction_lines(text, end, program);
     let end = body_lines(text, end, program);
-    Listed { checked, end }
+    Ok(end)
 }

@@ -16,6 +16,7 @@ use tokens::{statements, uses};
 const GO: u64 = 15;
 
 // Bytes, and a number behind them.
+#[tactic(auto, using(crate::proofs::ListingLaws::putting))]
 pub fn numbered(text: &mut [u8], at: usize, bytes: &[u8], n: u16) -> usize
     requires { at + length bytes.now + 20 ≤ length text.old }
     ensures puts { Puts text.old at text.new result (bytes.now ++ decimal_of n) }
@@ -26,34 +27,31 @@ pub fn numbered(text: &mut [u8], at: usize, bytes: &[u8], n: u16) -> usize
 }
 
 // An instruction of a body is a jump to this place.
+#[tactic(auto, using(model::proofs::TestLaws::tests), unfolding(model::specs::Test::both))]
 fn jumps_to(program: &[u16], body: u16, number: u16, place: u16) -> bool
     requires { HasInstruction program.now body number }
     ensures { result ≡ (is_jump (opcode (code program.now body number)) and eqb (operand program.now body number) place) }
 {
     let word = code::code(program, body, number);
-    if !uses::is_jump((word / 256) as u64) {
-        return false;
-    }
-    code::operand(program, body, number) == place
+    uses::is_jump((word / 256) as u64) && code::operand(program, body, number) == place
 }
 
 // One of a body's instructions jumps to this place.
+#[tactic(auto, using(crate::proofs::ListingLaws::search_for_target), unfolding(crate::specs::Listing::is_target))]
 fn is_target(program: &[u16], body: u16, place: u16) -> bool
     requires { HasBody program.now body }
     ensures { result ≡ is_target program.now body place (instructions program.now body) }
 {
-    let count = rows::instructions(program, body);
-    let mut number = 0;
-    while number < count {
+    for number in 0..rows::instructions(program, body) {
         if jumps_to(program, body, number, place) {
             return true;
         }
-        number += 1;
     }
     false
 }
 
 // Behind a label and its colon.
+#[tactic(auto, using(crate::proofs::ListingLaws::putting, model::proofs::TestLaws::tests), unfolding(crate::specs::Listing::spaces, model::specs::Test::pick))]
 fn spaces(text: &mut [u8], at: usize, place: u16) -> usize
     requires { at + 4 ≤ length text.old }
     ensures puts { Puts text.old at text.new result (spaces place) }
@@ -69,8 +67,9 @@ fn spaces(text: &mut [u8], at: usize, place: u16) -> usize
 }
 
 // Spaces, or the label where a jump goes.
+#[tactic(auto, using(crate::proofs::ListingLaws::putting), unfolding(crate::specs::Listing::margin, crate::specs::Listing::label_name, model::specs::Test::pick))]
 fn margin(text: &mut [u8], at: usize, program: &[u16], body: u16, place: u16) -> usize
-    requires at_in_bounds { at + 22 ≤ length text.old }
+    requires room_left { at + 22 ≤ length text.old }
     requires has_body { HasBody program.now body }
     ensures puts { Puts text.old at text.new result (margin program.now body place) }
     ensures upper_bound { result ≤ at + 12 }
@@ -83,6 +82,7 @@ fn margin(text: &mut [u8], at: usize, program: &[u16], body: u16, place: u16) ->
     spaces(text, end, place)
 }
 
+#[tactic(auto, using(crate::proofs::ListingLaws::putting), unfolding(crate::specs::Listing::register, text::specs::Text::spaced, model::specs::Test::pick))]
 fn register(text: &mut [u8], at: usize, used: bool, n: u16) -> usize
     requires { at + 21 ≤ length text.old }
     ensures puts { Puts text.old at text.new result (register used n) }
@@ -95,6 +95,7 @@ fn register(text: &mut [u8], at: usize, used: bool, n: u16) -> usize
 }
 
 // k: a label, a task's name or a number.
+#[tactic(auto, using(crate::proofs::ListingLaws::putting, model::proofs::TestLaws::tests), unfolding(crate::specs::Listing::target, crate::specs::Listing::label_name, crate::specs::Listing::task_name, text::specs::Text::spaced, model::specs::Test::pick))]
 fn target(text: &mut [u8], at: usize, opcode: u64, k: u16) -> usize
     requires { at + 25 ≤ length text.old }
     ensures puts { Puts text.old at text.new result (target opcode k) }
@@ -109,6 +110,7 @@ fn target(text: &mut [u8], at: usize, opcode: u64, k: u16) -> usize
     numbered(text, at, b" ", k)
 }
 
+#[tactic(auto, using(crate::proofs::ListingLaws::putting), unfolding(model::specs::Test::pick))]
 fn operand(text: &mut [u8], at: usize, used: bool, opcode: u64, k: u16) -> usize
     requires { at + 25 ≤ length text.old }
     ensures puts { Puts text.old at text.new result (pick used (target opcode k) []) }
@@ -121,9 +123,10 @@ fn operand(text: &mut [u8], at: usize, used: bool, opcode: u64, k: u16) -> usize
 }
 
 // The opcode's name and the fields that it uses.
+#[tactic(auto, using(crate::proofs::ListingLaws::putting, crate::proofs::ListingLaws::few_letters), unfolding(crate::specs::Listing::instruction_text))]
 fn instruction(text: &mut [u8], at: usize, word: u16, k: u16) -> usize
-    requires at_in_bounds { at + 48 ≤ length text.old }
-    requires word_bound { opcode word ≤ 16 }
+    requires room_left { at + 48 ≤ length text.old }
+    requires known_opcode { opcode word ≤ 16 }
     ensures puts { Puts text.old at text.new result (instruction_text word k) }
     ensures upper_bound { result ≤ at + 28 }
 {
@@ -136,10 +139,11 @@ fn instruction(text: &mut [u8], at: usize, word: u16, k: u16) -> usize
     put(text, end, b"\n")
 }
 
+#[tactic(auto, using(crate::proofs::ListingLaws::putting), unfolding(crate::specs::Listing::instruction_line))]
 fn line(text: &mut [u8], at: usize, program: &[u16], body: u16, number: u16) -> usize
-    requires at_in_bounds { at + 60 ≤ length text.old }
+    requires room_left { at + 60 ≤ length text.old }
     requires has_instruction { HasInstruction program.now body number }
-    requires number_bound { opcode (code program.now body number) ≤ 16 }
+    requires known_opcode { opcode (code program.now body number) ≤ 16 }
     ensures puts { Puts text.old at text.new result (instruction_line program.now body number) }
     ensures upper_bound { result ≤ at + 40 }
 {
@@ -150,19 +154,17 @@ fn line(text: &mut [u8], at: usize, program: &[u16], body: u16, number: u16) -> 
 }
 
 // The lines of a body's instructions.
+#[tactic(auto, using(crate::proofs::ListingLaws::putting, crate::proofs::ListingLaws::one_more), unfolding(crate::specs::Listing::instruction_lines))]
 pub fn lines(text: &mut [u8], at: usize, program: &[u16], body: u16) -> usize
-    requires at_in_bounds { at + 10300 ≤ length text.old }
+    requires room_left { at + 10300 ≤ length text.old }
     requires printable_body { PrintableBody program.now body }
     ensures puts { Puts text.old at text.new result
         (instruction_lines program.now body (instructions program.now body)) }
     ensures upper_bound { result ≤ at + 10240 }
 {
-    let count = rows::instructions(program, body);
     let mut end = at;
-    let mut number = 0;
-    while number < count {
+    for number in 0..rows::instructions(program, body) {
         end = line(text, end, program, body, number);
-        number += 1;
     }
     end
 }

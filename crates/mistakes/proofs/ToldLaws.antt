@@ -1,8 +1,4 @@
--- How many mistakes have words. Assumes nothing.
-use mathlib.Core.Path.{◌≡◌, refl}
-use lib.ListN.{length}
-use Rattle.mistakes.specs.Told.{mistake_texts}
+-- What is put behind what was put. Assumes nothing.
+use Rattle.text.proofs.TextLaws.{puts_then}
 
-pub texts_length : length mistake_texts ≡ 37
-unfolding mistake_texts
-texts_length = refl
+pub ruleset putting = (puts_then)

@@ -2,7 +2,7 @@
 use Rattle.std.specs.Prelude.{ℕ, List, [], ◌∷◌, ◌++◌, get_or}
 use Rattle.text.specs.Ascii.{ascii}
 use Rattle.text.specs.Text.{decimal}
-use Rattle.assembly.specs.declared.Mistake.{Mistake}
+use Rattle.assembly.specs.Mistakes.{MistakeNumbers}
 
 -- from number 1 on; 0 has none
 unfoldable pub mistake_texts : List (List ℕ)
@@ -46,5 +46,5 @@ mistake_texts =
     ∷ ascii "a text has at most 1048576 bytes and 65536 lines"
     ∷ []
 
-unfoldable pub told : Mistake → List ℕ
+unfoldable pub told : MistakeNumbers → List ℕ
 told m = ascii "line " ++ decimal m.line ++ ascii ": " ++ get_or mistake_texts m.number [] ++ ascii "\n"

@@ -2,89 +2,82 @@
 
 #![tactic(auto)]
 
-ghost use Rattle.std.specs.Prelude.{◌+◌, ◌≤◌, length, get_or, []};
+ghost use Rattle.std.specs.Prelude.{◌≤◌, ◌≡◌, length, get_or, [], Some};
 ghost use Rattle.text.specs.Puts.{Puts};
-ghost use Rattle.mistakes.specs.Told.{mistake_texts, told as toldOf};
+ghost use Rattle.assembly.specs.Mistakes.{kind_number, mistake_at};
+ghost use Rattle.tokens.specs.Tokens.{wrong_number};
+ghost use Rattle.mistakes.specs.Told.{mistake_texts, told};
 
-use assembly::Mistake;
+use assembly::{Mistake, MistakeKind};
 use text::{decimal, put};
+use tokens::Wrong;
 
-// The words of mistake n at a place of the text, and where they end; nothing of other numbers.
-fn put_text(text: &mut [u8], at: usize, n: u64) -> usize
-    requires { at + 60 ≤ length text.old }
-    ensures puts { Puts text.old at text.new result (get_or mistake_texts n []) }
-    ensures upper_bound { result ≤ at + 60 }
+// What is wrong in a line as it is read, in words.
+#[tactic(auto, unfolding(crate::specs::Told::mistake_texts))]
+fn reading_words(wrong: Wrong) -> &'static [u8]
+    ensures value { result.now ≡ get_or mistake_texts (wrong_number (Some wrong)) [] }
+    ensures upper_bound { length result.now ≤ 60 }
 {
-    match n {
-        0 => at,
-        1 => put(text, at, b"this character can't stand here"),
-        2 => put(text, at, b"a number is at most 65535"),
-        3 => put(
-            text,
-            at,
-            b"a number is decimal digits, or 0x and hex digits",
-        ),
-        4 => put(text, at, b"a name has at most 12 characters"),
-        5 => put(text, at, b"a line has at most four words behind its label"),
-        6 => put(
-            text,
-            at,
-            b"a colon stands behind the line's first word, a name",
-        ),
-        7 => put(text, at, b"no statement begins so"),
-        8 => put(text, at, b"this statement has another number of words"),
-        9 => put(text, at, b"a name is due here"),
-        10 => put(text, at, b"a number is due here"),
-        11 => put(
-            text,
-            at,
-            b"a label stands in a body, alone or before an instruction",
-        ),
-        12 => put(text, at, b"this label is taken"),
-        13 => put(text, at, b"an instruction stands in a body"),
-        14 => put(text, at, b"tasks stand before events"),
-        15 => put(text, at, b"this name is taken"),
-        16 => put(text, at, b"this is given above"),
-        17 => put(text, at, b"no task has this name"),
-        18 => put(text, at, b"no instruction of this body has this label"),
-        19 => put(text, at, b"no transaction has this name"),
-        20 => put(text, at, b"memory isn't given"),
-        21 => put(text, at, b"entry isn't given"),
-        22 => put(text, at, b"a program has at most 65535 words"),
-        23 => put(text, at, b"a program has 1 to 32 tasks"),
-        24 => put(text, at, b"a program has at most 16 events"),
-        25 => put(text, at, b"memory has 1 to 1024 words"),
-        26 => put(text, at, b"no task has this number"),
-        27 => put(text, at, b"a body has 1 to 256 instructions"),
-        28 => put(text, at, b"a transaction's number is at most 255"),
-        29 => put(text, at, b"a register is 0 to 7"),
-        30 => put(text, at, b"SHR shifts by 0 to 15"),
-        31 => put(
-            text,
-            at,
-            b"the address isn't below the number of memory words",
-        ),
-        32 => put(text, at, b"the target isn't an instruction of this body"),
-        33 => put(text, at, b"GO stands only in tasks"),
-        34 => put(text, at, b"DONE stands only in events"),
-        35 => put(text, at, b"a body ends with JUMP, GO or DONE"),
-        36 => put(
-            text,
-            at,
-            b"a text has at most 1048576 bytes and 65536 lines",
-        ),
-        37..=0xFFFF_FFFF_FFFF_FFFF => at,
+    match wrong {
+        Wrong::Character => b"this character can't stand here",
+        Wrong::NumberLarge => b"a number is at most 65535",
+        Wrong::NumberForm => b"a number is decimal digits, or 0x and hex digits",
+        Wrong::NameLong => b"a name has at most 12 characters",
+        Wrong::WordsMany => b"a line has at most four words behind its label",
+        Wrong::Colon => b"a colon stands behind the line's first word, a name",
+    }
+}
+
+// What a mistake is, in words.
+#[tactic(auto, unfolding(crate::specs::Told::mistake_texts))]
+fn words(kind: MistakeKind) -> &'static [u8]
+    ensures value { result.now ≡ get_or mistake_texts (kind_number kind) [] }
+    ensures upper_bound { length result.now ≤ 60 }
+{
+    match kind {
+        MistakeKind::Reading(wrong) => reading_words(wrong),
+        MistakeKind::NoStatement => b"no statement begins so",
+        MistakeKind::WordCount => b"this statement has another number of words",
+        MistakeKind::NameDue => b"a name is due here",
+        MistakeKind::NumberDue => b"a number is due here",
+        MistakeKind::LabelPlace => b"a label stands in a body, alone or before an instruction",
+        MistakeKind::LabelTaken => b"this label is taken",
+        MistakeKind::InstructionPlace => b"an instruction stands in a body",
+        MistakeKind::TaskPlace => b"tasks stand before events",
+        MistakeKind::NameTaken => b"this name is taken",
+        MistakeKind::GivenAbove => b"this is given above",
+        MistakeKind::NoTask => b"no task has this name",
+        MistakeKind::NoLabel => b"no instruction of this body has this label",
+        MistakeKind::NoTransaction => b"no transaction has this name",
+        MistakeKind::NoMemory => b"memory isn't given",
+        MistakeKind::NoEntry => b"entry isn't given",
+        MistakeKind::ProgramLong => b"a program has at most 65535 words",
+        MistakeKind::TaskCount => b"a program has 1 to 32 tasks",
+        MistakeKind::EventCount => b"a program has at most 16 events",
+        MistakeKind::MemorySize => b"memory has 1 to 1024 words",
+        MistakeKind::NoTaskNumber => b"no task has this number",
+        MistakeKind::BodySize => b"a body has 1 to 256 instructions",
+        MistakeKind::TransactionLarge => b"a transaction's number is at most 255",
+        MistakeKind::RegisterLarge => b"a register is 0 to 7",
+        MistakeKind::ShiftLarge => b"SHR shifts by 0 to 15",
+        MistakeKind::AddressLarge => b"the address isn't below the number of memory words",
+        MistakeKind::TargetLarge => b"the target isn't an instruction of this body",
+        MistakeKind::GoPlace => b"GO stands only in tasks",
+        MistakeKind::DonePlace => b"DONE stands only in events",
+        MistakeKind::BodyEnd => b"a body ends with JUMP, GO or DONE",
+        MistakeKind::TextLong => b"a text has at most 1048576 bytes and 65536 lines",
     }
 }
 
 // A mistake with its line, and where it ends.
+#[tactic(auto, using(crate::proofs::ToldLaws::putting), unfolding(crate::specs::Told::told))]
 pub fn put_mistake(text: &mut [u8], mistake: Mistake) -> usize
     requires { 128 ≤ length text.old }
-    ensures { Puts text.old 0 text.new result (toldOf mistake) }
+    ensures { Puts text.old 0 text.new result (told (mistake_at mistake.line (kind_number mistake.kind))) }
 {
     let end = put(text, 0, b"line ");
     let end = decimal(text, end, mistake.line as u64);
     let end = put(text, end, b": ");
-    let end = put_text(text, end, mistake.number);
+    let end = put(text, end, words(mistake.kind));
     put(text, end, b"\n")
 }

@@ -1,5 +1,6 @@
 -- What an accepted check gives beside crates/model/specs/Accepted.antt: where each body starts, by the instructions before it, and each
 -- instruction's fields. Assumes nothing.
+use Rattle.model.specs.Types.{Ok}
 use Prim.Native.Nat.{ℕ, zero, suc, ◌+◌, ◌*◌, ◌≤◌, ◌<◌}
 use mathlib.Core.List.{List}
 use mathlib.Core.Path.{◌≡◌, refl}
@@ -14,7 +15,6 @@ use Rattle.model.specs.Accepted.{Contents, Sound}
 use Rattle.model.specs.Check.{contents_rule, rows, row_rule, row_usable, limits, due, instruction_rule, check}
 use Rattle.model.specs.Program.{word, program_mark, tasks, total, bodies, start, instructions, transaction, bodies_start, code, operand}
 use Rattle.model.specs.Test.{pick}
-use Rattle.model.specs.declared.Checked.{Checked}
 use Rattle.round_trip.proofs.OpcodeLaws.{Coded, coded}
 
 -- the instructions of the first i bodies

@@ -1,5 +1,6 @@
 -- The half of the round trip that goes from lines to words: the lines that an accepted program's text is read as (specs/Expected.antt) have no
 -- mistake, and their words are the program. Assumes nothing.
+use Rattle.model.specs.Types.{Ok}
 use Prim.Native.Nat.{ℕ}
 use mathlib.Core.List.{List}
 use mathlib.Core.Path.{◌≡◌, refl, ◌∙◌}
@@ -15,7 +16,6 @@ use Rattle.assembly.specs.Words.{words}
 use Rattle.model.proofs.TestLaws.{pick_true}
 use Rattle.model.specs.Check.{check}
 use Rattle.model.specs.Test.{pick}
-use Rattle.model.specs.declared.Checked.{Checked}
 use Rattle.round_trip.specs.Expected.{expected, flat}
 use Rattle.round_trip.proofs.AcceptedLaws.{Whole, whole}
 use Rattle.round_trip.proofs.LineLaws.{room, size}

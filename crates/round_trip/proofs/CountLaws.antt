@@ -10,7 +10,7 @@ use borrow.Author.Tests.{ltb-true, ltb-false}
 use lib.Dec.{eqb}
 use Rattle.assembly.proofs.LineLaws.{count_more, one-instruction, not_body}
 use Rattle.assembly.specs.Lines.{line_at, lines_at, task_line, event_line, body_line, instruction_line, is_body, is_instruction, is_of, one, count, count_from}
-use Rattle.assembly.specs.declared.Line.{Line}
+use Rattle.assembly.specs.Lines.{Line}
 use Rattle.listing.specs.Listing.{task_name, event_name, transaction_name, has_number}
 use Rattle.model.proofs.TestLaws.{pick_case}
 use Rattle.model.specs.Program.{tasks, bodies, instructions, transaction}

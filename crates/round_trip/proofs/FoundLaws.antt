@@ -11,7 +11,7 @@ use borrow.Author.Tests.{eq-eqb, ne_eqb}
 use lib.Dec.{eqb}
 use Rattle.assembly.proofs.LineLaws.{lines_step, lines_end}
 use Rattle.assembly.specs.Lines.{line_at, lines_at, transaction_line, task_line, event_line, is_body, is_instruction, one, is_of, none, is_named, numbered, transaction_value, label_number, has_label, body_count, body_start}
-use Rattle.assembly.specs.declared.Line.{Line}
+use Rattle.assembly.specs.Lines.{Line}
 use Rattle.listing.proofs.ListingLaws.{number-found}
 use Rattle.listing.specs.Listing.{task_name, event_name, transaction_name, label_name, has_number, is_target}
 use Rattle.model.proofs.TestLaws.{pick_case, pick_true, pick-false, and_true, and_false, same_or}

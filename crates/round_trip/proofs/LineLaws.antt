@@ -10,7 +10,7 @@ use native.Mathlib.Omega.{arith}
 use lib.ListN.{length, get_or, length-append, get_or-append}
 use lib.Seq.{get_or-append-add, get_or-append_seam}
 use Rattle.assembly.specs.Lines.{line_at}
-use Rattle.assembly.specs.declared.Line.{Line}
+use Rattle.assembly.specs.Lines.{Line}
 use Rattle.listing.specs.Listing.{has_number}
 use Rattle.model.proofs.TestLaws.{same_or, below_or, pick_true, pick-false}
 use Rattle.model.specs.Program.{tasks, bodies, instructions}

@@ -9,7 +9,7 @@ use native.Mathlib.Omega.{arith}
 use lib.Dec.{eqb}
 use Rattle.assembly.proofs.LineLaws.{lines_step, lines_end, one-instruction}
 use Rattle.assembly.specs.Lines.{line_at, lines_at, transaction_line, instruction_line, is_body, is_instruction, none, value, one, count_from, count, body_count, is_named, numbered, transaction_value, label_number, has_label}
-use Rattle.assembly.specs.declared.Line.{Line}
+use Rattle.assembly.specs.Lines.{Line}
 use Rattle.model.proofs.TestLaws.{pick_true, pick-false}
 
 -- ---- A search g that passes by the lines that are P, and counts those of a class

@@ -11,8 +11,8 @@ use lib.Dec.{eqb, ltb}
 use Rattle.assembly.proofs.MistakeLaws.{next-counts, not_made, not_made_first}
 use Rattle.assembly.specs.Lines.{line_at, lines_at, memory_line, entry_line, transaction_line, task_line, event_line, is_instruction, is_name_word, none, one, is_of, count_from, numbered, has_label, body_start}
 use Rattle.assembly.specs.Mistakes.{mistake_at, own_mistake, name_first, label_mistake, place_mistake, name_mistake, task_word, label_word, transaction_word, missing_task, missing_label, missing_transaction, among_mistake, first_own, first_among}
-use Rattle.assembly.specs.declared.Line.{Line}
-use Rattle.assembly.specs.declared.Mistake.{Mistake}
+use Rattle.assembly.specs.Lines.{Line}
+use Rattle.assembly.specs.Mistakes.{MistakeNumbers}
 use Rattle.listing.specs.Listing.{task_name, transaction_name, label_name, is_target}
 use Rattle.model.proofs.TestLaws.{pick_case, pick_true, and_false, clash}
 use Rattle.model.specs.Program.{tasks, memory_words, entry, bodies, instructions, transaction, operand}
@@ -29,7 +29,7 @@ use Rattle.round_trip.proofs.StatementLaws.{sample-none, sample-number, sample-n
 
 -- ---- The first of no mistakes
 
-module _ (g : ℕ → ℕ → Mistake) (f : ℕ → ℕ) (ends : (i : ℕ) → g i 0 ≡ mistake_at 0 0) (step : (i k : ℕ) → f i ≡ 0 → g i (suc k) ≡ g (suc i) k) where
+module _ (g : ℕ → ℕ → MistakeNumbers) (f : ℕ → ℕ) (ends : (i : ℕ) → g i 0 ≡ mistake_at 0 0) (step : (i k : ℕ) → f i ≡ 0 → g i (suc k) ≡ g (suc i) k) where
   first-none : (i k : ℕ) → ((y : ℕ) → i ≤ y → y < i + k → f y ≡ 0) → g i k ≡ mistake_at 0 0
   first-none i zero h = ends i
   first-none i (suc k) h = step i k (h i (omega arith) (omega arith)) ∙ first-none (suc i) k (λ y l u. h y (omega arith) (omega arith))

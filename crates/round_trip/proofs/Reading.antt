@@ -1,5 +1,6 @@
 -- The text of a program that the check accepts is read as the lines of specs/Expected.antt, statement by statement, and it fits what can be
 -- assembled. Assumes nothing.
+use Rattle.model.specs.Types.{Ok}
 use Prim.Native.Nat.{ℕ, zero, suc, ◌+◌, ◌-◌, ◌*◌, ◌≤◌, ◌<◌}
 use mathlib.Core.Bool.{Bool, true}
 use mathlib.Core.List.{List, [], ◌∷◌, ◌++◌, append_assoc, append-nil}
@@ -9,7 +10,7 @@ use borrow.Author.Tests.{ltb-true, leb-true, le-leb}
 use lib.Dec.{eqb, ltb, leb}
 use lib.ListN.{length, get_or, length-append}
 use Rattle.assembly.specs.Lines.{task_line}
-use Rattle.assembly.specs.declared.Line.{Line}
+use Rattle.assembly.specs.Lines.{Line}
 use Rattle.listing.proofs.ListingLaws.{sound_printable}
 use Rattle.listing.specs.Listing.{task_name, transaction_name, has_number, transaction_line, transaction_lines, register, target, instruction_text, instruction_line, instruction_lines, transaction_word, heading, body_lines, first_lines, listing}
 use Rattle.model.proofs.ProgramLaws.{row-passed, check-passed}
@@ -19,7 +20,6 @@ use Rattle.model.specs.Accepted.{Contents, Sound}
 use Rattle.model.specs.Check.{check, row_usable, limits, fields_fit, instruction_rule}
 use Rattle.model.specs.Program.{tasks, bodies, memory_words, entry, instructions, transaction, opcode, field_a, field_b, code, operand, bounds}
 use Rattle.model.specs.Test.{pick, ◌and◌}
-use Rattle.model.specs.declared.Checked.{Checked}
 use Rattle.round_trip.proofs.ReadingLines.{Gap, Words, Spaced, Lines, word-behind, spaced-behind, no_lines, lines_then, flat_append, line-ends, blank-line, no_margin, margin-gap}
 use Rattle.round_trip.proofs.ReadingWords.{pick-both, Word, number_word, task-word, event-word, transaction-word, label_word_lem, statement-word}
 use Rattle.round_trip.specs.Expected.{line, blank, memory_of, entry_of, transaction_of, transactions_of, heading_of, operand_word, if_used, operand_words, instruction_of, instructions_of, bodies_of, expected, flat}

@@ -8,7 +8,7 @@ use native.Mathlib.Omega.{arith}
 use borrow.Author.Tests.{lt-ltb, ne_eqb, not-true}
 use lib.Dec.{eqb}
 use lib.ListN.{length, get_or, replicate, length-append, length-replicate}
-use Rattle.assembly.specs.declared.Line.{Line}
+use Rattle.assembly.specs.Lines.{Line}
 use Rattle.listing.specs.Listing.{spaces, margin}
 use Rattle.model.proofs.TestLaws.{pick_case, pick-false, and_left, and_right}
 use Rattle.model.specs.Test.{pick, both, either}

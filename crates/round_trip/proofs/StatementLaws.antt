@@ -9,7 +9,7 @@ use lib.Dec.{eqb}
 use Rattle.assembly.proofs.MistakeLaws.{next-counts}
 use Rattle.assembly.specs.Lines.{memory_line, entry_line, transaction_line, task_line, event_line, is_instruction, is_name_word}
 use Rattle.assembly.specs.Mistakes.{or_else, mistake_if, bit, operands, words_least, words_most, words_behind, number_only, name_first, number_first, number_second, number_third, kind_mistake, count_mistake, statement_mistake, own_mistake}
-use Rattle.assembly.specs.declared.Line.{Line}
+use Rattle.assembly.specs.Lines.{Line}
 use Rattle.model.proofs.TestLaws.{pick_true, pick-false}
 use Rattle.model.specs.Test.{pick, both, either}
 use Rattle.tokens.specs.Tokens.{number}

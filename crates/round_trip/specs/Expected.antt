@@ -2,7 +2,7 @@
 -- halves of the proof, reading the text and assembling its lines; no claim rests on them. Assumes nothing.
 use Rattle.std.specs.Prelude.{ℕ, zero, suc, ◌-◌, ◌+◌, Bool, List, [], ◌∷◌, ◌++◌, eqb, ltb, get_or}
 use Rattle.assembly.specs.Lines.{memory_line, entry_line, transaction_line, task_line, event_line}
-use Rattle.assembly.specs.declared.Line.{Line}
+use Rattle.assembly.specs.Lines.{Line}
 use Rattle.listing.specs.Listing.{task_name, event_name, transaction_name, label_name, has_number, is_target}
 use Rattle.model.specs.Program.{tasks, bodies, memory_words, entry, instructions, transaction, opcode, field_a, field_b, code, operand}
 use Rattle.model.specs.Test.{pick}

@@ -1,11 +1,13 @@
 -- docs/ASSEMBLY.md, "Lines": from the bytes of a text to its lines, each as six numbers: what is wrong in it, its label, its statement and the words
 -- behind that. A number below 256 is a byte; `code` is a character's. Assumes nothing.
 use Prim.Native.Char.{code}
-use Rattle.std.specs.Prelude.{ℕ, suc, ◌+◌, ◌-◌, ◌*◌, ◌^◌, Bool, true, false, List, [], ◌∷◌, ◌++◌, eqb, leb, ltb, get_or}
+use Rattle.std.specs.Prelude.{ℕ, suc, ◌+◌, ◌-◌, ◌*◌, ◌^◌, Bool, true, false, List, [], ◌∷◌, ◌++◌, eqb, leb, ltb, get_or, Option, Some, None}
 use Rattle.model.specs.Test.{pick, ◌and◌, ◌or◌}
 use Rattle.text.specs.Ascii.{ascii}
 use Rattle.tokens.specs.declared.Kind.{Kind}
+use Rattle.tokens.specs.declared.SourceLine.{SourceLine}
 use Rattle.tokens.specs.declared.Reading.{Reading}
+use Rattle.tokens.specs.declared.Wrong.{Wrong}
 
 -- ---- Characters
 
@@ -40,35 +42,30 @@ spelled value (byte ∷ bytes) = spelled (38 * value + character byte) bytes
 abbrev pub named : List ℕ → ℕ
 named bytes = name (spelled 0 bytes)
 
--- ---- What is wrong in a line
+-- ---- What is wrong in a line, by its number; 0 where nothing is
 
-abbrev pub character_wrong : ℕ
-character_wrong = 1
+abbrev pub wrong_number : Option Wrong → ℕ
+wrong_number None = 0
+wrong_number (Some Wrong.Character) = 1
+wrong_number (Some Wrong.NumberLarge) = 2
+wrong_number (Some Wrong.NumberForm) = 3
+wrong_number (Some Wrong.NameLong) = 4
+wrong_number (Some Wrong.WordsMany) = 5
+wrong_number (Some Wrong.Colon) = 6
 
-abbrev pub number_large : ℕ
-number_large = 2
-
-abbrev pub number_form : ℕ
-number_form = 3
-
-abbrev pub name_long : ℕ
-name_long = 4
-
-abbrev pub words_many : ℕ
-words_many = 5
-
-abbrev pub colon_wrong : ℕ
-colon_wrong = 6
+abbrev pub right : Option Wrong → Bool
+right None = true
+right (Some _) = false
 
 -- ---- A line, byte by byte: what is wrong, label and words so far, and the word that is being read
 
 unfoldable pub start : Reading
-start = record { wrong = 0; label = 0; first = 0; second = 0; third = 0; fourth = 0; kind = Kind.Nothing; value = 0; comment = false }
+start = record { wrong = None; label = 0; first = 0; second = 0; third = 0; fourth = 0; kind = Kind.Nothing; value = 0; comment = false }
 
-unfoldable pub mistaken : Reading → ℕ → Reading
+unfoldable pub mistaken : Reading → Wrong → Reading
 mistaken now wrong =
     record {
-      wrong = wrong;
+      wrong = Some wrong;
       label = now.label;
       first = now.first;
       second = now.second;
@@ -124,11 +121,11 @@ in_comment now =
 
 -- "a number is at most 65535"
 unfoldable pub sized : Reading → Kind → ℕ → Reading
-sized now kind value = pick (leb value 65535) (with_word now kind value) (mistaken now number_large)
+sized now kind value = pick (leb value 65535) (with_word now kind value) (mistaken now Wrong.NumberLarge)
 
 -- a digit goes on with a number, by its base, whose digits' numbers are 1 to the base
 unfoldable pub digit : Reading → Kind → ℕ → ℕ → Reading
-digit now kind base c = pick (leb c base) (sized now kind (base * now.value + (c - 1))) (mistaken now number_form)
+digit now kind base c = pick (leb c base) (sized now kind (base * now.value + (c - 1))) (mistaken now Wrong.NumberForm)
 
 -- the first character of a word
 unfoldable pub begun : Reading → ℕ → Reading
@@ -140,7 +137,7 @@ after_zero now c = pick (eqb c 34) (with_word now Kind.HexMark 0) (digit now Kin
 
 -- "a name has at most 12 characters"
 unfoldable pub longer : Reading → ℕ → Reading
-longer now c = pick (ltb now.value (38 ^ 11)) (with_word now Kind.Name (38 * now.value + c)) (mistaken now name_long)
+longer now c = pick (ltb now.value (38 ^ 11)) (with_word now Kind.Name (38 * now.value + c)) (mistaken now Wrong.NameLong)
 
 unfoldable pub goes_on : Kind → Reading → ℕ → Reading
 goes_on Kind.Nothing now c = begun now c
@@ -156,14 +153,14 @@ added now word =
     pick (eqb now.first 0) (with_words now now.label word 0 0 0)
     (pick (eqb now.second 0) (with_words now now.label now.first word 0 0)
     (pick (eqb now.third 0) (with_words now now.label now.first now.second word 0)
-    (pick (eqb now.fourth 0) (with_words now now.label now.first now.second now.third word) (mistaken now words_many))))
+    (pick (eqb now.fourth 0) (with_words now now.label now.first now.second now.third word) (mistaken now Wrong.WordsMany))))
 
 -- where a word ends
 unfoldable pub ended_by : Kind → Reading → Reading
 ended_by Kind.Nothing now = now
 ended_by Kind.Zero now = added now (number now.value)
 ended_by Kind.Decimal now = added now (number now.value)
-ended_by Kind.HexMark now = mistaken now number_form
+ended_by Kind.HexMark now = mistaken now Wrong.NumberForm
 ended_by Kind.Hex now = added now (number now.value)
 ended_by Kind.Name now = added now (name now.value)
 
@@ -175,18 +172,18 @@ unfoldable pub labelled : Reading → Reading
 labelled now =
     pick (ltb 65535 now.first and eqb now.second 0 and eqb now.label 0)
     (with_words now now.first 0 0 0 0)
-    (mistaken now colon_wrong)
+    (mistaken now Wrong.Colon)
 
 -- a line in which something is wrong stays as it is
 unfoldable pub if_right : Reading → Reading → Reading
-if_right now next = pick (eqb now.wrong 0) next now
+if_right now next = pick (right now.wrong) next now
 
 unfoldable pub read_byte : Reading → ℕ → Reading
 read_byte now byte =
     pick (is_space byte) (ended now)
     (pick (eqb byte (code ";")) (in_comment (ended now))
     (pick (eqb byte (code ":")) (if_right (ended now) (labelled (ended now)))
-    (pick (eqb (character byte) 0) (mistaken now character_wrong) (goes_on now.kind now (character byte)))))
+    (pick (eqb (character byte) 0) (mistaken now Wrong.Character) (goes_on now.kind now (character byte)))))
 
 -- a byte of the line; nothing is read behind a semicolon or behind what is wrong
 unfoldable pub next : Reading → ℕ → Reading
@@ -241,7 +238,7 @@ statement word = pick (eqb word 0) 0 (number_of (all_named statement_names) word
 
 -- the six numbers of a line
 unfoldable pub numbers : Reading → List ℕ
-numbers now = now.wrong ∷ now.label ∷ statement now.first ∷ now.second ∷ now.third ∷ now.fourth ∷ []
+numbers now = wrong_number now.wrong ∷ now.label ∷ statement now.first ∷ now.second ∷ now.third ∷ now.fourth ∷ []
 
 -- where the line ends
 unfoldable pub last : Reading → Reading
@@ -262,3 +259,8 @@ lines text = lines_from start text
 unfoldable pub line_count : List ℕ → ℕ
 line_count [] = 1
 line_count (byte ∷ bytes) = pick (eqb byte line_feed) (suc (line_count bytes)) (line_count bytes)
+
+-- lines in a room, as six numbers each
+unfoldable pub all_numbers : List SourceLine → List ℕ
+all_numbers [] = []
+all_numbers (l ∷ ls) = wrong_number l.wrong ∷ l.label ∷ l.statement ∷ l.first ∷ l.second ∷ l.third ∷ all_numbers ls

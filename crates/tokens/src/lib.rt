@@ -1,9 +1,9 @@
-// The lines of a text, each as six numbers: what is wrong in it, its label, its statement and the words behind that.
+// The lines of a text: what is wrong in each, its label, its statement and the words behind that.
 
 #![tactic(auto)]
 
 ghost use Rattle.std.specs.Prelude.{◌+◌, ◌*◌, ◌<◌, ◌≤◌, eqb, length, take, ◌++◌, ◌≡◌};
-ghost use Rattle.tokens.specs.Tokens.{start as start_of, numbers as numbers_of, line_feed, line_count as lineCountOf};
+ghost use Rattle.tokens.specs.Tokens.{start as start_of, numbers as numbers_of, line_feed, line_count, all_numbers};
 ghost use Rattle.tokens.specs.Reads.{Small, Takes, Reads};
 ghost use Rattle.model.specs.Test.{pick};
 
@@ -22,10 +22,44 @@ pub enum Kind {
     Name,
 }
 
+// What is wrong in a line.
+#[derive(Clone, Copy)]
+pub enum Wrong {
+    Character,
+    NumberLarge,
+    NumberForm,
+    NameLong,
+    WordsMany,
+    Colon,
+}
+
+// A line: its label, the number of its statement and the words behind that, 0 where there is none.
+#[derive(Clone, Copy)]
+pub struct SourceLine {
+    pub wrong: Option<Wrong>,
+    pub label: u64,
+    pub statement: u64,
+    pub first: u64,
+    pub second: u64,
+    pub third: u64,
+}
+
+impl SourceLine {
+    // A line with nothing in it.
+    pub const BLANK: SourceLine = SourceLine {
+        wrong: None,
+        label: 0,
+        statement: 0,
+        first: 0,
+        second: 0,
+        third: 0,
+    };
+}
+
 // A line, as far as it is read.
 #[derive(Clone, Copy)]
 pub struct Reading {
-    pub wrong: u64,
+    pub wrong: Option<Wrong>,
     pub label: u64,
     pub first: u64,
     pub second: u64,
@@ -36,12 +70,13 @@ pub struct Reading {
     pub comment: bool,
 }
 
+#[tactic(auto, unfolding(crate::specs::Tokens::start))]
 fn start() -> Reading
     ensures value { result ≡ start_of }
-    ensures small { Small result }
+    ensures small_value { Small result }
 {
     Reading {
-        wrong: 0,
+        wrong: None,
         label: 0,
         first: 0,
         second: 0,
@@ -53,54 +88,38 @@ fn start() -> Reading
     }
 }
 
-// Numbers at a place of the room.
-fn put(room: &mut [u64], at: usize, numbers: &[u64])
-    requires { at + length numbers.now ≤ length room.old }
-    ensures { take (at + length numbers.now) room.new ≡ take at room.old ++ numbers.now }
+// A line at a place of the room.
+fn write(room: &mut [SourceLine], at: usize, reading: Reading)
+    requires { at < length room.old }
+    ensures { all_numbers (take (at + 1) room.new) ≡ all_numbers (take at room.old) ++ numbers_of reading }
 {
-    let mut i = 0;
-    while i < numbers.len() {
-        room[at + i] = numbers[i];
-        i += 1;
-    }
-}
-
-// A line's numbers at a place of the room.
-fn write(room: &mut [u64], at: usize, reading: Reading)
-    requires { at + 6 ≤ length room.old }
-    ensures { take (at + 6) room.new ≡ take at room.old ++ numbers_of reading }
-{
-    let numbers = [
-        reading.wrong,
-        reading.label,
-        statements::statement(reading.first),
-        reading.second,
-        reading.third,
-        reading.fourth,
-    ];
-    put(room, at, &numbers);
+    room[at] = SourceLine {
+        wrong: reading.wrong,
+        label: reading.label,
+        statement: statements::statement(reading.first),
+        first: reading.second,
+        second: reading.third,
+        third: reading.fourth,
+    };
 }
 
 // A line feed ends one line more.
+#[tactic(auto, using(model::proofs::TestLaws::tests), unfolding(model::specs::Test::pick))]
 fn feed(byte: u8) -> usize
     ensures value { result ≡ pick (eqb byte line_feed) 1 0 }
     ensures upper_bound { result ≤ 1 }
 {
-    if byte == b'\n' {
-        return 1;
-    }
-    0
+    if byte == b'\n' { 1 } else { 0 }
 }
 
 // How many lines the text has.
+#[tactic(auto, using(crate::proofs::LineLaws::counting))]
 fn count(text: &[u8]) -> usize
-    ensures { result ≡ lineCountOf text.now }
+    ensures { result ≡ line_count text.now }
 {
     let mut lines = 1;
-    let mut i = 0;
-    while i < text.len() {
-        lines += feed(text[i]);
-        i += 1;
+    for &byte in text {
+        lines += feed(byte);
     }
     lines
 }
@@ -113,15 +132,15 @@ pub struct Progress {
 }
 
 // A byte of the text.
-fn take(room: &mut [u64], byte: u8, progress: Progress) -> Progress
-    requires done_in_bounds { 6 * progress.done + 6 ≤ length room.old }
-    requires small { Small progress.reading }
+fn take(room: &mut [SourceLine], byte: u8, progress: Progress) -> Progress
+    requires room_left { progress.done < length room.old }
+    requires small_value { Small progress.reading }
     ensures { Takes byte room.old progress room.new result }
 {
     let done = progress.done;
     let reading = progress.reading;
     if byte == b'\n' {
-        write(room, 6 * done, line::last(reading));
+        write(room, done, line::last(reading));
         return Progress {
             done: done + 1,
             reading: start(),
@@ -133,24 +152,21 @@ fn take(room: &mut [u64], byte: u8, progress: Progress) -> Progress
     }
 }
 
-// The lines of a text, six numbers each, and how many they are; 0 where there isn't room for them.
-pub fn read(text: &[u8], room: &mut [u64]) -> usize
+// The lines of a text, and how many they are; none where there isn't room for them.
+pub fn read(text: &[u8], room: &mut [SourceLine]) -> Option<usize>
     ensures { Reads text.now room.new result }
 {
     let lines = count(text);
-    if lines > room.len() / 6 {
-        return 0;
+    if lines > room.len() {
+        return None;
     }
     let mut progress = Progress {
         done: 0,
         reading: start(),
     };
-    let mut i = 0;
-    while i < text.len() {
-        progress = take(room, text[i], progress);
-        i += 1;
+    for &byte in text {
+        progress = take(room, byte, progress);
     }
-    let reading = progress.reading;
-    write(room, 6 * progress.done, line::last(reading));
-    lines
+    write(room, progress.done, line::last(progress.reading));
+    Some(lines)
 }

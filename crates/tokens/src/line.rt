@@ -1,108 +1,63 @@
 // A line, byte by byte: the words so far, and the word that is being read.
 ghost use Rattle.std.specs.Prelude.{◌≡◌, ◌<◌, ◌≤◌, ◌^◌};
-ghost use Rattle.tokens.specs.Tokens.{character as characterOf, is_space, mistaken as mistakenOf, with_word as withWordOf, with_words as withWordsOf, in_comment as inCommentOf, digit as digitOf, begun as begun_of, after_zero as afterZeroOf, longer as longerOf, goes_on as goesOnOf, added as addedOf, ended as ended_of, labelled as labelledOf, if_right, read_byte as readByteOf, next as next_of, last as last_of};
+ghost use Rattle.tokens.specs.Tokens.{character as character_of, is_space, mistaken as mistaken_of, with_word as with_word_of, with_words as with_words_of, in_comment as in_comment_of, digit as digit_of, begun as begun_of, after_zero as after_zero_of, longer as longer_of, goes_on as goes_on_of, added as added_of, ended as ended_of, labelled as labelled_of, if_right, read_byte as read_byte_of, next as next_of, last as last_of};
 ghost use Rattle.tokens.specs.Reads.{Small};
 ghost use Rattle.tokens.specs.declared.Kind.{Kind};
 
-use crate::{Kind, Reading};
-
-const CHARACTER_WRONG: u64 = 1;
-
-const NUMBER_LARGE: u64 = 2;
-
-const NUMBER_FORM: u64 = 3;
-
-const NAME_LONG: u64 = 4;
-
-const WORDS_MANY: u64 = 5;
-
-const COLON_WRONG: u64 = 6;
+use crate::{Kind, Reading, Wrong};
 
 // The least value of a name of 12 characters: 38 to the 11.
 const TWELVE: u64 = 238572050223552512;
 
 // The number of a letter, digit or underscore in a name; 0 of any other byte.
+#[tactic(auto, using(model::proofs::TestLaws::tests), unfolding(crate::specs::Tokens::character, model::specs::Test::pick, model::specs::Test::both))]
 pub fn character(byte: u8) -> u64
-    ensures value { result ≡ characterOf byte }
+    ensures value { result ≡ character_of byte }
     ensures upper_bound { result < 38 }
 {
-    if byte < b'0' {
-        return 0;
+    match byte {
+        b'0'..=b'9' => (byte - b'0') as u64 + 1,
+        b'A'..=b'Z' => (byte - b'A') as u64 + 11,
+        b'a'..=b'z' => (byte - b'a') as u64 + 11,
+        b'_' => 37,
+        _ => 0,
     }
-    if byte <= b'9' {
-        return (byte - b'0') as u64 + 1;
-    }
-    if byte < b'A' {
-        return 0;
-    }
-    if byte <= b'Z' {
-        return (byte - b'A') as u64 + 11;
-    }
-    if byte == b'_' {
-        return 37;
-    }
-    if byte < b'a' {
-        return 0;
-    }
-    if byte <= b'z' {
-        return (byte - b'a') as u64 + 11;
-    }
-    0
 }
 
+#[tactic(auto, using(model::proofs::TestLaws::tests), unfolding(crate::specs::Tokens::is_space, model::specs::Test::either))]
 fn is_space(byte: u8) -> bool
     ensures { result ≡ is_space byte }
 {
-    if byte == b' ' {
-        return true;
-    }
-    if byte == b'\t' {
-        return true;
-    }
-    if byte == b'\r' {
-        return true;
-    }
-    byte == b','
+    matches!(byte, b' ' | b'\t' | b'\r' | b',')
 }
 
-fn mistaken(reading: Reading, wrong: u64) -> Reading
+#[tactic(auto, unfolding(crate::specs::Tokens::mistaken))]
+fn mistaken(reading: Reading, wrong: Wrong) -> Reading
     requires { Small reading }
-    ensures value { result ≡ mistakenOf reading wrong }
-    ensures small { Small result }
+    ensures value { result ≡ mistaken_of reading wrong }
+    ensures small_value { Small result }
 {
-    let kind = reading.kind;
     Reading {
-        wrong,
-        label: reading.label,
-        first: reading.first,
-        second: reading.second,
-        third: reading.third,
-        fourth: reading.fourth,
-        kind,
-        value: reading.value,
-        comment: reading.comment,
+        wrong: Some(wrong),
+        ..reading
     }
 }
 
+#[tactic(auto, unfolding(crate::specs::Tokens::with_word))]
 fn with_word(reading: Reading, kind: Kind, value: u64) -> Reading
     requires { value < 38 ^ 12 }
-    ensures value { result ≡ withWordOf reading kind value }
-    ensures small { Small result }
+    ensures value { result ≡ with_word_of reading kind value }
+    ensures small_value { Small result }
 {
     Reading {
-        wrong: reading.wrong,
-        label: reading.label,
-        first: reading.first,
-        second: reading.second,
-        third: reading.third,
-        fourth: reading.fourth,
         kind,
         value,
-        comment: reading.comment,
+        ..reading
     }
 }
 
 // Label and words, with no word being read.
+#[tactic(auto, unfolding(crate::specs::Tokens::with_words))]
 fn with_words(
     reading: Reading,
     label: u64,
@@ -111,11 +66,10 @@ fn with_words(
     third: u64,
     fourth: u64,
 ) -> Reading
-    ensures value { result ≡ withWordsOf reading label first second third fourth }
-    ensures small { Small result }
+    ensures value { result ≡ with_words_of reading label first second third fourth }
+    ensures small_value { Small result }
 {
     Reading {
-        wrong: reading.wrong,
         label,
         first,
         second,
@@ -123,74 +77,50 @@ fn with_words(
         fourth,
         kind: Kind::Nothing,
         value: 0,
-        comment: reading.comment,
+        ..reading
     }
 }
 
+#[tactic(auto, unfolding(crate::specs::Tokens::in_comment))]
 fn in_comment(reading: Reading) -> Reading
     requires { Small reading }
-    ensures value { result ≡ inCommentOf reading }
-    ensures small { Small result }
+    ensures value { result ≡ in_comment_of reading }
+    ensures small_value { Small result }
 {
-    let kind = reading.kind;
     Reading {
-        wrong: reading.wrong,
-        label: reading.label,
-        first: reading.first,
-        second: reading.second,
-        third: reading.third,
-        fourth: reading.fourth,
-        kind,
-        value: reading.value,
         comment: true,
+        ..reading
     }
 }
 
-// A digit of a decimal number.
-fn decimal_digit(reading: Reading, character: u64) -> Reading
-    requires small { Small reading }
-    requires le_character { 1 ≤ character }
-    ensures value { result ≡ digitOf reading Kind.Decimal 10 character }
-    ensures small_2 { Small result }
+// A digit of a number of the base, 10 or 16.
+#[tactic(auto, using(model::proofs::TestLaws::tests), unfolding(crate::specs::Tokens::digit, crate::specs::Tokens::sized, model::specs::Test::pick))]
+fn digit(reading: Reading, kind: Kind, base: u64, character: u64) -> Reading
+    requires small_value { Small reading }
+    requires base_bound { base ≤ 16 }
+    requires is_character { 1 ≤ character }
+    ensures value { result ≡ digit_of reading kind base character }
+    ensures small_value { Small result }
 {
-    if character > 10 {
-        return mistaken(reading, NUMBER_FORM);
+    if character > base {
+        return mistaken(reading, Wrong::NumberForm);
     }
     if reading.value > 65535 {
-        return mistaken(reading, NUMBER_LARGE);
+        return mistaken(reading, Wrong::NumberLarge);
     }
-    let value = 10 * reading.value + (character - 1);
+    let value = base * reading.value + (character - 1);
     if value > 65535 {
-        return mistaken(reading, NUMBER_LARGE);
+        return mistaken(reading, Wrong::NumberLarge);
     }
-    with_word(reading, Kind::Decimal, value)
-}
-
-// A digit of a hex number.
-fn hex_digit(reading: Reading, character: u64) -> Reading
-    requires small { Small reading }
-    requires le_character { 1 ≤ character }
-    ensures value { result ≡ digitOf reading Kind.Hex 16 character }
-    ensures small_2 { Small result }
-{
-    if character > 16 {
-        return mistaken(reading, NUMBER_FORM);
-    }
-    if reading.value > 65535 {
-        return mistaken(reading, NUMBER_LARGE);
-    }
-    let value = 16 * reading.value + (character - 1);
-    if value > 65535 {
-        return mistaken(reading, NUMBER_LARGE);
-    }
-    with_word(reading, Kind::Hex, value)
+    with_word(reading, kind, value)
 }
 
 // The first character of a word.
+#[tactic(auto, using(model::proofs::TestLaws::tests), unfolding(crate::specs::Tokens::begun, model::specs::Test::pick))]
 fn begun(reading: Reading, character: u64) -> Reading
     requires { (1 ≤ character) × (character < 38) }
     ensures value { result ≡ begun_of reading character }
-    ensures small { Small result }
+    ensures small_value { Small result }
 {
     if character == 1 {
         return with_word(reading, Kind::Zero, 0);
@@ -202,53 +132,55 @@ fn begun(reading: Reading, character: u64) -> Reading
 }
 
 // What follows a first 0: x, or a digit.
+#[tactic(auto, using(model::proofs::TestLaws::tests), unfolding(crate::specs::Tokens::after_zero, model::specs::Test::pick))]
 fn after_zero(reading: Reading, character: u64) -> Reading
-    requires small { Small reading }
-    requires le_character { 1 ≤ character }
-    ensures value { result ≡ afterZeroOf reading character }
-    ensures small_2 { Small result }
+    requires small_value { Small reading }
+    requires is_character { 1 ≤ character }
+    ensures value { result ≡ after_zero_of reading character }
+    ensures small_value { Small result }
 {
     if character == 34 {
         return with_word(reading, Kind::HexMark, 0);
     }
-    decimal_digit(reading, character)
+    digit(reading, Kind::Decimal, 10, character)
 }
 
 // A character more of a name.
+#[tactic(auto, using(model::proofs::TestLaws::tests), unfolding(crate::specs::Tokens::longer, model::specs::Test::pick))]
 fn longer(reading: Reading, character: u64) -> Reading
-    requires small { Small reading }
-    requires character_bound { character < 38 }
-    ensures value { result ≡ longerOf reading character }
-    ensures small_2 { Small result }
+    requires small_value { Small reading }
+    requires is_character { character < 38 }
+    ensures value { result ≡ longer_of reading character }
+    ensures small_value { Small result }
 {
     if reading.value >= TWELVE {
-        return mistaken(reading, NAME_LONG);
+        return mistaken(reading, Wrong::NameLong);
     }
     with_word(reading, Kind::Name, 38 * reading.value + character)
 }
 
+#[tactic(auto, unfolding(crate::specs::Tokens::goes_on))]
 fn goes_on(reading: Reading, character: u64) -> Reading
-    requires small { Small reading }
-    requires le_character { (1 ≤ character) × (character < 38) }
-    ensures value { result ≡ goesOnOf reading.kind reading character }
-    ensures small_2 { Small result }
+    requires small_value { Small reading }
+    requires is_character { (1 ≤ character) × (character < 38) }
+    ensures value { result ≡ goes_on_of reading.kind reading character }
+    ensures small_value { Small result }
 {
-    let kind = reading.kind;
-    match kind {
+    match reading.kind {
         Kind::Nothing => begun(reading, character),
         Kind::Zero => after_zero(reading, character),
-        Kind::Decimal => decimal_digit(reading, character),
-        Kind::HexMark => hex_digit(reading, character),
-        Kind::Hex => hex_digit(reading, character),
+        Kind::Decimal => digit(reading, Kind::Decimal, 10, character),
+        Kind::HexMark | Kind::Hex => digit(reading, Kind::Hex, 16, character),
         Kind::Name => longer(reading, character),
     }
 }
 
 // A word more.
+#[tactic(auto, using(model::proofs::TestLaws::tests), unfolding(crate::specs::Tokens::added, model::specs::Test::pick))]
 fn added(reading: Reading, word: u64) -> Reading
     requires { Small reading }
-    ensures value { result ≡ addedOf reading word }
-    ensures small { Small result }
+    ensures value { result ≡ added_of reading word }
+    ensures small_value { Small result }
 {
     let label = reading.label;
     let first = reading.first;
@@ -266,51 +198,45 @@ fn added(reading: Reading, word: u64) -> Reading
     if reading.fourth == 0 {
         return with_words(reading, label, first, second, third, word);
     }
-    mistaken(reading, WORDS_MANY)
+    mistaken(reading, Wrong::WordsMany)
 }
 
 // Where a word ends.
+#[tactic(auto, unfolding(crate::specs::Tokens::ended, crate::specs::Tokens::ended_by))]
 fn ended(reading: Reading) -> Reading
     requires { Small reading }
     ensures value { result ≡ ended_of reading }
-    ensures small { Small result }
+    ensures small_value { Small result }
 {
-    let kind = reading.kind;
-    match kind {
+    match reading.kind {
         Kind::Nothing => reading,
-        Kind::Zero => added(reading, reading.value + 1),
-        Kind::Decimal => added(reading, reading.value + 1),
-        Kind::HexMark => mistaken(reading, NUMBER_FORM),
-        Kind::Hex => added(reading, reading.value + 1),
+        Kind::Zero | Kind::Decimal | Kind::Hex => added(reading, reading.value + 1),
+        Kind::HexMark => mistaken(reading, Wrong::NumberForm),
         Kind::Name => added(reading, reading.value + 65536),
     }
 }
 
 // A colon behind the line's first word.
+#[tactic(auto, using(model::proofs::TestLaws::tests), unfolding(crate::specs::Tokens::labelled, crate::specs::Tokens::if_right, model::specs::Test::pick, model::specs::Test::both))]
 fn labelled(reading: Reading) -> Reading
     requires { Small reading }
-    ensures value { result ≡ if_right reading (labelledOf reading) }
-    ensures small { Small result }
+    ensures value { result ≡ if_right reading (labelled_of reading) }
+    ensures small_value { Small result }
 {
-    if reading.wrong != 0 {
+    if reading.wrong.is_some() {
         return reading;
     }
-    if reading.first <= 65535 {
-        return mistaken(reading, COLON_WRONG);
-    }
-    if reading.second != 0 {
-        return mistaken(reading, COLON_WRONG);
-    }
-    if reading.label != 0 {
-        return mistaken(reading, COLON_WRONG);
+    if reading.first <= 65535 || reading.second != 0 || reading.label != 0 {
+        return mistaken(reading, Wrong::Colon);
     }
     with_words(reading, reading.first, 0, 0, 0, 0)
 }
 
+#[tactic(auto, using(model::proofs::TestLaws::tests), unfolding(crate::specs::Tokens::read_byte, model::specs::Test::pick))]
 fn read_byte(reading: Reading, byte: u8) -> Reading
     requires { Small reading }
-    ensures value { result ≡ readByteOf reading byte }
-    ensures small { Small result }
+    ensures value { result ≡ read_byte_of reading byte }
+    ensures small_value { Small result }
 {
     if is_space(byte) {
         return ended(reading);
@@ -323,36 +249,32 @@ fn read_byte(reading: Reading, byte: u8) -> Reading
     }
     let character = character(byte);
     if character == 0 {
-        return mistaken(reading, CHARACTER_WRONG);
+        return mistaken(reading, Wrong::Character);
     }
     goes_on(reading, character)
 }
 
 // A byte of the line. Nothing is read behind a semicolon or behind what is wrong.
+#[tactic(auto, using(model::proofs::TestLaws::tests), unfolding(crate::specs::Tokens::next, crate::specs::Tokens::if_right, model::specs::Test::pick))]
 pub fn next(reading: Reading, byte: u8) -> Reading
     requires { Small reading }
     ensures value { result ≡ next_of reading byte }
-    ensures small { Small result }
+    ensures small_value { Small result }
 {
-    if reading.wrong != 0 {
-        return reading;
-    }
-    if reading.comment {
+    if reading.wrong.is_some() || reading.comment {
         return reading;
     }
     read_byte(reading, byte)
 }
 
 // The end of the line.
+#[tactic(auto, using(model::proofs::TestLaws::tests), unfolding(crate::specs::Tokens::last, crate::specs::Tokens::if_right, model::specs::Test::pick))]
 pub fn last(reading: Reading) -> Reading
     requires { Small reading }
     ensures value { result ≡ last_of reading }
-    ensures small { Small result }
+    ensures small_value { Small result }
 {
-    if reading.wrong != 0 {
-        return reading;
-    }
-    if reading.comment {
+    if reading.wrong.is_some() || reading.comment {
         return reading;
     }
     ended(reading)

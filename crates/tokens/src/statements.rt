@@ -1,26 +1,26 @@
 // The statements' names, and the number of the statement that a word begins.
 ghost use Rattle.std.specs.Prelude.{◌+◌, ◌≤◌, ◌<◌, [], ◌≡◌, length, get_or};
 ghost use Rattle.text.specs.Puts.{Puts};
-ghost use Rattle.tokens.specs.Tokens.{named as named_of, statement as statementOf, statement_names, statement_word};
+ghost use Rattle.tokens.specs.Tokens.{named as named_of, statement as statement_of, statement_names, statement_word};
 
 use crate::line;
 use text::put;
 
 // The word of a name's bytes.
+#[tactic(auto, using(crate::proofs::LineLaws::spelling))]
 fn named(bytes: &[u8]) -> u64
     requires { length bytes.now ≤ 12 }
     ensures { result ≡ named_of bytes.now }
 {
     let mut value = 0u64;
-    let mut i = 0;
-    while i < bytes.len() {
-        value = 38 * value + line::character(bytes[i]);
-        i += 1;
+    for &byte in bytes {
+        value = 38 * value + line::character(byte);
     }
     value + 65536
 }
 
 // The name of statement n + 1 at a place of the text, and where it ends; nothing behind the last.
+#[tactic(auto, using(crate::proofs::LineLaws::puts_name, crate::proofs::LineLaws::puts_no_name), unfolding(crate::specs::Tokens::statement_names))]
 pub fn put_name(text: &mut [u8], at: usize, n: u64) -> usize
     requires { at + 11 ≤ length text.old }
     ensures puts { Puts text.old at text.new result (get_or statement_names n []) }
@@ -49,11 +49,12 @@ pub fn put_name(text: &mut [u8], at: usize, n: u64) -> usize
         19 => put(text, at, b"transaction"),
         20 => put(text, at, b"task"),
         21 => put(text, at, b"event"),
-        22..=0xFFFF_FFFF_FFFF_FFFF => at,
+        22.. => at,
     }
 }
 
 // The word of the name of statement n + 1; 0 behind the last.
+#[tactic(auto, using(crate::proofs::LineLaws::statement_words))]
 fn word(n: u64) -> u64
     ensures { result ≡ statement_word n }
 {
@@ -66,18 +67,17 @@ fn word(n: u64) -> u64
 }
 
 // The statement that a word begins: 0 where there is none, 23 where it is no statement's name.
+#[tactic(auto, using(crate::proofs::LineLaws::statement_of_word))]
 pub fn statement(first: u64) -> u64
-    ensures { result ≡ statementOf first }
+    ensures { result ≡ statement_of first }
 {
     if first == 0 {
         return 0;
     }
-    let mut n = 0u64;
-    while n < 22 {
+    for n in 0..22 {
         if first == word(n) {
             return n + 1;
         }
-        n += 1;
     }
     23
 }

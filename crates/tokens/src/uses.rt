@@ -42,45 +42,26 @@ impl Uses {
 }
 
 // The fields that an opcode uses, by ranges of the opcode table.
+#[tactic(auto, using(model::proofs::TestLaws::tests), unfolding(crate::specs::Uses::uses_a, crate::specs::Uses::uses_b, crate::specs::Uses::uses_k, model::specs::Program::bounds, model::specs::Test::pick))]
 pub fn used(opcode: u64) -> Uses
     requires { opcode ≤ 16 }
     ensures a_value { result.a ≡ uses_a opcode }
     ensures b_value { result.b ≡ uses_b opcode }
     ensures k_value { result.k ≡ uses_k opcode }
 {
-    if opcode < 1 {
-        return Uses::A_K;
+    match opcode {
+        0 | 7 | 8 | 9 | 13 => Uses::A_K,
+        1..=6 => Uses::A_B,
+        10 | 11 | 14 => Uses::ALL,
+        12 | 15 => Uses::K,
+        _ => Uses::NONE,
     }
-    if opcode < 7 {
-        return Uses::A_B;
-    }
-    if opcode < 10 {
-        return Uses::A_K;
-    }
-    if opcode < 12 {
-        return Uses::ALL;
-    }
-    if opcode < 13 {
-        return Uses::K;
-    }
-    if opcode < 14 {
-        return Uses::A_K;
-    }
-    if opcode < 15 {
-        return Uses::ALL;
-    }
-    if opcode < 16 {
-        return Uses::K;
-    }
-    Uses::NONE
 }
 
 // JUMP, JZ and JLT.
+#[tactic(auto, using(model::proofs::TestLaws::tests), unfolding(crate::specs::Uses::is_jump, model::specs::Test::both))]
 pub fn is_jump(opcode: u64) -> bool
     ensures { result ≡ is_jump opcode }
 {
-    if opcode < 12 {
-        return false;
-    }
-    opcode <= 14
+    matches!(opcode, 12..=14)
 }

@@ -1,53 +1,53 @@
 -- `assemble_lines` meets its contract. Assumes nothing.
-use Prim.Native.Nat.{ℕ, zero-le}
+use Prim.Native.Nat.{ℕ}
 use mathlib.Core.List.{List}
-use mathlib.Core.Path.{sym, ap, ◌∙◌}
+use mathlib.Core.Path.{◌≡◌, sym, ap, subst, ◌∙◌}
 use native.Mathlib.Omega.{arith}
+use borrow.Author.Rules.{rules}
+use lib.ListN.{length}
+use Rattle.assembly.proofs.AssembleLaws.{short-enough, put_inside, makes_mistake, makes_words}
+use Rattle.assembly.proofs.MistakeLaws.{all_first, all_next}
+use Rattle.assembly.specs.Assembles.{AssemblesLines}
+use Rattle.assembly.specs.Mistakes.{MistakeNumbers, mistake_of, mistake_numbers}
+use Rattle.assembly.specs.Rules.{lines_mistake, rule_mistake}
 use Rattle.model.specs.Check.{check}
-use Rattle.assembly.proofs.AssembleLaws.{next_is, first_is, short-enough, rule-accepted, put_inside}
-use Rattle.assembly.specs.Mistakes.{mistake_of}
-use Rattle.assembly.specs.Rules.{rule_mistake, lines_mistake}
-use Rattle.assembly.specs.Words.{words}
-use Rattle.assembly.specs.declared.Mistake.{Mistake}
+use Rattle.model.specs.Types.{Err}
+use Rattle.tokens.specs.Tokens.{all_numbers}
 use Rattle.assembly.proofs.assemble_lines.Goals as goal
 
-pub mistake_of-mistake-requires : goal.mistake_of-mistake-requires
-mistake_of-mistake-requires c = c.requires.n_in_bounds.0
-
-pub returns-then-mistake-ne0 : goal.returns-then-mistake-ne0
+pub returns-in_err-mistake_of : goal.returns-in_err-mistake_of
 unfolding lines_mistake
-returns-then-mistake-ne0 c =
-    let number = ap (λ (m : Mistake). m.number) c.mistake_of-mistake.ensures in
-    record {
-      mistake = c.mistake_of-mistake.ensures ∙ sym (first_is _ _ (λ e. c.if-mistake-ne0.true (number ∙ e)));
-      inside = zero-le;
-      made = λ e. absurd (c.if-mistake-ne0.true e);
-      accepted = λ e. absurd (c.if-mistake-ne0.true e);
-    }
+returns-in_err-mistake_of c =
+    let room = all_numbers c.args.lines.now in
+    let n = length c.args.lines.now in
+    let same : c.from_residual.result ≡ Err c.in_err-mistake_of.field-0.0 = search rules in
+    subst (AssemblesLines room n c.args.words.now) (sym same)
+    (makes_mistake room n c.args.words.now c.in_err-mistake_of.field-0.0 (all_first _ _ _ _ c.mistake_of.ensures c.in_err-mistake_of.was))
 
 pub put_words-count-requires : goal.put_words-count-requires
 put_words-count-requires c =
-    let number = ap (λ (m : Mistake). m.number) c.mistake_of-mistake.ensures in
-    let short = short-enough c.args.room.now c.args.n (sym number ∙ c.if-mistake-ne0.false) in
-    record { n_in_bounds = c.requires.n_in_bounds.0; n_in_bounds_2 = omega (arith, short, c.requires.in_bounds) }
+    let none : (mistake_of (all_numbers c.args.lines.now) (length c.args.lines.now)).number ≡ 0 = ap (λ (m : MistakeNumbers). m.number) (sym c.in_ok-mistake_of.ensures) in
+    record { room_left = omega (arith, c.requires.room_left, short-enough (all_numbers c.args.lines.now) (length c.args.lines.now) none) }
 
-pub judged-requires : goal.judged-requires
-judged-requires c = record { n_in_bounds = c.requires.n_in_bounds; count_in_bounds = put_inside c.put_words-count.ensures }
-
-pub shape_of-words : goal.shape_of-words
-shape_of-words c = c.put_words-count.auto.words
+pub returns-in_err-rule_mistake : goal.returns-in_err-rule_mistake
+unfolding lines_mistake
+returns-in_err-rule_mistake c =
+    let room = all_numbers c.args.lines.now in
+    let n = length c.args.lines.now in
+    let same : c.from_residual-in_err-rule_mistake.result ≡ Err c.in_err-rule_mistake.field-0.0 = search rules in
+    let made = c.put_words-count.ensures.text in
+    let judged = c.rule_mistake.ensures ∙ ap (rule_mistake room n _) c.check.ensures.value ∙ ap (λ (p : List ℕ). rule_mistake room n p (check p)) made in
+    subst (AssemblesLines room n c.put_words-count.new.words) (sym same)
+    (makes_mistake room n c.put_words-count.new.words c.in_err-rule_mistake.field-0.0
+    (all_next _ _ _ _ c.mistake_of.ensures c.in_ok-mistake_of.was (sym (ap mistake_numbers c.in_err-rule_mistake.was) ∙ judged)))
 
 pub returns : goal.returns
 unfolding lines_mistake
 returns c =
-    let room = c.args.room.now in
-    let n = c.args.n in
-    let number = ap (λ (m : Mistake). m.number) c.mistake_of-mistake.ensures in
+    let room = all_numbers c.args.lines.now in
+    let n = length c.args.lines.now in
     let made = c.put_words-count.ensures.text in
-    let judged = c.judged.ensures ∙ ap (λ (p : List ℕ). rule_mistake room n p (check p)) made in
-    record {
-      mistake = judged ∙ sym (next_is (mistake_of room n) _ (sym number ∙ c.if-mistake-ne0.false));
-      inside = put_inside c.put_words-count.ensures;
-      made = λ e. made;
-      accepted = λ e. rule-accepted room n (words room n) (check (words room n)) (sym (ap (λ (m : Mistake). m.number) judged) ∙ e);
-    }
+    let judged = c.rule_mistake.ensures ∙ ap (rule_mistake room n _) c.check.ensures.value ∙ ap (λ (p : List ℕ). rule_mistake room n p (check p)) made in
+    let none = sym (ap mistake_numbers c.in_ok-rule_mistake.was) ∙ judged in
+    makes_words room n c.put_words-count.new.words c.put_words-count.result (all_next _ _ _ _ c.mistake_of.ensures c.in_ok-mistake_of.was none) none
+    (put_inside c.put_words-count.ensures) made

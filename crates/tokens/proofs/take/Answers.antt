@@ -1,13 +1,13 @@
 -- `take` meets its contract: a line feed ends the line, any other byte goes on with it. Assumes nothing.
-use Prim.Native.Nat.{ℕ, ◌+◌, ◌*◌}
+use Prim.Native.Nat.{ℕ}
 use mathlib.Core.List.{List, ◌++◌, append_assoc}
-use mathlib.Core.Path.{◌≡◌, sym, ap, ◌∙◌}
+use mathlib.Core.Path.{sym, ap, ◌∙◌}
 use borrow.Author.Tests.{eq-eqb, ne_eqb}
 use native.Mathlib.Omega.{arith}
 use lib.ListN.{take}
 use Rattle.model.proofs.TestLaws.{pick_true, pick-false}
 use Rattle.tokens.proofs.LineLaws.{count_of, feed_ends, other_goes_on}
-use Rattle.tokens.specs.Tokens.{finished, lines_from, numbers}
+use Rattle.tokens.specs.Tokens.{finished, lines_from, numbers, all_numbers}
 use Rattle.tokens.specs.declared.Reading.{Reading}
 use Rattle.tokens.proofs.take.Goals as goal
 
@@ -18,19 +18,18 @@ returns-then-byte-eq10 c =
     let reading = c.args.progress.reading in
     let done = c.args.progress.done in
     let byte = c.args.byte in
-    let six : 6 * (done + 1) ≡ 6 * done + 6 = omega arith in
     let written =
-    ap (λ (n : ℕ). take n c.write.new.room) six ∙ c.write.ensures ∙ ap (λ (r : Reading). take (6 * done) room ++ numbers r) c.last.ensures.value
+    c.write.ensures ∙ ap (λ (r : Reading). all_numbers (take done room) ++ numbers r) c.last.ensures.value
     in
     record {
       lines =
           λ rest.
           ap (λ (l : List ℕ). l ++ lines_from c.start.result rest) written
-          ∙ ap (λ (r : Reading). take (6 * done) room ++ finished reading ++ lines_from r rest) c.start.ensures.value
-          ∙ append_assoc (take (6 * done) room) (finished reading) _
-          ∙ ap (λ (l : List ℕ). take (6 * done) room ++ l) (sym (feed_ends reading byte rest c.if-byte-eq10.true));
+          ∙ ap (λ (r : Reading). all_numbers (take done room) ++ finished reading ++ lines_from r rest) c.start.ensures.value
+          ∙ append_assoc (all_numbers (take done room)) (finished reading) _
+          ∙ ap (λ (l : List ℕ). all_numbers (take done room) ++ l) (sym (feed_ends reading byte rest c.if-byte-eq10.true));
       count = λ rest. omega (arith, count_of byte rest, pick_true {A = ℕ} 1 0 (eq-eqb _ _ c.if-byte-eq10.true));
-      small = c.start.ensures.small;
+      small_value = c.start.ensures.small_value;
     }
 
 pub returns : goal.returns
@@ -42,8 +41,8 @@ returns c =
     record {
       lines =
           λ rest.
-          ap (λ (r : Reading). take (6 * done) room ++ lines_from r rest) c.next.ensures.value
-          ∙ ap (λ (l : List ℕ). take (6 * done) room ++ l) (sym (other_goes_on reading byte rest c.if-byte-eq10.false));
+          ap (λ (r : Reading). all_numbers (take done room) ++ lines_from r rest) c.next.ensures.value
+          ∙ ap (λ (l : List ℕ). all_numbers (take done room) ++ l) (sym (other_goes_on reading byte rest c.if-byte-eq10.false));
       count = λ rest. omega (arith, count_of byte rest, pick-false {A = ℕ} 1 0 (ne_eqb _ _ c.if-byte-eq10.false));
-      small = c.next.ensures.small;
+      small_value = c.next.ensures.small_value;
     }

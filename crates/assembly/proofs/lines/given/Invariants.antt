@@ -1,11 +1,8 @@
--- `lines::given` meets its contract: The invariant: what is looked for stands in the lines from i on. The measure is how many are left. Assumes nothing.
-use Prim.Native.Nat.{◌-◌, ◌≤◌}
+-- What is looked for stands in the lines to come.
 use mathlib.Core.Path.{◌≡◌}
-use Rattle.assembly.specs.Lines.{lines_at, given}
+use lib.ListN.{drop}
+use Rattle.assembly.specs.Lines.{as_lines, given}
 use Rattle.assembly.proofs.lines.given.Given as goal
 
-abbrev pub invariant-loop-i : goal.invariant-loop-i
-invariant-loop-i l = (l.i ≤ l.n) × (given l.statement (lines_at l.room l.i (l.n - l.i)) ≡ given l.statement (lines_at l.room 0 l.n))
-
-abbrev pub decreases-loop-i : goal.decreases-loop-i
-decreases-loop-i l = l.n - l.i
+abbrev pub invariant-loop-line : goal.invariant-loop-line
+invariant-loop-line l = given l.statement (as_lines (drop l.line-index l.lines)) ≡ given l.statement (as_lines l.lines)

@@ -1,11 +1,12 @@
--- `lines::label_number` meets its contract: The invariant: what is looked for stands in the lines from i on. The measure is how many are left. Assumes nothing.
-use Prim.Native.Nat.{◌-◌, ◌≤◌}
+-- What is looked for stands in the lines to come.
+use Prim.Native.Nat.{◌≤◌}
 use mathlib.Core.Path.{◌≡◌}
-use Rattle.assembly.specs.Lines.{lines_at, label_number}
+use lib.ListN.{drop}
+use Rattle.assembly.specs.Lines.{as_lines, label_number}
 use Rattle.assembly.proofs.lines.label_number.Given as goal
 
-abbrev pub invariant-loop-i : goal.invariant-loop-i
-invariant-loop-i l = (l.i ≤ l.n) × (l.number ≤ l.i) × (label_number l.name (lines_at l.room l.i (l.n - l.i)) l.number ≡ label_number l.name (lines_at l.room l.from (l.n - l.from)) 0)
-
-abbrev pub decreases-loop-i : goal.decreases-loop-i
-decreases-loop-i l = l.n - l.i
+abbrev pub invariant-loop-line : goal.invariant-loop-line
+invariant-loop-line l = record {
+  most : l.number ≤ l.line-index;
+  to_come : label_number l.name (as_lines (drop l.line-index l.lines)) l.number ≡ label_number l.name (as_lines l.lines) 0;
+}

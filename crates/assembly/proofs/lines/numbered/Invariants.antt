@@ -1,11 +1,12 @@
--- `lines::numbered` meets its contract: The invariant: what is looked for stands in the lines from i on. The measure is how many are left. Assumes nothing.
-use Prim.Native.Nat.{◌-◌, ◌≤◌}
+-- What is looked for stands in the lines to come.
+use Prim.Native.Nat.{◌≤◌}
 use mathlib.Core.Path.{◌≡◌}
-use Rattle.assembly.specs.Lines.{lines_at, numbered}
+use lib.ListN.{drop}
+use Rattle.assembly.specs.Lines.{as_lines, numbered}
 use Rattle.assembly.proofs.lines.numbered.Given as goal
 
-abbrev pub invariant-loop-i : goal.invariant-loop-i
-invariant-loop-i l = (l.i ≤ l.n) × (l.number ≤ l.i) × (numbered l.statement l.name (lines_at l.room l.i (l.n - l.i)) l.number ≡ numbered l.statement l.name (lines_at l.room 0 l.n) 0)
-
-abbrev pub decreases-loop-i : goal.decreases-loop-i
-decreases-loop-i l = l.n - l.i
+abbrev pub invariant-loop-line : goal.invariant-loop-line
+invariant-loop-line l = record {
+  most : l.number ≤ l.line-index;
+  to_come : numbered l.statement l.name (as_lines (drop l.line-index l.lines)) l.number ≡ numbered l.statement l.name (as_lines l.lines) 0;
+}

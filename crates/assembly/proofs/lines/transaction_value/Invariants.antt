@@ -1,11 +1,8 @@
--- `lines::transaction_value` meets its contract: The invariant: what is looked for stands in the lines from i on. The measure is how many are left. Assumes nothing.
-use Prim.Native.Nat.{◌-◌, ◌≤◌}
+-- What is looked for stands in the lines to come.
 use mathlib.Core.Path.{◌≡◌}
-use Rattle.assembly.specs.Lines.{lines_at, transaction_value}
+use lib.ListN.{drop}
+use Rattle.assembly.specs.Lines.{as_lines, transaction_value}
 use Rattle.assembly.proofs.lines.transaction_value.Given as goal
 
-abbrev pub invariant-loop-i : goal.invariant-loop-i
-invariant-loop-i l = (l.i ≤ l.n) × (transaction_value l.name (lines_at l.room l.i (l.n - l.i)) ≡ transaction_value l.name (lines_at l.room 0 l.n))
-
-abbrev pub decreases-loop-i : goal.decreases-loop-i
-decreases-loop-i l = l.n - l.i
+abbrev pub invariant-loop-line : goal.invariant-loop-line
+invariant-loop-line l = transaction_value l.name (as_lines (drop l.line-index l.lines)) ≡ transaction_value l.name (as_lines l.lines)
