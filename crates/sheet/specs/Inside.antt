@@ -1,15 +1,14 @@
 -- What the library's inner functions promise: the state after a byte, a line and a call. No promise to a host
 -- rests on it. Assumes nothing.
 use Rattle.std.specs.Prelude.{ℕ, ◌+◌, ◌^◌, ◌≤◌, ◌<◌, Bool, false, List, [], ◌∷◌, ◌++◌, ◌⊎◌, ◌≡◌, eqb, length, replicate, Option, Some, None}
-use Rattle.model.specs.Answer.{RefusalNumber}
 use Rattle.model.specs.Burst.{single}
 use Rattle.model.specs.Calls.{Call, Boot, Step, Cut, Post}
 use Rattle.model.specs.Device.{off}
 use Rattle.model.specs.Program.{word}
 use Rattle.model.specs.Store.{view, memory_at}
-use Rattle.model.specs.Test.{pick, ◌and◌}
+use Rattle.model.specs.Test.{pick}
 use Rattle.model.specs.declared.Device.{Device}
-use Rattle.sheet.specs.Sheet.{memory_line, refused_line, dropped_line, recovered_memory}
+use Rattle.sheet.specs.Sheet.{memory_line, recovered_memory}
 use Rattle.sheet.specs.declared.Printed.{Printed}
 use Rattle.sheet.specs.declared.Scheduled.{Scheduled}
 use Rattle.sheet.specs.declared.State.{State}
@@ -22,15 +21,6 @@ call_of (Some Scheduled.Step) = Some Step
 call_of (Some Scheduled.Cut) = Some Cut
 call_of (Some (Scheduled.Post e x)) = Some (Post (single e x))
 call_of None = None
-
--- a refusal's number and place of an answer's words, and the line of these: none where they are no refusal's
-abbrev pub numbers_of : List ℕ → RefusalNumber
-numbers_of answer = record { number = word answer 2; first = word answer 3; second = word answer 4 }
-
-unfoldable pub told_line : ℕ → List ℕ → List ℕ
-told_line n answer =
-    pick (eqb (word answer 0) 6) (refused_line n (numbers_of answer))
-    (pick (eqb (word answer 0) 5 and eqb (word answer 1) 1) (dropped_line n (word answer 2) (word answer 3)) [])
 
 -- the end of a line, whatever lines follow
 pub record EndsLine (p : List ℕ) (n : ℕ) (h : SheetState) (xs : List ℕ) (g : SheetState) : Type 0 where

@@ -1,7 +1,7 @@
 // The sheet's lines, each put at a place of the text; a function answers where what it put ends.
 ghost use Rattle.std.specs.Prelude.{◌+◌, ◌*◌, ◌≤◌, length, []};
 ghost use Rattle.sheet.specs.Sheet.{memory_line, unread_line, refused_line, dropped_line, answer_line, if_checked};
-ghost use Rattle.sheet.specs.Inside.{told_line, numbers_of};
+ghost use Rattle.model.specs.Answer.{refusal};
 ghost use Rattle.text.specs.Puts.{Puts};
 
 use model::{Answer, Refusal};
@@ -30,18 +30,20 @@ pub fn unread_line(text: &mut [u8], at: usize, number: u64) -> usize
     put(text, end, b" unread\n")
 }
 
-// The answer's words are case, kind of body, number and place; a refusal is case 6.
-#[tactic(auto, using(text::proofs::TextLaws::puts), unfolding(crate::specs::Sheet::refused_line))]
-fn refused_line(text: &mut [u8], at: usize, number: u64, answer: &[u16; 5]) -> usize
+// A refusal's number and its two place words are the last three of its five.
+#[tactic(auto, using(text::proofs::TextLaws::puts), unfolding(crate::specs::Sheet::refused_line, words::specs::Words::checked_words, words::specs::Words::refused_words))]
+fn refused_line(text: &mut [u8], at: usize, number: u64, refused: Refusal) -> usize
     requires { at + 92 ≤ length text.old }
-    ensures puts { Puts text.old at text.new result (refused_line number (numbers_of answer.now)) }
+    ensures puts { Puts text.old at text.new result (refused_line number (refusal refused)) }
     ensures upper_bound { result ≤ at + 92 }
 {
+    let mut told = [0u16; 5];
+    words::write_checked(&mut told, Err(refused));
     let end = decimal(text, at, number);
     let end = put(text, end, b" refused");
-    let end = spaced(text, end, answer[2]);
-    let end = spaced(text, end, answer[3]);
-    let end = spaced(text, end, answer[4]);
+    let end = spaced(text, end, told[2]);
+    let end = spaced(text, end, told[3]);
+    let end = spaced(text, end, told[4]);
     put(text, end, b"\n")
 }
 
@@ -59,41 +61,31 @@ fn dropped_line(text: &mut [u8], at: usize, number: u64, event: u16, datum: u16)
     put(text, end, b"\n")
 }
 
-fn line_of(text: &mut [u8], at: usize, number: u64, answer: &[u16; 5]) -> usize
-    requires { at + 92 ≤ length text.old }
-    ensures puts { Puts text.old at text.new result (told_line number answer.now) }
-    ensures upper_bound { result ≤ at + 92 }
-{
-    if answer[0] == 6 {
-        return refused_line(text, at, number, answer);
-    }
-    if answer[0] != 5 {
-        return at;
-    }
-    if answer[1] != 1 {
-        return at;
-    }
-    dropped_line(text, at, number, answer[2], answer[3])
-}
-
 // The line of a call that is no cut: none, unless it is refused or tells a dropped record.
+#[tactic(auto, using(text::proofs::TextLaws::puts), unfolding(crate::specs::Sheet::answer_line))]
 pub fn answer_line(text: &mut [u8], at: usize, number: u64, answer: Answer) -> usize
     requires { at + 92 ≤ length text.old }
     ensures puts { Puts text.old at text.new result (answer_line number answer) }
     ensures upper_bound { result ≤ at + 92 }
 {
-    let mut told = [0u16; 5];
-    words::write_answer(&mut told, answer);
-    line_of(text, at, number, &told)
+    match answer {
+        Answer::Refused(refused) => refused_line(text, at, number, refused),
+        Answer::Accepted(Some(dropped)) => {
+            dropped_line(text, at, number, dropped.event, dropped.datum)
+        }
+        _ => at,
+    }
 }
 
 // The line of the check, with call 0.
+#[tactic(auto, using(text::proofs::TextLaws::puts), unfolding(crate::specs::Sheet::if_checked))]
 pub fn check_line(text: &mut [u8], at: usize, checked: Result<(), Refusal>) -> usize
     requires { at + 92 ≤ length text.old }
     ensures puts { Puts text.old at text.new result (if_checked checked []) }
     ensures upper_bound { result ≤ at + 92 }
 {
-    let mut told = [0u16; 5];
-    words::write_checked(&mut told, checked);
-    line_of(text, at, 0, &told)
+    match checked {
+        Ok(()) => at,
+        Err(refused) => refused_line(text, at, 0, refused),
+    }
 }

@@ -45,7 +45,7 @@ pub fn hex_words(text: &mut [u8], at: usize, words: &[u16]) -> usize
     end
 }
 
-// A byte's digit, "in hex of either case"; 16 where it has none.
+// A byte's digit, "in hex of either case"; 16 where it has none. It stays a number: callers ask whether it is below their base, and 16 never is.
 #[tactic(auto, using(model::proofs::TestLaws::tests), unfolding(crate::specs::Text::digit, model::specs::Test::pick, model::specs::Test::both))]
 pub fn digit(byte: u8) -> u16
     ensures { result ≡ digit_of byte }

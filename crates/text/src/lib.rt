@@ -1,4 +1,5 @@
-// Text, put at a place of a lent slice of bytes; a function answers where what it put ends.
+// Text, put at a place of a lent slice of bytes; a function answers where what it put ends. A String would have to be allocated, and a host lends
+// what the sheet's library fills.
 
 #![tactic(auto)]
 

@@ -88,6 +88,7 @@ fn refused_text(text: &mut [u8], at: usize, answer: &[u16; 6]) -> usize
     spaced(text, end, answer[4])
 }
 
+// By the answer's first word: its cases stay numbers, as the C header has them.
 #[tactic(auto, using(text::proofs::TextLaws::puts), unfolding(crate::specs::Trace::answer_text, crate::specs::Trace::answer_texts))]
 fn answer_text(text: &mut [u8], at: usize, answer: &[u16; 6]) -> usize
     requires { at + 70 ≤ length text.old }
