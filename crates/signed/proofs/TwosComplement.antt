@@ -4,13 +4,14 @@ use Prim.Native.Nat.{ℕ, ◌-◌, ◌/◌, ◌^◌, ◌≤◌, ◌<◌}
 use mathlib.Core.Bool.{Bool, true, false}
 use mathlib.Core.Path.{◌≡◌, refl}
 use native.Mathlib.Omega.{arith}
-use borrow.Author.Tests.{lt-ltb, le-ltb, ltb-true, ltb-false}
+use borrow.Author.Tests.{lt-ltb, le-ltb, ltb-true, ltb-false, leb-true}
 use lib.Dec.{ltb}
 use lib.IntN.{ℤ, pos, negsuc}
-use lib.Signed.{mag, shr_z, mag_shr}
+use lib.Signed.{mag, lt_z, le_z, shr_z, mag_shr}
 use mir.Syntax.{w32}
 use mir.Val.{to_z, of_z}
 use mir.ValLaws.{to_z-of_z}
+use Rattle.model.proofs.TestLaws.{impossible}
 use Rattle.model.specs.Program.{signed, unsigned, shifted, less}
 use Rattle.model.specs.Test.{pick}
 
@@ -18,6 +19,26 @@ use Rattle.model.specs.Test.{pick}
 
 pub read_back : (z : ℤ) → mag z < 131072 → to_z w32 (of_z w32 z) ≡ z
 read_back z h = to_z-of_z w32 z (record { sfits = omega arith })
+
+pub read_word : (x : ℕ) → x < 65536 → to_z w32 x ≡ pos x
+read_word x h = simp (lt-ltb x 2147483648 (omega arith))
+
+-- the sign of a number that the machine found below b, and not below b
+pub below-zero : (z b : ℤ) → mag z < 131072 → le_z b (pos 0) ≡ true → lt_z (to_z w32 (of_z w32 z)) b ≡ true → z ≡ negsuc (mag z)
+below-zero z b h l t = go z b l (rw (read_back z h) at t)
+  where
+    go : (y b : ℤ) → le_z b (pos 0) ≡ true → lt_z y b ≡ true → y ≡ negsuc (mag y)
+    go (negsuc n) b l t = refl
+    go (pos n) (pos m) l t = absurd (omega (arith, leb-true m 0 l, ltb-true n m t))
+    go (pos n) (negsuc m) l t = impossible (cc)
+
+pub from_zero : (z b : ℤ) → mag z < 131072 → le_z (pos 0) b ≡ true → lt_z (to_z w32 (of_z w32 z)) b ≡ false → z ≡ pos (mag z)
+from_zero z b h l t = go z b l (rw (read_back z h) at t)
+  where
+    go : (y b : ℤ) → le_z (pos 0) b ≡ true → lt_z y b ≡ false → y ≡ pos (mag y)
+    go (pos n) b l t = refl
+    go (negsuc n) (pos m) l t = impossible (cc)
+    go (negsuc n) (negsuc m) l t = impossible (cc)
 
 -- ---- A word's two signs
 
