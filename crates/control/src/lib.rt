@@ -311,6 +311,7 @@ fn commit_rules(program: &[u16], store: &[u16]) -> Result<(), Refusal>
 
 // The same without a call in phase 0, where each of them is passed over: most steps are of phase 0.
 #[tactic(auto, using(model::proofs::TestLaws::tests), unfolding(model::specs::Control::obey_all, model::specs::Control::open_serving, model::specs::Control::count_rule, model::specs::Control::pending_task_rule, model::specs::Control::pending_head_rule, model::specs::Control::pending_move_rule, model::specs::Test::in_turn, model::specs::Control::obey, model::specs::Test::must, model::specs::Test::both, model::specs::Test::either))]
+#[inline(always)]
 fn early_commit_rules(program: &[u16], store: &[u16]) -> Result<(), Refusal>
     requires contents { Contents program.now }
     requires shaped { Shaped store.now }
@@ -324,6 +325,7 @@ fn early_commit_rules(program: &[u16], store: &[u16]) -> Result<(), Refusal>
 
 // The rules of word 16, without a call where it is 0 or 1: both are kept then.
 #[tactic(auto, using(model::proofs::TestLaws::in_a_row, model::proofs::TestLaws::tests), unfolding(model::specs::Control::begun_rule, model::specs::Control::begun_event_rule, model::specs::Control::obey, model::specs::Test::must, model::specs::Test::both, model::specs::Test::either))]
+#[inline(always)]
 fn early_begun_rules(store: &[u16]) -> Result<(), Refusal>
     requires { Shaped store.now }
     ensures { result ≡ (obey (begun_rule (view store.now)) then obey (begun_event_rule (view store.now))) }

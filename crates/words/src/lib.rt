@@ -127,10 +127,12 @@ fn body_of(kind: u16, number: u16) -> Body
 fn place_of(place: u16, kind: u16, number: u16, instruction: u16, made: u16) -> Place
     ensures { result ≡ place_of place kind number instruction made }
 {
-    match place {
-        0 => Place::Free(made),
-        1 => Place::Run(body_of(kind, number), instruction, made),
-        _ => Place::Half(body_of(kind, number), instruction),
+    if place == 0 {
+        Place::Free(made)
+    } else if place == 1 {
+        Place::Run(body_of(kind, number), instruction, made)
+    } else {
+        Place::Half(body_of(kind, number), instruction)
     }
 }
 
@@ -138,11 +140,10 @@ fn place_of(place: u16, kind: u16, number: u16, instruction: u16, made: u16) -> 
 fn is_place(place: u16, kind: u16, number: u16, instruction: u16, made: u16) -> bool
     ensures { result ≡ is_place place kind number instruction made }
 {
-    match place {
-        0 => kind == 0 && number == 0 && instruction == 0,
-        1 => kind <= 1,
-        2 => kind <= 1 && made == 0,
-        _ => false,
+    if place == 0 {
+        kind == 0 && number == 0 && instruction == 0
+    } else {
+        kind <= 1 && (place == 1 || place == 2 && made == 0)
     }
 }
 
@@ -151,11 +152,14 @@ fn is_place(place: u16, kind: u16, number: u16, instruction: u16, made: u16) -> 
 fn handler_of(work: u16, length: u16, made: u16) -> Handler
     ensures { result ≡ handler_of work length made }
 {
-    match work {
-        0 => Handler::Resting,
-        1 => Handler::Storing(length, made),
-        2 => Handler::Dropping,
-        _ => Handler::Replacing(made),
+    if work == 0 {
+        Handler::Resting
+    } else if work == 1 {
+        Handler::Storing(length, made)
+    } else if work == 2 {
+        Handler::Dropping
+    } else {
+        Handler::Replacing(made)
     }
 }
 
@@ -163,12 +167,10 @@ fn handler_of(work: u16, length: u16, made: u16) -> Handler
 fn is_handler(work: u16, length: u16, made: u16) -> bool
     ensures { result ≡ is_handler work length made }
 {
-    match work {
-        0 => length == 0 && made == 0,
-        1 => true,
-        2 => length == 1 && made == 0,
-        3 => length == 1,
-        _ => false,
+    if work == 0 {
+        length == 0 && made == 0
+    } else {
+        work == 1 || length == 1 && (work == 3 || work == 2 && made == 0)
     }
 }
 
