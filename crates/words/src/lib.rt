@@ -119,7 +119,11 @@ pub fn with_burst(words: &[u16; 26], handler: Handler, burst: [u16; 8]) -> [u16;
 fn body_of(kind: u16, number: u16) -> Body
     ensures { result ≡ body_of kind number }
 {
-    if kind == 0 { Body::Task(number) } else { Body::Event(number) }
+    if kind == 0 {
+        Body::Task(number)
+    } else {
+        Body::Event(number)
+    }
 }
 
 // The place of words 9 to 13, and whether they are the words of a place.

@@ -2,7 +2,7 @@
 use Rattle.std.proofs.Common.{rules}
 use Rattle.model.specs.Check.{check}
 use Rattle.model.proofs.ProgramLaws.{check-passed}
-use Rattle.model.proofs.TestLaws.{in_a_row, answered}
+use Rattle.model.proofs.TestLaws.{in_a_row}
 use Rattle.program.proofs.check.Goals as goal
 
 pub returns-clause-given : goal.returns-clause-given

@@ -9,4 +9,3 @@ use Rattle.program.proofs.code.body.Given as goal
 
 abbrev pub invariant-loop-instruction : goal.invariant-loop-instruction
 invariant-loop-instruction l = (l.instruction-end ≡ instructions l.program l.body_number) × (l.instruction ≤ l.instruction-end) × (each (instruction_rule l.program l.body_number) l.instruction (l.instruction-end - l.instruction) ≡ body_rule l.program l.body_number)
-

@@ -9,4 +9,3 @@ use Rattle.program.proofs.rows.rules.Given as goal
 
 abbrev pub invariant-loop-body_number : goal.invariant-loop-body_number
 invariant-loop-body_number l = (l.body_number-end ≡ bodies l.program) × (l.body_number ≤ l.body_number-end) × (each (row_rule l.program) l.body_number (l.body_number-end - l.body_number) ≡ each (row_rule l.program) 0 l.body_number-end)
-
