@@ -204,9 +204,9 @@ fn wrong_text(mistake: Mistake) -> &'static [u8]
     }
 }
 
-// What is told of the mistake with a number, 0 as of the first; nothing behind the last.
+// What is told of the mistake with this number, 0 as of the first; nothing behind the last.
 #[tactic(auto, unfolding(crate::specs::Trace::wrong_texts))]
-fn numbered_text(wrong: u64) -> &'static [u8]
+fn numbered_wrong_text(wrong: u64) -> &'static [u8]
     ensures text { result.now ≡ get_or wrong_texts (wrong - 1) [] }
     ensures length_bound { length result.now ≤ 28 }
 {
@@ -241,7 +241,7 @@ pub fn unread_line(text: &mut [u8], at: usize, tabs: bool, number: u64, mistake:
     )
 }
 
-// The same by the mistake's number.
+// The same by the mistake's number; no words where no mistake has it.
 #[tactic(auto, unfolding(crate::specs::Trace::unread_line))]
 pub fn numbered_unread_line(
     text: &mut [u8],
@@ -260,7 +260,7 @@ pub fn numbered_unread_line(
         tabs,
         number,
         b"unread",
-        numbered_text(wrong),
+        numbered_wrong_text(wrong),
         &[],
         NOTHING,
     )
