@@ -71,20 +71,14 @@ fn words(kind: MistakeKind) -> &'static [u8]
     }
 }
 
-// What the mistake with this number is, in words; nothing where no mistake has it.
+// What the mistake with this number is, in words, where it isn't one of reading; nothing where no mistake has it.
 #[tactic(auto, unfolding(crate::specs::Told::mistake_texts))]
-fn numbered_words(number: u64) -> &'static [u8]
+fn numbered_other_words(number: u64) -> &'static [u8]
+    requires { 7 ≤ number }
     ensures value { result.now ≡ get_or mistake_texts number [] }
     ensures upper_bound { length result.now ≤ 60 }
 {
     match number {
-        0 => b"",
-        1 => reading_words(Wrong::Character),
-        2 => reading_words(Wrong::NumberLarge),
-        3 => reading_words(Wrong::NumberForm),
-        4 => reading_words(Wrong::NameLong),
-        5 => reading_words(Wrong::WordsMany),
-        6 => reading_words(Wrong::Colon),
         7 => words(MistakeKind::NoStatement),
         8 => words(MistakeKind::WordCount),
         9 => words(MistakeKind::NameDue),
@@ -115,7 +109,25 @@ fn numbered_words(number: u64) -> &'static [u8]
         34 => words(MistakeKind::DonePlace),
         35 => words(MistakeKind::BodyEnd),
         36 => words(MistakeKind::TextLong),
-        37.. => b"",
+        _ => b"",
+    }
+}
+
+// What the mistake with this number is, in words; nothing where no mistake has it.
+#[tactic(auto, unfolding(crate::specs::Told::mistake_texts))]
+fn numbered_words(number: u64) -> &'static [u8]
+    ensures value { result.now ≡ get_or mistake_texts number [] }
+    ensures upper_bound { length result.now ≤ 60 }
+{
+    match number {
+        0 => b"",
+        1 => reading_words(Wrong::Character),
+        2 => reading_words(Wrong::NumberLarge),
+        3 => reading_words(Wrong::NumberForm),
+        4 => reading_words(Wrong::NameLong),
+        5 => reading_words(Wrong::WordsMany),
+        6 => reading_words(Wrong::Colon),
+        7.. => numbered_other_words(number),
     }
 }
 
