@@ -2,8 +2,10 @@
 
 #![tactic(auto)]
 
-ghost use Rattle.std.specs.Prelude.{◌≤◌, ◌≡◌, length, get_or, [], Some};
+ghost use Rattle.std.specs.Prelude.{◌≤◌, ◌≡◌, ◌++◌, length, get_or, [], Some};
+ghost use Rattle.text.specs.Ascii.{ascii};
 ghost use Rattle.text.specs.Puts.{Puts};
+ghost use Rattle.text.specs.Text.{decimal as decimal_of};
 ghost use Rattle.assembly.specs.Mistakes.{kind_number, mistake_at};
 ghost use Rattle.tokens.specs.Tokens.{wrong_number};
 ghost use Rattle.mistakes.specs.Told.{mistake_texts, told};
@@ -69,15 +71,94 @@ fn words(kind: MistakeKind) -> &'static [u8]
     }
 }
 
+// What the mistake with this number is, in words, where it isn't one of reading; nothing where no mistake has it.
+#[tactic(auto, unfolding(crate::specs::Told::mistake_texts))]
+fn numbered_other_words(number: u64) -> &'static [u8]
+    requires { 7 ≤ number }
+    ensures value { result.now ≡ get_or mistake_texts number [] }
+    ensures upper_bound { length result.now ≤ 60 }
+{
+    match number {
+        7 => words(MistakeKind::NoStatement),
+        8 => words(MistakeKind::WordCount),
+        9 => words(MistakeKind::NameDue),
+        10 => words(MistakeKind::NumberDue),
+        11 => words(MistakeKind::LabelPlace),
+        12 => words(MistakeKind::LabelTaken),
+        13 => words(MistakeKind::InstructionPlace),
+        14 => words(MistakeKind::TaskPlace),
+        15 => words(MistakeKind::NameTaken),
+        16 => words(MistakeKind::GivenAbove),
+        17 => words(MistakeKind::NoTask),
+        18 => words(MistakeKind::NoLabel),
+        19 => words(MistakeKind::NoTransaction),
+        20 => words(MistakeKind::NoMemory),
+        21 => words(MistakeKind::NoEntry),
+        22 => words(MistakeKind::ProgramLong),
+        23 => words(MistakeKind::TaskCount),
+        24 => words(MistakeKind::EventCount),
+        25 => words(MistakeKind::MemorySize),
+        26 => words(MistakeKind::NoTaskNumber),
+        27 => words(MistakeKind::BodySize),
+        28 => words(MistakeKind::TransactionLarge),
+        29 => words(MistakeKind::RegisterLarge),
+        30 => words(MistakeKind::ShiftLarge),
+        31 => words(MistakeKind::AddressLarge),
+        32 => words(MistakeKind::TargetLarge),
+        33 => words(MistakeKind::GoPlace),
+        34 => words(MistakeKind::DonePlace),
+        35 => words(MistakeKind::BodyEnd),
+        36 => words(MistakeKind::TextLong),
+        _ => b"",
+    }
+}
+
+// What the mistake with this number is, in words; nothing where no mistake has it.
+#[tactic(auto, unfolding(crate::specs::Told::mistake_texts))]
+fn numbered_words(number: u64) -> &'static [u8]
+    ensures value { result.now ≡ get_or mistake_texts number [] }
+    ensures upper_bound { length result.now ≤ 60 }
+{
+    match number {
+        0 => b"",
+        1 => reading_words(Wrong::Character),
+        2 => reading_words(Wrong::NumberLarge),
+        3 => reading_words(Wrong::NumberForm),
+        4 => reading_words(Wrong::NameLong),
+        5 => reading_words(Wrong::WordsMany),
+        6 => reading_words(Wrong::Colon),
+        7.. => numbered_other_words(number),
+    }
+}
+
+// A line and words about it, and where they end.
+#[tactic(auto, using(crate::proofs::ToldLaws::putting))]
+fn put_words(text: &mut [u8], line: usize, words: &[u8]) -> usize
+    requires { (128 ≤ length text.old) × (length words.now ≤ 60) }
+    ensures { Puts text.old 0 text.new result
+        (ascii "line " ++ decimal_of line ++ ascii ": " ++ words.now ++ ascii "\n") }
+{
+    let end = put(text, 0, b"line ");
+    let end = decimal(text, end, line as u64);
+    let end = put(text, end, b": ");
+    let end = put(text, end, words);
+    put(text, end, b"\n")
+}
+
 // A mistake with its line, and where it ends.
-#[tactic(auto, using(crate::proofs::ToldLaws::putting), unfolding(crate::specs::Told::told))]
+#[tactic(auto, unfolding(crate::specs::Told::told))]
 pub fn put_mistake(text: &mut [u8], mistake: Mistake) -> usize
     requires { 128 ≤ length text.old }
     ensures { Puts text.old 0 text.new result (told (mistake_at mistake.line (kind_number mistake.kind))) }
 {
-    let end = put(text, 0, b"line ");
-    let end = decimal(text, end, mistake.line as u64);
-    let end = put(text, end, b": ");
-    let end = put(text, end, words(mistake.kind));
-    put(text, end, b"\n")
+    put_words(text, mistake.line, words(mistake.kind))
+}
+
+// A mistake by its number, with its line, and where it ends; a number that no mistake has is told without words.
+#[tactic(auto, unfolding(crate::specs::Told::told))]
+pub fn put_numbers(text: &mut [u8], line: usize, number: u64) -> usize
+    requires { 128 ≤ length text.old }
+    ensures { Puts text.old 0 text.new result (told (mistake_at line number)) }
+{
+    put_words(text, line, numbered_words(number))
 }

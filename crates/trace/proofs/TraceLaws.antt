@@ -1,15 +1,21 @@
--- Laws of what is printed: a cell more, a line more. Assumes nothing.
-use Prim.Native.Nat.{ℕ, ◌+◌, ◌<◌}
+-- Laws of what is printed: a cell more, a line more, and a call by its number. Assumes nothing.
+use Prim.Native.Nat.{ℕ, zero, suc, ◌+◌, ◌-◌, ◌<◌, ◌≤◌}
 use mathlib.Core.Bool.{Bool}
 use mathlib.Core.List.{List, [], ◌∷◌, ◌++◌, append_assoc, append-nil}
 use mathlib.Core.Path.{◌≡◌, refl, sym, ap, ◌∙◌}
 use native.Mathlib.Numerals.{add-one}
-use lib.ListN.{length, get_or, take}
+use native.Mathlib.Omega.{arith}
+use borrow.Author.Tests.{le-leb}
+use lib.ListN.{length, get_or, take, get_or-eq_default}
 use lib.Seq.{take-suc}
+use Rattle.model.proofs.TestLaws.{pick_true}
+use Rattle.model.specs.Program.{word}
+use Rattle.model.specs.Test.{pick}
+use Rattle.script.specs.Script.{names, set_program_call}
 use Rattle.text.proofs.TextLaws.{puts_as, puts_nothing, puts_then}
 use Rattle.text.specs.Puts.{Puts}
 use Rattle.text.specs.Text.{decimal}
-use Rattle.trace.specs.Trace.{tab, decimal_cells, memory_line, memory_lines}
+use Rattle.trace.specs.Trace.{call_text, shown_counts, shown_numbers, answer_cell, line, call_line, tab, decimal_cells, memory_line, memory_lines}
 
 -- ---- one cell more, one line more
 
@@ -43,3 +49,35 @@ lines_none t n tabs number label memory = puts_nothing t n
 pub ruleset by_cell = (cells_none, cells_more)
 
 pub ruleset by_line = (lines_none, lines_more)
+
+-- ---- a call's number that stands for a name, and one that stands for none
+
+pub line_named : (tabs : Bool) (n kind first second steps : ℕ) (a s : List ℕ) → call_line tabs n (kind - 1 + 1) first second steps a s ≡ call_line tabs n kind first second steps a s
+unfolding call_line call_text shown_numbers shown_counts answer_cell names pick
+line_named tabs n zero first second steps a s = refl
+line_named tabs n (suc k) first second steps a s =
+    let same : suc k - 1 + 1 ≡ suc k = omega arith in
+    ap (λ (kind : ℕ). call_line tabs n kind first second steps a s) same
+
+names-length : length names ≡ 21
+unfolding names
+names-length = refl
+
+no_name : (kind : ℕ) → 22 ≤ kind → get_or names (kind - 1) [] ≡ []
+no_name kind h = let many : 21 ≤ kind - 1 = omega arith in get_or-eq_default names [] (rw names-length many)
+
+no_shown : (kind : ℕ) → 22 ≤ kind → shown_numbers kind ≡ 0
+unfolding shown_numbers shown_counts
+no_shown kind h = let many : 18 ≤ kind = omega arith in get_or-eq_default shown_counts 0 many
+
+no_call : (kind first second : ℕ) → 22 ≤ kind → call_text kind first second ≡ []
+unfolding call_text pick
+no_call kind first second h = rw (no_name kind h, no_shown kind h)
+
+no_answer : (kind steps : ℕ) (a : List ℕ) → 22 ≤ kind → answer_cell kind steps a ≡ []
+unfolding answer_cell
+no_answer kind steps a h = let least : set_program_call ≤ kind = omega arith in pick_true _ _ (le-leb _ _ least)
+
+pub line_unnamed : (tabs : Bool) (n kind first second steps : ℕ) (a s : List ℕ) → 22 ≤ kind → line tabs n [] [] s (word a 5) ≡ call_line tabs n kind first second steps a s
+unfolding call_line
+line_unnamed tabs n kind first second steps a s h = rw (no_call kind first second h, no_answer kind steps a h)

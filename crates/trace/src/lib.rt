@@ -5,6 +5,7 @@
 ghost use Rattle.std.specs.Prelude.{◌+◌, ◌-◌, ◌≤◌, length, get_or, [], ◌≡◌};
 ghost use Rattle.script.specs.Reads.{number_of, number_of_mistake};
 ghost use Rattle.text.specs.Puts.{Puts};
+ghost use Rattle.trace.specs.Named.{IsNamed};
 ghost use Rattle.trace.specs.Trace.{columns, cells, line, call_line, wrong_texts, unread_line, header};
 
 use answers::{answer_cell, call_text};
@@ -130,6 +131,63 @@ pub fn call_line(
     )
 }
 
+// The name that a number stands for, 0 for the first as well; none behind the last.
+#[tactic(auto, unfolding(script::specs::Reads::number_of))]
+fn name_of(kind: u64) -> Option<Name>
+    ensures { IsNamed kind result }
+{
+    match kind {
+        0 | 1 => Some(Name::Program),
+        2 => Some(Name::Sizes),
+        3 => Some(Name::Totals),
+        4 => Some(Name::Check),
+        5 => Some(Name::Format),
+        6 => Some(Name::Boot),
+        7 => Some(Name::Step),
+        8 => Some(Name::Cut),
+        9 => Some(Name::Post),
+        10 => Some(Name::Burst),
+        11 => Some(Name::Run),
+        12 => Some(Name::LinesCheck),
+        13 => Some(Name::Raise),
+        14 => Some(Name::SetProgram),
+        15 => Some(Name::SetStore),
+        16 => Some(Name::ProgramLength),
+        17 => Some(Name::StoreLength),
+        18 => Some(Name::SetDevice),
+        19 => Some(Name::SetTotals),
+        20 => Some(Name::Keep),
+        21 => Some(Name::Restore),
+        22.. => None,
+    }
+}
+
+// A call's line by the number of its name; where no name has it, neither call nor answer is shown.
+pub fn numbered_call_line(
+    text: &mut [u8],
+    at: usize,
+    tabs: bool,
+    number: u64,
+    kind: u64,
+    first: u64,
+    second: u64,
+    steps: u32,
+    answer: &[u16; 6],
+    store: &[u16],
+) -> usize
+    requires { at + 512 ≤ length text.old }
+    ensures puts { Puts text.old at text.new result
+        (call_line tabs number kind first second steps answer.now store.now) }
+    ensures upper_bound { result ≤ at + 512 }
+{
+    match name_of(kind) {
+        Some(name) => call_line(
+            text, at, tabs, number, name, first, second, steps, answer, store,
+        ),
+        None => line(text, at, tabs, number, b"", b"", store, answer[5]),
+    }
+}
+
 // What is told of a mistake.
 #[tactic(auto, unfolding(crate::specs::Trace::wrong_texts))]
 fn wrong_text(mistake: Mistake) -> &'static [u8]
@@ -143,6 +201,23 @@ fn wrong_text(mistake: Mistake) -> &'static [u8]
         Mistake::NumberLarge => b"a number is too large",
         Mistake::NumberMissing => b"a number is missing",
         Mistake::HeadingLate => b"this stands before the calls",
+    }
+}
+
+// What is told of the mistake with this number, 0 as of the first; nothing behind the last.
+#[tactic(auto, unfolding(crate::specs::Trace::wrong_texts))]
+fn numbered_wrong_text(wrong: u64) -> &'static [u8]
+    ensures text { result.now ≡ get_or wrong_texts (wrong - 1) [] }
+    ensures length_bound { length result.now ≤ 28 }
+{
+    match wrong {
+        0 | 1 => wrong_text(Mistake::NameUnknown),
+        2 => wrong_text(Mistake::NumberMany),
+        3 => wrong_text(Mistake::NumberForm),
+        4 => wrong_text(Mistake::NumberLarge),
+        5 => wrong_text(Mistake::NumberMissing),
+        6 => wrong_text(Mistake::HeadingLate),
+        7.. => b"",
     }
 }
 
@@ -161,6 +236,31 @@ pub fn unread_line(text: &mut [u8], at: usize, tabs: bool, number: u64, mistake:
         number,
         b"unread",
         wrong_text(mistake),
+        &[],
+        NOTHING,
+    )
+}
+
+// The same by the mistake's number; no words where no mistake has it.
+#[tactic(auto, unfolding(crate::specs::Trace::unread_line))]
+pub fn numbered_unread_line(
+    text: &mut [u8],
+    at: usize,
+    tabs: bool,
+    number: u64,
+    wrong: u64,
+) -> usize
+    requires { at + 512 ≤ length text.old }
+    ensures puts { Puts text.old at text.new result (unread_line tabs number wrong) }
+    ensures upper_bound { result ≤ at + 512 }
+{
+    line(
+        text,
+        at,
+        tabs,
+        number,
+        b"unread",
+        numbered_wrong_text(wrong),
         &[],
         NOTHING,
     )
