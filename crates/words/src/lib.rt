@@ -205,7 +205,7 @@ fn are_records(words: &[u16; 26], length: u16) -> bool
 // Are 26 words those of a device state?
 #[tactic(auto, using(crate::proofs::Parts::tests), unfolding(crate::specs::Words::is_state, model::specs::Test::both))]
 #[inline(never)]
-fn is_state(words: &[u16; 26]) -> bool
+pub fn is_state(words: &[u16; 26]) -> bool
     ensures { result ≡ is_state words.now }
 {
     words[0] <= 1
@@ -216,7 +216,7 @@ fn is_state(words: &[u16; 26]) -> bool
 
 // The device state of words that are one's.
 #[tactic(auto, using(crate::proofs::Parts::tests), unfolding(crate::specs::Words::state_of))]
-fn state_of(words: &[u16; 26]) -> Device
+pub fn state_of(words: &[u16; 26]) -> Device
     ensures { result ≡ state_of words.now }
 {
     let registers = [
