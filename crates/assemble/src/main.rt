@@ -53,11 +53,10 @@ fn assemble(rt: &HostRuntime, command: Command, text: &[u8]) -> io::Result<()> {
 }
 
 fn assemble_input(rt: &HostRuntime, command: Command, text: &mut [u8; 1048577]) -> io::Result<()> {
-    let got = command::read_input(rt, command.input, text);
-    if got.ok && got.count <= text.len() {
-        return assemble(rt, command, &text[..got.count]);
+    match command::read_input(rt, command.input, text) {
+        Some(count) if count <= text.len() => assemble(rt, command, &text[..count]),
+        _ => Ok(()),
     }
-    Ok(())
 }
 
 // The room for a text is made apart from where it is used: beside its making the check doesn't get through its length.

@@ -10,142 +10,70 @@ use std::io::{Error, ErrorKind, Print, Read, Write};
 use std::rt::Env;
 use std::{fs, io, str};
 
-// What was asked for. A name is an argument's number, and 0 where it is standard input or output.
-#[derive(Clone, Copy)]
+// What was asked for. The input and the output are given by the numbers of their arguments; the standard ones have none.
+#[derive(Clone, Copy, Default)]
 pub struct Command {
     pub help: bool,
     pub wrong: bool,
     pub verbose: bool,
     pub names: u8,
-    pub input: usize,
-    pub output: usize,
+    pub input: Option<usize>,
+    pub output: Option<usize>,
 }
 
-fn same_from(text: &[u8], word: &[u8], i: usize) -> bool {
-    if i >= text.len() {
-        return false;
+impl Command {
+    // A name more: the input's, then the output's.
+    fn take_name(&mut self, number: Option<usize>) {
+        match self.names {
+            0 => self.input = number,
+            1 => self.output = number,
+            _ => self.wrong = true,
+        }
+        self.names = (self.names.min(1)) + 1;
     }
-    if i >= word.len() {
-        return false;
-    }
-    text[i] == word[i]
-}
 
-// Whether the text is this word.
-fn is_word(text: &[u8], word: &[u8]) -> bool {
-    if text.len() != word.len() {
-        return false;
-    }
-    for i in 0..word.len() {
-        if !same_from(text, word, i) {
-            return false;
+    // An argument more, of this number.
+    fn take(&mut self, number: usize, text: &[u8]) {
+        if text == b"--help".as_slice() {
+            self.help = true;
+        } else if text == b"--verbose".as_slice() {
+            self.verbose = true;
+        } else if text == b"-".as_slice() {
+            self.take_name(None);
+        } else if text.starts_with(b"-") {
+            self.wrong = true;
+        } else {
+            self.take_name(Some(number));
         }
     }
-    true
-}
-
-fn is_option(text: &[u8]) -> bool {
-    if text.len() < 2 {
-        return false;
-    }
-    text[0] == b'-'
-}
-
-// A name more: the input's, then the output's.
-fn with_name(command: Command, number: usize) -> Command {
-    Command {
-        help: command.help,
-        wrong: if command.wrong {
-            true
-        } else {
-            command.names > 1
-        },
-        verbose: command.verbose,
-        names: if command.names > 1 {
-            2
-        } else {
-            command.names + 1
-        },
-        input: if command.names == 0 {
-            number
-        } else {
-            command.input
-        },
-        output: if command.names == 1 {
-            number
-        } else {
-            command.output
-        },
-    }
-}
-
-fn with_option(command: Command, help: bool, verbose: bool, wrong: bool) -> Command {
-    Command {
-        help: if help { true } else { command.help },
-        wrong: if wrong { true } else { command.wrong },
-        verbose: if verbose { true } else { command.verbose },
-        names: command.names,
-        input: command.input,
-        output: command.output,
-    }
-}
-
-fn take(command: Command, number: usize, text: &[u8]) -> Command {
-    if is_word(text, b"--help") {
-        return with_option(command, true, false, false);
-    }
-    if is_word(text, b"--verbose") {
-        return with_option(command, false, true, false);
-    }
-    if is_option(text) {
-        return with_option(command, false, false, true);
-    }
-    if is_word(text, b"-") {
-        return with_name(command, 0);
-    }
-    with_name(command, number)
 }
 
 // An argument's bytes, at the start of `text`, and how many they are: none of one that is longer than there is room for.
 fn argument(rt: &HostRuntime, number: usize, text: &mut [u8]) -> usize
     ensures { result ≤ length text.new }
 {
-    match rt.arg(number, text) {
-        Ok(count) => count,
-        Err(_) => 0,
-    }
+    rt.arg(number, text).unwrap_or(0)
 }
 
 fn is_argument(rt: &HostRuntime, number: usize) -> bool {
     let mut text = [0u8; 4096];
-    match rt.arg(number, &mut text) {
-        Ok(_) => true,
-        Err(FillError::TooLong) => true,
-        Err(FillError::NotPresent) => false,
-    }
+    !matches!(rt.arg(number, &mut text), Err(FillError::NotPresent))
 }
 
-fn take_argument(rt: &HostRuntime, command: Command, number: usize) -> Command {
+fn take_argument(rt: &HostRuntime, command: &mut Command, number: usize) {
     let mut text = [0u8; 4096];
     let count = argument(rt, number, &mut text);
-    take(command, number, &text[..count])
+    command.take(number, &text[..count]);
 }
 
 // The command line.
 pub fn read_command(rt: &HostRuntime) -> Command {
-    let mut command = Command {
-        help: false,
-        wrong: false,
-        verbose: false,
-        names: 0,
-        input: 0,
-        output: 0,
-    };
+    let mut command = Command::default();
     for number in 1..usize::MAX {
         if !is_argument(rt, number) {
             break;
         }
-        command = take_argument(rt, command, number);
+        take_argument(rt, &mut command, number);
     }
     command
 }
@@ -177,18 +105,12 @@ fn text_of(name: &[u8]) -> io::Result<&str> {
     }
 }
 
-// What was read, so many bytes, and whether it could be.
-#[derive(Clone, Copy)]
-pub struct Got {
-    pub count: usize,
-    pub ok: bool,
-}
-
 // What a reader gives, up to its end or as many bytes as there is room for; and whether a read failed behind these.
 pub fn read_full<R: Read>(from: &mut R, bytes: &mut [u8]) -> (usize, io::Result<()>)
     ensures { result.0 ≤ length bytes.new }
 {
     let mut done = 0;
+    // By what a read gave, not one by one.
     while done < bytes.len() {
         match from.read(&mut bytes[done..]) {
             Ok(0) => break,
@@ -211,33 +133,37 @@ fn open_input(rt: &HostRuntime, number: usize) -> io::Result<File> {
     fs::open(rt, text_of(&name[..count])?)
 }
 
-fn read(rt: &HostRuntime, number: usize, bytes: &mut [u8]) -> io::Result<usize> {
-    if number == 0 {
-        return read_whole(&mut rt.stdin(), bytes);
+fn read(rt: &HostRuntime, input: Option<usize>, bytes: &mut [u8]) -> io::Result<usize> {
+    match input {
+        None => read_whole(&mut rt.stdin(), bytes),
+        Some(number) => {
+            let mut file = open_input(rt, number)?;
+            read_whole(&mut file, bytes)
+        }
     }
-    let mut file = open_input(rt, number)?;
-    read_whole(&mut file, bytes)
 }
 
-fn failed(rt: &HostRuntime, number: usize, error: &Error) {
-    if number == 0 {
-        return fail(rt, b"input", error);
-    }
+// The file of this argument failed.
+fn file_failed(rt: &HostRuntime, number: usize, error: &Error) {
     let mut name = [0u8; 4096];
     let count = argument(rt, number, &mut name);
     fail(rt, &name[..count], error);
 }
 
-// The input's bytes, as many as there is room for.
-pub fn read_input(rt: &HostRuntime, number: usize, bytes: &mut [u8]) -> Got {
-    match read(rt, number, bytes) {
-        Ok(count) => Got { count, ok: true },
+fn input_failed(rt: &HostRuntime, input: Option<usize>, error: &Error) {
+    match input {
+        None => fail(rt, b"input", error),
+        Some(number) => file_failed(rt, number, error),
+    }
+}
+
+// The input's bytes, as many as there is room for: how many they are, or none where it can't be read, which is told.
+pub fn read_input(rt: &HostRuntime, input: Option<usize>, bytes: &mut [u8]) -> Option<usize> {
+    match read(rt, input, bytes) {
+        Ok(count) => Some(count),
         Err(error) => {
-            failed(rt, number, &error);
-            Got {
-                count: 0,
-                ok: false,
-            }
+            input_failed(rt, input, &error);
+            None
         }
     }
 }
@@ -260,14 +186,14 @@ fn is_written(rt: &HostRuntime, outcome: io::Result<()>) -> bool {
 }
 
 // Bytes to the output; whether they were written.
-pub fn write_output(rt: &HostRuntime, number: usize, bytes: &[u8]) -> bool {
-    if number == 0 {
+pub fn write_output(rt: &HostRuntime, output: Option<usize>, bytes: &[u8]) -> bool {
+    let Some(number) = output else {
         return is_written(rt, Write::write_all(&mut rt.stdout(), bytes));
-    }
+    };
     match open_output(rt, number) {
         Ok(mut file) => is_written(rt, file.write_all(bytes)),
         Err(error) => {
-            failed(rt, number, &error);
+            file_failed(rt, number, &error);
             false
         }
     }

@@ -2,7 +2,7 @@
 
 #![tactic(auto)]
 
-use command::{Command, Got};
+use command::Command;
 use image::Loaded;
 use model::Refusal;
 use std::io;
@@ -58,13 +58,6 @@ fn list(rt: &HostRuntime, command: Command, program: &[u16]) -> io::Result<()> {
     }
 }
 
-fn list_words(rt: &HostRuntime, command: Command, words: &[u16], count: usize) -> io::Result<()> {
-    if count <= words.len() {
-        return list(rt, command, &words[..count]);
-    }
-    Ok(())
-}
-
 fn list_loaded(
     rt: &HostRuntime,
     command: Command,
@@ -72,36 +65,25 @@ fn list_loaded(
     words: &[u16; 65535],
 ) -> io::Result<()> {
     match loaded.checked {
-        Ok(()) => list_words(rt, command, words, loaded.length),
+        Ok(()) if loaded.length <= words.len() => list(rt, command, &words[..loaded.length]),
+        Ok(()) => Ok(()),
         Err(refusal) => tell(rt, refusal),
     }
 }
 
-// The first bytes, as many as were read.
-fn load_first(bytes: &[u8], count: usize, words: &mut [u16; 65535]) -> Loaded {
-    if count <= bytes.len() {
-        return image::load(&bytes[..count], words);
-    }
-    image::load(bytes, words)
-}
-
-fn load(bytes: &[u8; 131072], count: usize, words: &mut [u16; 65535]) -> Loaded {
-    load_first(bytes, count, words)
-}
-
-fn read_image(rt: &HostRuntime, input: usize, bytes: &mut [u8; 131072]) -> Got {
-    command::read_input(rt, input, bytes)
+// The program of the image's bytes, listed.
+fn list_image(rt: &HostRuntime, command: Command, image: &[u8]) -> io::Result<()> {
+    let mut words = [0u16; 65535];
+    let loaded = image::load(image, &mut words);
+    list_loaded(rt, command, loaded, &words)
 }
 
 fn run(rt: &HostRuntime, command: Command) -> io::Result<()> {
     let mut bytes = [0u8; 131072];
-    let got = read_image(rt, command.input, &mut bytes);
-    if !got.ok {
-        return Ok(());
+    match command::read_input(rt, command.input, &mut bytes) {
+        Some(count) if count <= bytes.len() => list_image(rt, command, &bytes[..count]),
+        _ => Ok(()),
     }
-    let mut words = [0u16; 65535];
-    let loaded = load(&bytes, got.count, &mut words);
-    list_loaded(rt, command, loaded, &words)
 }
 
 fn main(rt: HostRuntime) -> io::Result<()> {

@@ -55,6 +55,7 @@ fn feed(
 ) -> State {
     let mut now = state;
     let mut rest = bytes;
+    // By what the sheet took, not one by one.
     while !rest.is_empty() {
         let fed = sheet::feed(program, store, copy, text, rest, now);
         now = fed.state;
