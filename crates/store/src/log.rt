@@ -14,12 +14,17 @@ pub fn search(log: &[u16], log_count: u16, address: u16) -> Option<u16>
     ensures value { result ≡ find log.now log_count address }
     ensures within { (pair : ℕ) → result ≡ Some pair → pair < log_count }
 {
-    for pair in 0..log_count {
-        if log[2 * (pair as usize)] == address {
-            return Some(pair);
+    // Not a `for`: a loop that yields by break is the form that is asked for here (docs/DECISIONS.md, "Where each form ..").
+    let mut pair = 0;
+    loop {
+        if pair == log_count {
+            break None;
         }
+        if log[2 * (pair as usize)] == address {
+            break Some(pair);
+        }
+        pair += 1;
     }
-    None
 }
 
 // The same in a store.

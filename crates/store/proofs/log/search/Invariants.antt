@@ -9,3 +9,6 @@ invariant-loop-pair l = record {
   in_range : l.pair ≤ l.log_count;
   same : find_from l.log l.address l.pair (l.log_count - l.pair) ≡ find l.log l.log_count l.address;
 }
+
+abbrev pub decreases-loop-pair : goal.decreases-loop-pair
+decreases-loop-pair l = l.log_count - l.pair
