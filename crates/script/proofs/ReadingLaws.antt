@@ -1,5 +1,5 @@
 -- Laws of a line's names, of how many numbers it has and how large they are, and of what a reading holds. Assumes nothing.
-use Prim.Native.Nat.{ℕ, zero, suc, ◌+◌, ◌≤◌, ◌<◌, zero-le}
+use Prim.Native.Nat.{ℕ, zero, suc, ◌+◌, ◌-◌, ◌≤◌, ◌<◌, zero-le}
 use mathlib.Core.Bool.{Bool, true, false, not, ◌&&◌}
 use mathlib.Core.List.{List, [], ◌∷◌, ◌++◌}
 use mathlib.Core.Logic.{◌≢◌}
@@ -14,13 +14,12 @@ use Rattle.model.proofs.Range.{within}
 use Rattle.model.proofs.TestLaws.{pick_case, pick_true, pick-false, same_or, below_or, or_true_right, clash}
 use Rattle.model.specs.Program.{word}
 use Rattle.model.specs.Test.{pick, ◌and◌, ◌or◌, both, either}
-use Rattle.script.specs.Reads.{number_of, number_of_mistake, text_of, kind_of, wrong_of, is_wide, numbers_of, line_in, Small, Sizes, Sized, Holds}
+use Rattle.script.specs.Reads.{number_of, text_of, is_wide, numbers_of, line_in, Small, Sizes, Sized, Holds}
 use Rattle.script.specs.Script.{same, names, number_from, name_number, many, least, least_numbers, most_numbers, has_index, has_totals, largest, Line, line_of, stopped}
 use Rattle.script.specs.declared.Reading.{Reading}
-use Rattle.script.specs.declared.Mistake.{Mistake}
 use Rattle.script.specs.declared.names.Name.{Name}
 use Rattle.std.specs.Cmp.Lexicographic.{pointwise}
-use Rattle.std.proofs.Common.{rules, Option, Some, None, is_some}
+use Rattle.std.proofs.Common.{rules}
 
 -- ---- names
 
@@ -105,7 +104,7 @@ pub names_end : (bytes : List ℕ) (i : ℕ) → 21 ≤ i → 0 ≡ number_from 
 unfolding number_from names
 names_end bytes i h = rw (drop_of_length-le names h)
 
--- ---- what isn't there is 0, and nothing else is
+-- ---- names' numbers
 
 pub number-some : (name : Name) → 0 < number_of name
 unfolding number_of
@@ -131,30 +130,15 @@ number-some Name.SetTotals = omega arith
 number-some Name.Keep = omega arith
 number-some Name.Restore = omega arith
 
-mistake-some : (mistake : Mistake) → 0 < number_of_mistake mistake
-mistake-some Mistake.NameUnknown = omega arith
-mistake-some Mistake.NumberMany = omega arith
-mistake-some Mistake.NumberForm = omega arith
-mistake-some Mistake.NumberLarge = omega arith
-mistake-some Mistake.NumberMissing = omega arith
-mistake-some Mistake.HeadingLate = omega arith
+number_within : (names : List (List ℕ)) (n : ℕ) (bytes : List ℕ) → number_from names n bytes ≤ n + length names - 1
+unfolding number_from
+number_within [] n bytes = omega arith
+number_within (one ∷ others) n bytes =
+    pick_case (λ (r : ℕ). r ≤ n + suc (length others) - 1) (λ _. omega arith) (λ _. omega (arith, number_within others (n + 1) bytes))
 
-module _ {r : Bool} where
-  pub kind-none : (kind : Option Name) → is_some kind ≡ not r → r ≡ true → kind_of kind ≡ 0
-  kind-none None e h = refl
-  kind-none (Some name) e h = clash (sym e) (ap not h)
-
-  pub kind-some : (kind : Option Name) → is_some kind ≡ not r → r ≡ false → kind_of kind ≢ 0
-  kind-some None e h = clash (ap not h) (sym e)
-  kind-some (Some name) e h = λ zero-is. absurd (omega (arith, number-some name, zero-is))
-
-  pub wrong-some : (wrong : Option Mistake) → r ≡ is_some wrong → r ≡ true → wrong_of wrong ≢ 0
-  wrong-some None e h = clash h e
-  wrong-some (Some mistake) e h = λ zero-is. absurd (omega (arith, mistake-some mistake, zero-is))
-
-  pub wrong-none : (wrong : Option Mistake) → r ≡ is_some wrong → r ≡ false → wrong_of wrong ≡ 0
-  wrong-none None e h = refl
-  wrong-none (Some mistake) e h = clash e h
+pub number-most : (bytes : List ℕ) → name_number bytes ≤ 21
+unfolding name_number names
+number-most bytes = number_within names 1 bytes
 
 -- ---- how many numbers, and how large
 
@@ -198,22 +182,22 @@ module _ (now : Reading) (words : List ℕ) (sizes : Sized now (length words)) w
 
   pub numbers-counted : length (numbers_of now words) ≡ now.count
   numbers-counted =
-      pick_case {b = is_wide (kind_of now.kind)} (λ (l : List ℕ). length (take now.count l) ≡ now.count)
-      (λ e. length-take-le now.count now.wide (omega (arith, sizes.count_most, sizes.wide_long, wide_few (kind_of now.kind) e)))
-      (λ _. length-take-le now.count words (omega (arith, sizes.count_most, sizes.room, most-many (kind_of now.kind))))
+      pick_case {b = is_wide now.kind} (λ (l : List ℕ). length (take now.count l) ≡ now.count)
+      (λ e. length-take-le now.count now.wide (omega (arith, sizes.count_most, sizes.wide_long, wide_few now.kind e)))
+      (λ _. length-take-le now.count words (omega (arith, sizes.count_most, sizes.room, most-many now.kind)))
 
   -- number i of the line: none, one held in the reading, or a lent word
   module _ (i : ℕ) where
     pub number-none : now.count ≤ i → word (numbers_of now words) i ≡ 0
     number-none h = get_or-eq_default (numbers_of now words) 0 (omega (arith, numbers-counted))
 
-    pub number_wide : i < now.count → is_wide (kind_of now.kind) ≡ true → word (numbers_of now words) i ≡ word now.wide i
+    pub number_wide : i < now.count → is_wide now.kind ≡ true → word (numbers_of now words) i ≡ word now.wide i
     number_wide h e = rw (pick_true _ _ e) (get_or-take now.count now.wide i 0 h)
 
-    pub number_word : i < now.count → is_wide (kind_of now.kind) ≡ false → word (numbers_of now words) i ≡ word words i
+    pub number_word : i < now.count → is_wide now.kind ≡ false → word (numbers_of now words) i ≡ word words i
     number_word h e = rw (pick-false _ _ e) (get_or-take now.count words i 0 h)
 
-  pub numbers-small : is_wide (kind_of now.kind) ≡ true → (i : ℕ) → word (numbers_of now words) i ≤ largest (kind_of now.kind) i
+  pub numbers-small : is_wide now.kind ≡ true → (i : ℕ) → word (numbers_of now words) i ≤ largest now.kind i
   numbers-small e i = below_or i now.count
       (λ h. rw (number_wide i h e) (sizes.wide_in i h e))
       (λ h. rw (number-none i h) zero-le)
@@ -254,6 +238,7 @@ module _ {n held kind count value : ℕ} {name wide : List ℕ} {begun : Bool} (
         room = room;
         name_length = sizes.name_length;
         held_most = sizes.held_most;
+        kind_most = sizes.kind_most;
         wide_long = long;
         wide_in = small;
         count_most = omega (arith, sizes.begun_more e);
@@ -273,7 +258,7 @@ module _ (kind count value : ℕ) (wide words : List ℕ) where
 
 -- a line whose latest number has ended
 abbrev pub with_numbers : Reading → List ℕ → Line
-with_numbers now numbers = line_of (wrong_of now.wrong) now.comment (take now.held now.name) (kind_of now.kind) numbers false 0
+with_numbers now numbers = line_of now.wrong now.comment (take now.held now.name) now.kind numbers false 0
 
 -- a reading that stays
 pub stays : {now : Reading} {words : List ℕ} → Sized now (length words) → Holds (line_in now words) now words

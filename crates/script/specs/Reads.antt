@@ -1,5 +1,5 @@
 -- What the library promises of a line that is being read: what it holds, and lent words, is the line that is defined. Assumes nothing.
-use Rattle.std.specs.Prelude.{ℕ, ◌-◌, ◌≤◌, ◌<◌, Bool, true, false, List, [], ◌≡◌, Option, Some, None, length, get_or, take}
+use Rattle.std.specs.Prelude.{ℕ, ◌-◌, ◌≤◌, ◌<◌, Bool, true, List, [], ◌≡◌, Option, Some, None, length, get_or, take}
 use Rattle.model.specs.Program.{word}
 use Rattle.model.specs.Test.{pick, ◌or◌}
 use Rattle.script.specs.Script.{Line, line_of, names, has_index, has_totals, most_numbers, largest, many}
@@ -40,7 +40,7 @@ abbrev pub kind_of : Option Name → ℕ
 kind_of None = 0
 kind_of (Some name) = number_of name
 
--- the number of what is wrong; 0 for nothing
+-- the number of what is wrong
 abbrev pub number_of_mistake : Mistake → ℕ
 number_of_mistake Mistake.NameUnknown = name_unknown
 number_of_mistake Mistake.NumberMany = number_many
@@ -49,30 +49,17 @@ number_of_mistake Mistake.NumberLarge = number_large
 number_of_mistake Mistake.NumberMissing = number_missing
 number_of_mistake Mistake.HeadingLate = heading_late
 
-abbrev pub wrong_of : Option Mistake → ℕ
-wrong_of None = 0
-wrong_of (Some mistake) = number_of_mistake mistake
-
--- whether a number is being read, and its value so far
-abbrev pub begun_of : Option ℕ → Bool
-begun_of None = false
-begun_of (Some value) = true
-
-abbrev pub value_of : Option ℕ → ℕ
-value_of None = 0
-value_of (Some value) = value
-
 -- numbers that may be larger than a word are held in the reading, three at most; all others in lent words
 unfoldable pub is_wide : ℕ → Bool
 is_wide kind = has_index kind or has_totals kind
 
 abbrev pub numbers_of : Reading → List ℕ → List ℕ
-numbers_of now words = take now.count (pick (is_wide (kind_of now.kind)) now.wide words)
+numbers_of now words = take now.count (pick (is_wide now.kind) now.wide words)
 
 -- the line of a reading and of the lent words
 abbrev pub line_in : Reading → List ℕ → Line
 line_in now words =
-    line_of (wrong_of now.wrong) now.comment (take now.held now.name) (kind_of now.kind) (numbers_of now words) (begun_of now.value) (value_of now.value)
+    line_of now.wrong now.comment (take now.held now.name) now.kind (numbers_of now words) now.begun now.value
 
 -- the numbers held in a reading aren't larger than they may be
 abbrev pub Small : ℕ → List ℕ → ℕ → Type 0
@@ -83,6 +70,7 @@ pub record Sizes (words : ℕ) (name : List ℕ) (held kind : ℕ) (wide : List 
   pub room : words ≡ many
   pub name_length : length name ≡ 16
   pub held_most : held ≤ 16
+  pub kind_most : kind ≤ 21
   pub wide_long : length wide ≡ 3
   pub wide_in : Small kind wide count
   pub count_most : count ≤ most_numbers kind
@@ -90,7 +78,7 @@ pub record Sizes (words : ℕ) (name : List ℕ) (held kind : ℕ) (wide : List 
   pub value_most : value ≤ largest kind count
 
 abbrev pub Sized : Reading → ℕ → Type 0
-Sized now words = Sizes words now.name now.held (kind_of now.kind) now.wide now.count (begun_of now.value) (value_of now.value)
+Sized now words = Sizes words now.name now.held now.kind now.wide now.count now.begun now.value
 
 -- a reading became another, whose line is this one
 pub record Holds (line : Line) (after : Reading) (words : List ℕ) : Type 0 where

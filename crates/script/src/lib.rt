@@ -24,19 +24,21 @@ pub enum Mistake {
     HeadingLate,
 }
 
-// A line as far as it is read: what is wrong in it; whether it is a comment; the first bytes of its name, and the name once it has ended; how many
-// numbers have ended, and those that may be larger than a word; the value so far of a number that is being read.
+// A line as far as it is read: what is wrong in it, 0 for nothing; whether it is a comment; the first bytes of its name, and the name's number once
+// it has ended, 0 before; how many numbers have ended, and those that may be larger than a word; whether a number is being read, and its value so far.
+// Numbers, and a flag beside a value: the functions below take any of them, not only what they leave.
 // The name's bytes stand in an array with their count beside it, since nothing is allocated here.
 #[derive(Clone, Copy)]
 pub struct Reading {
-    pub wrong: Option<Mistake>,
+    pub wrong: u64,
     pub comment: bool,
     pub name: [u8; 16],
     pub held: usize,
-    pub kind: Option<Name>,
+    pub kind: u64,
     pub count: usize,
     pub wide: [u64; 3],
-    pub value: Option<u64>,
+    pub begun: bool,
+    pub value: u64,
 }
 
 // Whether a reading is one that this library can have left.
@@ -50,17 +52,22 @@ pub fn is_sized(reading: Reading, words: &[u16]) -> bool
     if reading.held > 16 {
         return false;
     }
-    let wide = reading.wide;
-    if !numbers::are_small(reading.kind, reading.count, wide) {
+    if reading.kind > 21 {
         return false;
     }
-    let most = numbers::most(reading.kind);
-    match reading.value {
-        Some(value) => {
-            reading.count < most && value <= numbers::largest(reading.kind, reading.count)
-        }
-        None => reading.count <= most,
+    let kind = names::name_of(reading.kind);
+    if reading.value > numbers::largest(kind, reading.count) {
+        return false;
     }
+    let wide = reading.wide;
+    if !numbers::are_small(kind, reading.count, wide) {
+        return false;
+    }
+    let most = numbers::most(kind);
+    if reading.begun {
+        return reading.count < most;
+    }
+    reading.count <= most
 }
 
 // A line of which nothing is read yet.
@@ -68,14 +75,15 @@ pub fn start() -> Reading
     ensures { (words : List ℕ) → length words ≡ many → Holds blank result words }
 {
     Reading {
-        wrong: None,
+        wrong: 0,
         comment: false,
         name: [0; 16],
         held: 0,
-        kind: None,
+        kind: 0,
         count: 0,
         wide: [0; 3],
-        value: None,
+        begun: false,
+        value: 0,
     }
 }
 
@@ -87,7 +95,7 @@ pub fn next(reading: Reading, words: &mut [u16], byte: u8) -> Reading
     if reading.comment {
         return reading;
     }
-    if reading.wrong.is_some() {
+    if reading.wrong != 0 {
         return reading;
     }
     line::read_byte(reading, words, byte)
@@ -101,7 +109,7 @@ pub fn last(reading: Reading, words: &mut [u16]) -> Reading
     if reading.comment {
         return reading;
     }
-    if reading.wrong.is_some() {
+    if reading.wrong != 0 {
         return reading;
     }
     line::complete(line::ended(reading, words))
@@ -115,7 +123,7 @@ pub fn number_at(reading: Reading, words: &[u16], i: usize) -> u64
     if i >= reading.count {
         return 0;
     }
-    if numbers::is_wide(reading.kind) {
+    if numbers::is_wide(names::name_of(reading.kind)) {
         let wide = reading.wide;
         return wide[i];
     }

@@ -1,7 +1,7 @@
 // A line, byte by byte: its name, then its numbers.
-ghost use Rattle.std.specs.Prelude.{◌<◌, length, Some, ◌≡◌};
+ghost use Rattle.std.specs.Prelude.{◌<◌, length, true, ◌≡◌};
 ghost use Rattle.script.specs.Script.{many, most_numbers, is_space, mistaken as mistaken_line, name_ended, number_ended, ended as ended_of, begins_comment, name_byte, sized, digit_byte, number_byte, read_byte, complete as complete_line};
-ghost use Rattle.script.specs.Reads.{line_in, kind_of, number_of_mistake, value_of, Sized, Holds, Becomes};
+ghost use Rattle.script.specs.Reads.{line_in, number_of_mistake, Sized, Holds, Becomes};
 
 use crate::{Mistake, Reading, names, numbers};
 use text::hex::digit;
@@ -13,11 +13,25 @@ fn is_space(byte: u8) -> bool
     matches!(byte, b' ' | b'\t' | b'\r')
 }
 
+// A mistake's number, by the page's table.
+fn number_of_mistake(mistake: Mistake) -> u64
+    ensures { result ≡ number_of_mistake mistake }
+{
+    match mistake {
+        Mistake::NameUnknown => 1,
+        Mistake::NumberMany => 2,
+        Mistake::NumberForm => 3,
+        Mistake::NumberLarge => 4,
+        Mistake::NumberMissing => 5,
+        Mistake::HeadingLate => 6,
+    }
+}
+
 fn mistaken(reading: Reading, mistake: Mistake) -> Reading
     ensures { Becomes (λ l. mistaken_line l (number_of_mistake mistake)) reading result }
 {
     Reading {
-        wrong: Some(mistake),
+        wrong: number_of_mistake(mistake),
         ..reading
     }
 }
@@ -32,27 +46,30 @@ fn name_ended(reading: Reading) -> Reading
     match names::named(&bytes[..held]) {
         None => mistaken(reading, Mistake::NameUnknown),
         Some(name) => Reading {
-            kind: Some(name),
+            kind: names::number_of(name),
             count: 0,
-            value: None,
+            begun: false,
+            value: 0,
             ..reading
         },
     }
 }
 
-// Where a number ends, of this value.
-fn number_ended(reading: Reading, words: &mut [u16], value: u64) -> Reading
+// Where a number ends.
+fn number_ended(reading: Reading, words: &mut [u16]) -> Reading
     requires sized { Sized reading (length words.old) }
-    requires begun_value { reading.value ≡ Some value }
+    requires begun_value { reading.begun ≡ true }
     ensures { Holds (number_ended (line_in reading words.old)) result words.new }
 {
     let count = reading.count;
+    let value = reading.value;
     let ended = Reading {
         count: count + 1,
-        value: None,
+        begun: false,
+        value: 0,
         ..reading
     };
-    if numbers::is_wide(reading.kind) {
+    if numbers::is_wide(names::name_of(reading.kind)) {
         let mut wide = reading.wide;
         wide[count] = value;
         return Reading { wide, ..ended };
@@ -66,16 +83,16 @@ pub fn ended(reading: Reading, words: &mut [u16]) -> Reading
     requires { Sized reading (length words.old) }
     ensures { Holds (ended_of (line_in reading words.old)) result words.new }
 {
-    if reading.kind.is_none() {
+    if reading.kind == 0 {
         if reading.held == 0 {
             return reading;
         }
         return name_ended(reading);
     }
-    match reading.value {
-        Some(value) => number_ended(reading, words, value),
-        None => reading,
+    if reading.begun {
+        return number_ended(reading, words);
     }
+    reading
 }
 
 #[tactic(auto, using(model::proofs::TestLaws::tests), unfolding(crate::specs::Script::begins_comment, model::specs::Test::both))]
@@ -111,14 +128,15 @@ fn name_byte(reading: Reading, byte: u8) -> Reading
 
 // A number becomes larger.
 fn larger(reading: Reading, value: u64) -> Reading
-    requires { reading.count < most_numbers (kind_of reading.kind) }
+    requires { reading.count < most_numbers reading.kind }
     ensures { Becomes (λ l. sized l value) reading result }
 {
-    if value > numbers::largest(reading.kind, reading.count) {
+    if value > numbers::largest(names::name_of(reading.kind), reading.count) {
         return mistaken(reading, Mistake::NumberLarge);
     }
     Reading {
-        value: Some(value),
+        begun: true,
+        value,
         ..reading
     }
 }
@@ -126,22 +144,15 @@ fn larger(reading: Reading, value: u64) -> Reading
 // A digit of a number.
 fn digit_byte(reading: Reading, byte: u8) -> Reading
     requires sized { Sized reading many }
-    requires count_bound { reading.count < most_numbers (kind_of reading.kind) }
+    requires count_bound { reading.count < most_numbers reading.kind }
     ensures { Becomes (λ l. digit_byte l byte) reading result }
 {
-    let base = numbers::base(reading.kind);
+    let base = numbers::base(names::name_of(reading.kind));
     let digit = digit(byte) as u64;
     if digit >= base {
         return mistaken(reading, Mistake::NumberForm);
     }
-    larger(reading, base * value_so_far(reading.value) + digit)
-}
-
-// The value of a number that is being read; 0 before its first digit.
-fn value_so_far(value: Option<u64>) -> u64
-    ensures { result ≡ value_of value }
-{
-    value.unwrap_or(0)
+    larger(reading, base * reading.value + digit)
 }
 
 // A byte of a number. One that has begun isn't one too many.
@@ -149,7 +160,7 @@ fn number_byte(reading: Reading, byte: u8) -> Reading
     requires { Sized reading many }
     ensures { Becomes (λ l. number_byte l byte) reading result }
 {
-    if reading.count >= numbers::most(reading.kind) {
+    if reading.count >= numbers::most(names::name_of(reading.kind)) {
         return mistaken(reading, Mistake::NumberMany);
     }
     digit_byte(reading, byte)
@@ -162,7 +173,7 @@ pub fn read_byte(reading: Reading, words: &mut [u16], byte: u8) -> Reading
     if is_space(byte) {
         return ended(reading, words);
     }
-    if reading.kind.is_none() {
+    if reading.kind == 0 {
         return name_byte(reading, byte);
     }
     number_byte(reading, byte)
@@ -172,10 +183,10 @@ pub fn read_byte(reading: Reading, words: &mut [u16], byte: u8) -> Reading
 pub fn complete(reading: Reading) -> Reading
     ensures { Becomes complete_line reading result }
 {
-    if reading.count >= numbers::least(reading.kind) {
+    if reading.count >= numbers::least(names::name_of(reading.kind)) {
         return reading;
     }
-    if reading.wrong.is_some() {
+    if reading.wrong != 0 {
         return reading;
     }
     mistaken(reading, Mistake::NumberMissing)

@@ -1,7 +1,7 @@
 // The names of a list's lines.
-ghost use Rattle.std.specs.Prelude.{◌≤◌, ◌≡◌, length};
+ghost use Rattle.std.specs.Prelude.{◌≤◌, ◌<◌, ◌≡◌, None, length};
 ghost use Rattle.script.specs.Script.{name_number, same as same_bytes};
-ghost use Rattle.script.specs.Reads.{kind_of, text_of};
+ghost use Rattle.script.specs.Reads.{kind_of, number_of, text_of};
 
 // A line's name, in the order of the page's table.
 #[derive(Clone, Copy, PartialEq, Eq, Debug)]
@@ -103,4 +103,67 @@ pub fn named(bytes: &[u8]) -> Option<Name>
         }
     }
     None
+}
+
+// A name's number, by the page's table.
+#[tactic(auto, unfolding(crate::specs::Reads::number_of))]
+pub fn number_of(name: Name) -> u64
+    ensures { result ≡ number_of name }
+{
+    match name {
+        Name::Program => 1,
+        Name::Sizes => 2,
+        Name::Totals => 3,
+        Name::Check => 4,
+        Name::Format => 5,
+        Name::Boot => 6,
+        Name::Step => 7,
+        Name::Cut => 8,
+        Name::Post => 9,
+        Name::Burst => 10,
+        Name::Run => 11,
+        Name::LinesCheck => 12,
+        Name::Raise => 13,
+        Name::SetProgram => 14,
+        Name::SetStore => 15,
+        Name::ProgramLength => 16,
+        Name::StoreLength => 17,
+        Name::SetDevice => 18,
+        Name::SetTotals => 19,
+        Name::Keep => 20,
+        Name::Restore => 21,
+    }
+}
+
+// The name that has this number. None has 0, which stands for a name that hasn't ended, and none a number behind the last.
+#[tactic(auto, unfolding(crate::specs::Reads::number_of))]
+pub fn name_of(kind: u64) -> Option<Name>
+    ensures known { kind ≤ 21 → kind_of result ≡ kind }
+    ensures unknown { 21 < kind → result ≡ None }
+{
+    match kind {
+        0 => None,
+        1 => Some(Name::Program),
+        2 => Some(Name::Sizes),
+        3 => Some(Name::Totals),
+        4 => Some(Name::Check),
+        5 => Some(Name::Format),
+        6 => Some(Name::Boot),
+        7 => Some(Name::Step),
+        8 => Some(Name::Cut),
+        9 => Some(Name::Post),
+        10 => Some(Name::Burst),
+        11 => Some(Name::Run),
+        12 => Some(Name::LinesCheck),
+        13 => Some(Name::Raise),
+        14 => Some(Name::SetProgram),
+        15 => Some(Name::SetStore),
+        16 => Some(Name::ProgramLength),
+        17 => Some(Name::StoreLength),
+        18 => Some(Name::SetDevice),
+        19 => Some(Name::SetTotals),
+        20 => Some(Name::Keep),
+        21 => Some(Name::Restore),
+        22.. => None,
+    }
 }

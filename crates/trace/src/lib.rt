@@ -98,7 +98,7 @@ pub fn header(text: &mut [u8], at: usize, tabs: bool) -> usize
 
 // A call's line. The answer's sixth word is the index of the word that was stored, 65535 where none was.
 #[tactic(auto, using(text::proofs::TextLaws::puts), unfolding(crate::specs::Trace::call_line))]
-pub fn call_line(
+pub fn named_call_line(
     text: &mut [u8],
     at: usize,
     tabs: bool,
@@ -163,7 +163,7 @@ fn name_of(kind: u64) -> Option<Name>
 }
 
 // A call's line by the number of its name; where no name has it, neither call nor answer is shown.
-pub fn numbered_call_line(
+pub fn call_line(
     text: &mut [u8],
     at: usize,
     tabs: bool,
@@ -181,7 +181,7 @@ pub fn numbered_call_line(
     ensures upper_bound { result ≤ at + 512 }
 {
     match name_of(kind) {
-        Some(name) => call_line(
+        Some(name) => named_call_line(
             text, at, tabs, number, name, first, second, steps, answer, store,
         ),
         None => line(text, at, tabs, number, b"", b"", store, answer[5]),
@@ -223,7 +223,7 @@ fn numbered_wrong_text(wrong: u64) -> &'static [u8]
 
 // The line of what can't be read.
 #[tactic(auto, unfolding(crate::specs::Trace::unread_line))]
-pub fn unread_line(text: &mut [u8], at: usize, tabs: bool, number: u64, mistake: Mistake) -> usize
+pub fn mistake_line(text: &mut [u8], at: usize, tabs: bool, number: u64, mistake: Mistake) -> usize
     requires { at + 512 ≤ length text.old }
     ensures puts { Puts text.old at text.new result
         (unread_line tabs number (number_of_mistake mistake)) }
@@ -243,13 +243,7 @@ pub fn unread_line(text: &mut [u8], at: usize, tabs: bool, number: u64, mistake:
 
 // The same by the mistake's number; no words where no mistake has it.
 #[tactic(auto, unfolding(crate::specs::Trace::unread_line))]
-pub fn numbered_unread_line(
-    text: &mut [u8],
-    at: usize,
-    tabs: bool,
-    number: u64,
-    wrong: u64,
-) -> usize
+pub fn unread_line(text: &mut [u8], at: usize, tabs: bool, number: u64, wrong: u64) -> usize
     requires { at + 512 ≤ length text.old }
     ensures puts { Puts text.old at text.new result (unread_line tabs number wrong) }
     ensures upper_bound { result ≤ at + 512 }

@@ -1,7 +1,7 @@
 -- `next` meets its contract. Assumes nothing.
 use mathlib.Core.Path.{sym}
 use Rattle.model.proofs.TestLaws.{pick_true, pick-false}
-use Rattle.script.proofs.ReadingLaws.{in_comment, behind-wrong, goes_on, stays, holds_as, wrong-some, wrong-none}
+use Rattle.script.proofs.ReadingLaws.{in_comment, behind-wrong, goes_on, stays, holds_as}
 use Rattle.script.specs.Script.{next}
 use Rattle.script.proofs.next.Goals as goal
 
@@ -9,10 +9,10 @@ pub returns-then-reading : goal.returns-then-reading
 unfolding next
 returns-then-reading c = holds_as (stays c.requires) (sym (pick_true _ _ (in_comment _ c.if-reading.true)))
 
-pub returns-then-is_some : goal.returns-then-is_some
+pub returns-then-reading-ne0 : goal.returns-then-reading-ne0
 unfolding next
-returns-then-is_some c = holds_as (stays c.requires) (sym (pick_true _ _ (behind-wrong _ (wrong-some c.args.reading.wrong c.is_some.ensures c.if-is_some.true))))
+returns-then-reading-ne0 c = holds_as (stays c.requires) (sym (pick_true _ _ (behind-wrong _ c.if-reading-ne0.true)))
 
 pub returns : goal.returns
 unfolding next
-returns c = holds_as c.read_byte.ensures (sym (pick-false _ _ (goes_on _ c.if-reading.false (wrong-none c.args.reading.wrong c.is_some.ensures c.if-is_some.false))))
+returns c = holds_as c.read_byte.ensures (sym (pick-false _ _ (goes_on _ c.if-reading.false c.if-reading-ne0.false)))

@@ -14,6 +14,7 @@ returns c =
         room = room;
         name_length = refl;
         held_most = zero-le;
+        kind_most = zero-le;
         wide_long = refl;
         wide_in = λ i h. absurd (omega arith);
         count_most = zero-le;

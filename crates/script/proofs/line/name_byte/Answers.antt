@@ -9,7 +9,7 @@ use lib.ListN.{length-set}
 use lib.Seq.{take-suc-set}
 use Rattle.model.proofs.TestLaws.{pick_true, pick-false}
 use Rattle.script.proofs.ReadingLaws.{name_held, stays, holds_as}
-use Rattle.script.specs.Reads.{numbers_of, wrong_of, kind_of, begun_of, value_of}
+use Rattle.script.specs.Reads.{numbers_of}
 use Rattle.script.specs.Script.{line_of, name_byte}
 use Rattle.script.proofs.line.name_byte.Goals as goal
 
@@ -33,11 +33,12 @@ returns c =
     let more = take-suc-set now.name now.held c.args.byte (omega (arith, sizes.name_length)) in
     holds_as
     record {
-      read = ap (λ (name : List ℕ). line_of (wrong_of now.wrong) now.comment name (kind_of now.kind) (numbers_of now words) (begun_of now.value) (value_of now.value)) (rw add-one more);
+      read = ap (λ (name : List ℕ). line_of now.wrong now.comment name now.kind (numbers_of now words) now.begun now.value) (rw add-one more);
       sized = record {
         room = sizes.room;
         name_length = simp length-set sizes.name_length;
         held_most = omega arith;
+        kind_most = sizes.kind_most;
         wide_long = sizes.wide_long;
         wide_in = sizes.wide_in;
         count_most = sizes.count_most;

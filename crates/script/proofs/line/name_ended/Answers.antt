@@ -1,5 +1,5 @@
 -- `line::name_ended` meets its contract. Assumes nothing.
-use Rattle.script.specs.Reads.{kind_of, wrong_of}
+use Rattle.script.specs.Reads.{kind_of}
 use Prim.Native.Nat.{ℕ, zero-le}
 use mathlib.Core.Bool.{false}
 use mathlib.Core.List.{[]}
@@ -9,7 +9,7 @@ use borrow.Author.Tests.{eq-eqb, ne_eqb}
 use lib.ListN.{take}
 use lib.Seq.{length-take-le}
 use Rattle.model.proofs.TestLaws.{pick_true, pick-false, clash}
-use Rattle.script.proofs.ReadingLaws.{holds_as, number-some}
+use Rattle.script.proofs.ReadingLaws.{holds_as, number-some, number-most}
 use Rattle.script.specs.Script.{line_of, name_ended}
 use Rattle.script.proofs.line.name_ended.Goals as goal
 
@@ -25,14 +25,15 @@ unfolding name_ended
 returns-in-Some c =
     let now = c.args.reading in
     λ words sizes.
-    let known = (ap kind_of (sym c.in-Some.is) ∙ c.named.ensures) in
+    let known = c.number_of.ensures ∙ ap kind_of (sym c.in-Some.is) ∙ c.named.ensures in
     holds_as
     record {
-      read = ap (λ (kind : ℕ). line_of (wrong_of now.wrong) now.comment (take now.held now.name) kind [] false 0) known;
+      read = ap (λ (kind : ℕ). line_of now.wrong now.comment (take now.held now.name) kind [] false 0) known;
       sized = record {
         room = sizes.room;
         name_length = sizes.name_length;
         held_most = sizes.held_most;
+        kind_most = rw known (number-most (take now.held now.name));
         wide_long = sizes.wide_long;
         wide_in = λ i h. absurd (omega arith);
         count_most = zero-le;
@@ -40,4 +41,4 @@ returns-in-Some c =
         value_most = zero-le;
       };
     }
-    (sym (pick-false _ _ (rw (sym known) (ne_eqb _ _ (λ e. absurd (omega (arith, number-some c.in-Some.name, e)))))))
+    (sym (pick-false _ _ (rw (sym known) (ne_eqb _ _ (λ e. absurd (omega (arith, number-some c.in-Some.name, c.number_of.ensures, e)))))))
