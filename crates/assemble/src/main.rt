@@ -35,7 +35,7 @@ fn write_words(rt: &HostRuntime, command: Command, words: &[u16]) {
 
 fn tell(rt: &HostRuntime, mistake: Mistake) -> io::Result<()> {
     let mut text = [0u8; 128];
-    let end = mistakes::put_mistake(&mut text, mistake);
+    let end = mistakes::put_kind(&mut text, mistake);
     if end > text.len() {
         return Ok(());
     }

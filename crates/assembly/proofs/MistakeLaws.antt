@@ -11,7 +11,7 @@ use Rattle.assembly.specs.Lines.{as_line, as_lines, line_at, is_body, body_start
 use Rattle.assembly.specs.Mistakes.{MistakeNumbers, or_else, mistake_if, kind_number, found_number, mistake_at, mistake_numbers, or_next, own_mistake, among_mistake, first_own, first_among, label_mistake, label_mistake_of, place_mistake, place_mistake_of, name_mistake, name_mistake_of}
 use Rattle.assembly.specs.declared.Mistake.{Mistake}
 use Rattle.model.specs.Test.{pick}
-use Rattle.tokens.specs.Tokens.{wrong_number, all_numbers}
+use Rattle.tokens.specs.Tokens.{all_numbers}
 use Rattle.tokens.specs.declared.SourceLine.{SourceLine}
 use lib.Dec.{eqb}
 use lib.ListN.{length, get_or, take, drop}
@@ -19,7 +19,7 @@ use mathlib.Core.List.{List}
 use native.Mathlib.Numerals.{add-one}
 use Rattle.assembly.specs.declared.MistakeKind.{MistakeKind}
 use Rattle.tokens.specs.declared.Wrong.{Wrong}
-use Rattle.std.specs.Prelude.{Result, Ok, Err, Option, Some, None}
+use Rattle.std.specs.Prelude.{Result, Ok, Err}
 
 -- a kind has a number from 1 on
 pub some_kind : (kind : MistakeKind) → kind_number kind ≢ 0
@@ -29,6 +29,7 @@ some_kind (MistakeKind.Reading Wrong.NumberForm) e = absurd (omega (arith, e))
 some_kind (MistakeKind.Reading Wrong.NameLong) e = absurd (omega (arith, e))
 some_kind (MistakeKind.Reading Wrong.WordsMany) e = absurd (omega (arith, e))
 some_kind (MistakeKind.Reading Wrong.Colon) e = absurd (omega (arith, e))
+some_kind (MistakeKind.Unknown past) e = absurd (omega (arith, e))
 some_kind MistakeKind.NoStatement e = absurd (omega (arith, e))
 some_kind MistakeKind.WordCount e = absurd (omega (arith, e))
 some_kind MistakeKind.NameDue e = absurd (omega (arith, e))
@@ -109,13 +110,7 @@ found_first x kind m n e h =
 pub found_nothing : (x : Result Unit MistakeKind) (u : Unit {0}) {r : ℕ} (m n : ℕ) → found_number x ≡ m → x ≡ Ok u → r ≡ n → r ≡ or_else m n
 found_nothing x u m n e h g = g ∙ sym (next-counts n (sym e ∙ ap found_number h))
 
-pub reads_wrong : (w : Option Wrong) (wrong : Wrong) (n : ℕ) → w ≡ Some wrong → wrong_number (Some wrong) ≡ or_else (wrong_number w) n
-reads_wrong w wrong n h = rw h (sym (first-counts n (some_kind (MistakeKind.Reading wrong))))
-
-pub reads_right : (w : Option Wrong) {r : ℕ} (n : ℕ) → w ≡ None → r ≡ n → r ≡ or_else (wrong_number w) n
-reads_right w n h e = rw h (e ∙ sym (next-counts n refl))
-
-pub ruleset in_turn = (makes, makes_first, goes, finds_none, found_first, found_nothing, reads_wrong, reads_right)
+pub ruleset in_turn = (makes, makes_first, goes, finds_none, found_first, found_nothing)
 
 -- ---- With its line
 

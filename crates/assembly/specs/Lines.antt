@@ -2,7 +2,6 @@
 use Rattle.std.specs.Prelude.{ℕ, zero, suc, ◌+◌, ◌-◌, ◌*◌, Bool, true, false, List, [], ◌∷◌, eqb, leb, ltb}
 use Rattle.model.specs.Program.{word}
 use Rattle.model.specs.Test.{pick, ◌and◌}
-use Rattle.tokens.specs.Tokens.{wrong_number}
 use Rattle.tokens.specs.declared.SourceLine.{SourceLine}
 
 -- ---- Lines: what is wrong in it, its label, its statement, and the words behind that
@@ -18,7 +17,7 @@ pub record Line : Type 0 where
 -- a line of crate tokens, with what is wrong in it by its number
 abbrev pub as_line : SourceLine → Line
 as_line l =
-    record { wrong = wrong_number l.wrong; label = l.label; statement = l.statement; first = l.first; second = l.second; third = l.third }
+    record { wrong = l.wrong; label = l.label; statement = l.statement; first = l.first; second = l.second; third = l.third }
 
 unfoldable pub as_lines : List SourceLine → List Line
 as_lines [] = []

@@ -7,10 +7,11 @@ use Rattle.assembly.specs.declared.Mistake.{Mistake}
 use Rattle.assembly.specs.declared.MistakeKind.{MistakeKind}
 use Rattle.tokens.specs.Tokens.{wrong_number}
 
--- ---- Their numbers; 1 to 6 are crate tokens'
+-- ---- Their numbers; 1 to 6 are crate tokens', and any from 7 on is an unknown one's, too
 
 abbrev pub kind_number : MistakeKind → ℕ
 kind_number (MistakeKind.Reading wrong) = wrong_number (Some wrong)
+kind_number (MistakeKind.Unknown past) = 7 + past
 kind_number MistakeKind.NoStatement = 7
 kind_number MistakeKind.WordCount = 8
 kind_number MistakeKind.NameDue = 9

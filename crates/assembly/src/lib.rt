@@ -15,10 +15,12 @@ mod place;
 mod rules;
 mod statement;
 
-// What a mistake is. The first is one of crate tokens, in a line as it is read.
+// What a mistake is. The first is one of crate tokens, in a line as it is read; the second is one of which a line has no more than a number, by how far
+// that is past 7.
 #[derive(Clone, Copy)]
 pub enum MistakeKind {
     Reading(Wrong),
+    Unknown(u64),
     NoStatement,
     WordCount,
     NameDue,

@@ -7,7 +7,7 @@ ghost use Rattle.tokens.specs.Tokens.{all_numbers};
 ghost use Rattle.tokens.specs.Uses.{is_jump};
 
 use crate::{Mistake, MistakeKind, lines, place, statement};
-use tokens::{SourceLine, uses};
+use tokens::{SourceLine, Wrong, uses};
 
 const GO_LINE: u64 = 16;
 
@@ -104,15 +104,29 @@ fn name_mistake(lines: &[SourceLine], start: usize, line: SourceLine) -> Result<
     Ok(())
 }
 
+// What is wrong in a line as it was read, by its number.
+fn reading_mistake(wrong: u64) -> Result<(), MistakeKind>
+    ensures { found_number result ≡ wrong }
+{
+    match wrong {
+        0 => Ok(()),
+        1 => Err(MistakeKind::Reading(Wrong::Character)),
+        2 => Err(MistakeKind::Reading(Wrong::NumberLarge)),
+        3 => Err(MistakeKind::Reading(Wrong::NumberForm)),
+        4 => Err(MistakeKind::Reading(Wrong::NameLong)),
+        5 => Err(MistakeKind::Reading(Wrong::WordsMany)),
+        6 => Err(MistakeKind::Reading(Wrong::Colon)),
+        7.. => Err(MistakeKind::Unknown(wrong - 7)),
+    }
+}
+
 // A line by itself.
 #[tactic(auto, using(crate::proofs::MistakeLaws::in_turn), unfolding(crate::specs::Mistakes::own_mistake))]
 fn own_mistake(line: SourceLine) -> Result<(), MistakeKind>
     ensures { found_number result ≡ own_mistake (as_line line) }
 {
-    match line.wrong {
-        Some(wrong) => Err(MistakeKind::Reading(wrong)),
-        None => statement::statement_mistake(line),
-    }
+    reading_mistake(line.wrong)?;
+    statement::statement_mistake(line)
 }
 
 #[tactic(auto, using(crate::proofs::MistakeLaws::own_in_turn))]

@@ -2,7 +2,8 @@
 use Rattle.std.specs.Prelude.{ℕ, List, [], ◌∷◌, ◌++◌, get_or}
 use Rattle.text.specs.Ascii.{ascii}
 use Rattle.text.specs.Text.{decimal}
-use Rattle.assembly.specs.Mistakes.{MistakeNumbers}
+use Rattle.assembly.specs.Mistakes.{MistakeNumbers, kind_number}
+use Rattle.assembly.specs.declared.MistakeKind.{MistakeKind}
 
 -- from number 1 on; 0 has none
 unfoldable pub mistake_texts : List (List ℕ)
@@ -45,6 +46,12 @@ mistake_texts =
     ∷ ascii "a body ends with JUMP, GO or DONE"
     ∷ ascii "a text has at most 1048576 bytes and 65536 lines"
     ∷ []
+
+-- the number of a mistake that a line's reading doesn't find; 0 of those that it does
+abbrev pub other_number : MistakeKind → ℕ
+other_number (MistakeKind.Reading _) = 0
+other_number (MistakeKind.Unknown _) = 0
+other_number kind = kind_number kind
 
 unfoldable pub told : MistakeNumbers → List ℕ
 told m = ascii "line " ++ decimal m.line ++ ascii ": " ++ get_or mistake_texts m.number [] ++ ascii "\n"

@@ -2,42 +2,26 @@
 
 #![tactic(auto)]
 
-ghost use Rattle.std.specs.Prelude.{◌≤◌, ◌≡◌, ◌++◌, length, get_or, [], Some};
+ghost use Rattle.std.specs.Prelude.{◌+◌, ◌≤◌, ◌≡◌, ◌++◌, length, get_or, [], Some};
 ghost use Rattle.text.specs.Ascii.{ascii};
 ghost use Rattle.text.specs.Puts.{Puts};
 ghost use Rattle.text.specs.Text.{decimal as decimal_of};
 ghost use Rattle.assembly.specs.Mistakes.{kind_number, mistake_at};
 ghost use Rattle.tokens.specs.Tokens.{wrong_number};
-ghost use Rattle.mistakes.specs.Told.{mistake_texts, told};
+ghost use Rattle.mistakes.specs.Told.{mistake_texts, other_number, told};
 
 use assembly::{Mistake, MistakeKind};
 use text::{decimal, put};
 use tokens::Wrong;
 
-// What is wrong in a line as it is read, in words.
+// What a mistake is, in words, where it isn't one of reading.
 #[tactic(auto, unfolding(crate::specs::Told::mistake_texts))]
-fn reading_words(wrong: Wrong) -> &'static [u8]
-    ensures value { result.now ≡ get_or mistake_texts (wrong_number (Some wrong)) [] }
-    ensures upper_bound { length result.now ≤ 60 }
-{
-    match wrong {
-        Wrong::Character => b"this character can't stand here",
-        Wrong::NumberLarge => b"a number is at most 65535",
-        Wrong::NumberForm => b"a number is decimal digits, or 0x and hex digits",
-        Wrong::NameLong => b"a name has at most 12 characters",
-        Wrong::WordsMany => b"a line has at most four words behind its label",
-        Wrong::Colon => b"a colon stands behind the line's first word, a name",
-    }
-}
-
-// What a mistake is, in words.
-#[tactic(auto, unfolding(crate::specs::Told::mistake_texts))]
-fn words(kind: MistakeKind) -> &'static [u8]
-    ensures value { result.now ≡ get_or mistake_texts (kind_number kind) [] }
+fn other_words(kind: MistakeKind) -> &'static [u8]
+    ensures value { result.now ≡ get_or mistake_texts (other_number kind) [] }
     ensures upper_bound { length result.now ≤ 60 }
 {
     match kind {
-        MistakeKind::Reading(wrong) => reading_words(wrong),
+        MistakeKind::Reading(_) | MistakeKind::Unknown(_) => b"",
         MistakeKind::NoStatement => b"no statement begins so",
         MistakeKind::WordCount => b"this statement has another number of words",
         MistakeKind::NameDue => b"a name is due here",
@@ -79,37 +63,78 @@ fn numbered_other_words(number: u64) -> &'static [u8]
     ensures upper_bound { length result.now ≤ 60 }
 {
     match number {
-        7 => words(MistakeKind::NoStatement),
-        8 => words(MistakeKind::WordCount),
-        9 => words(MistakeKind::NameDue),
-        10 => words(MistakeKind::NumberDue),
-        11 => words(MistakeKind::LabelPlace),
-        12 => words(MistakeKind::LabelTaken),
-        13 => words(MistakeKind::InstructionPlace),
-        14 => words(MistakeKind::TaskPlace),
-        15 => words(MistakeKind::NameTaken),
-        16 => words(MistakeKind::GivenAbove),
-        17 => words(MistakeKind::NoTask),
-        18 => words(MistakeKind::NoLabel),
-        19 => words(MistakeKind::NoTransaction),
-        20 => words(MistakeKind::NoMemory),
-        21 => words(MistakeKind::NoEntry),
-        22 => words(MistakeKind::ProgramLong),
-        23 => words(MistakeKind::TaskCount),
-        24 => words(MistakeKind::EventCount),
-        25 => words(MistakeKind::MemorySize),
-        26 => words(MistakeKind::NoTaskNumber),
-        27 => words(MistakeKind::BodySize),
-        28 => words(MistakeKind::TransactionLarge),
-        29 => words(MistakeKind::RegisterLarge),
-        30 => words(MistakeKind::ShiftLarge),
-        31 => words(MistakeKind::AddressLarge),
-        32 => words(MistakeKind::TargetLarge),
-        33 => words(MistakeKind::GoPlace),
-        34 => words(MistakeKind::DonePlace),
-        35 => words(MistakeKind::BodyEnd),
-        36 => words(MistakeKind::TextLong),
+        7 => other_words(MistakeKind::NoStatement),
+        8 => other_words(MistakeKind::WordCount),
+        9 => other_words(MistakeKind::NameDue),
+        10 => other_words(MistakeKind::NumberDue),
+        11 => other_words(MistakeKind::LabelPlace),
+        12 => other_words(MistakeKind::LabelTaken),
+        13 => other_words(MistakeKind::InstructionPlace),
+        14 => other_words(MistakeKind::TaskPlace),
+        15 => other_words(MistakeKind::NameTaken),
+        16 => other_words(MistakeKind::GivenAbove),
+        17 => other_words(MistakeKind::NoTask),
+        18 => other_words(MistakeKind::NoLabel),
+        19 => other_words(MistakeKind::NoTransaction),
+        20 => other_words(MistakeKind::NoMemory),
+        21 => other_words(MistakeKind::NoEntry),
+        22 => other_words(MistakeKind::ProgramLong),
+        23 => other_words(MistakeKind::TaskCount),
+        24 => other_words(MistakeKind::EventCount),
+        25 => other_words(MistakeKind::MemorySize),
+        26 => other_words(MistakeKind::NoTaskNumber),
+        27 => other_words(MistakeKind::BodySize),
+        28 => other_words(MistakeKind::TransactionLarge),
+        29 => other_words(MistakeKind::RegisterLarge),
+        30 => other_words(MistakeKind::ShiftLarge),
+        31 => other_words(MistakeKind::AddressLarge),
+        32 => other_words(MistakeKind::TargetLarge),
+        33 => other_words(MistakeKind::GoPlace),
+        34 => other_words(MistakeKind::DonePlace),
+        35 => other_words(MistakeKind::BodyEnd),
+        36 => other_words(MistakeKind::TextLong),
         _ => b"",
+    }
+}
+
+// What the mistake whose number is so far past 7 is, in words; nothing where no mistake has it.
+#[tactic(auto, using(crate::proofs::ToldLaws::no_words))]
+fn unknown_words(past: u64) -> &'static [u8]
+    ensures value { result.now ≡ get_or mistake_texts (7 + past) [] }
+    ensures upper_bound { length result.now ≤ 60 }
+{
+    match past.checked_add(7) {
+        Some(number) => numbered_other_words(number),
+        None => b"",
+    }
+}
+
+// What is wrong in a line as it is read, in words.
+#[tactic(auto, unfolding(crate::specs::Told::mistake_texts))]
+fn reading_words(wrong: Wrong) -> &'static [u8]
+    ensures value { result.now ≡ get_or mistake_texts (wrong_number (Some wrong)) [] }
+    ensures upper_bound { length result.now ≤ 60 }
+{
+    match wrong {
+        Wrong::Character => b"this character can't stand here",
+        Wrong::NumberLarge => b"a number is at most 65535",
+        Wrong::NumberForm => b"a number is decimal digits, or 0x and hex digits",
+        Wrong::NameLong => b"a name has at most 12 characters",
+        Wrong::WordsMany => b"a line has at most four words behind its label",
+        Wrong::Colon => b"a colon stands behind the line's first word, a name",
+    }
+}
+
+// What a mistake is, in words.
+#[tactic(auto)]
+fn words(kind: MistakeKind) -> &'static [u8]
+    ensures value { result.now ≡ get_or mistake_texts (kind_number kind) [] }
+    ensures upper_bound { length result.now ≤ 60 }
+{
+    match kind {
+        MistakeKind::Reading(wrong) => reading_words(wrong),
+        MistakeKind::Unknown(past) => unknown_words(past),
+        _ => other_words(kind),
     }
 }
 
@@ -147,7 +172,7 @@ fn put_words(text: &mut [u8], line: usize, words: &[u8]) -> usize
 
 // A mistake with its line, and where it ends.
 #[tactic(auto, unfolding(crate::specs::Told::told))]
-pub fn put_mistake(text: &mut [u8], mistake: Mistake) -> usize
+pub fn put_kind(text: &mut [u8], mistake: Mistake) -> usize
     requires { 128 ≤ length text.old }
     ensures { Puts text.old 0 text.new result (told (mistake_at mistake.line (kind_number mistake.kind))) }
 {
@@ -156,7 +181,7 @@ pub fn put_mistake(text: &mut [u8], mistake: Mistake) -> usize
 
 // A mistake by its number, with its line, and where it ends; a number that no mistake has is told without words.
 #[tactic(auto, unfolding(crate::specs::Told::told))]
-pub fn put_numbers(text: &mut [u8], line: usize, number: u64) -> usize
+pub fn put_mistake(text: &mut [u8], line: usize, number: u64) -> usize
     requires { 128 ≤ length text.old }
     ensures { Puts text.old 0 text.new result (told (mistake_at line number)) }
 {

@@ -16,7 +16,7 @@ use Rattle.text.proofs.TextLaws.{puts_nothing, puts_as}
 use Rattle.text.specs.Puts.{Puts}
 use Rattle.model.proofs.TestLaws.{pick_true, pick-false}
 use Rattle.model.specs.Test.{pick}
-use Rattle.tokens.specs.Tokens.{line_feed, start, next, finished, lines_from, line_count, named, statement_names, all_named, number_of, statement, character, spelled, wrong_number, all_numbers}
+use Rattle.tokens.specs.Tokens.{line_feed, start, next, finished, lines_from, line_count, named, statement_names, all_named, number_of, statement, character, spelled, all_numbers}
 use Rattle.tokens.specs.declared.SourceLine.{SourceLine}
 use Rattle.tokens.specs.declared.Reading.{Reading}
 
@@ -80,7 +80,7 @@ pub numbers_append : (ls ks : List SourceLine) → all_numbers (ls ++ ks) ≡ al
 unfolding all_numbers
 numbers_append [] ks = refl
 numbers_append (l ∷ ls) ks =
-    ap (λ (ns : List ℕ). wrong_number l.wrong ∷ l.label ∷ l.statement ∷ l.first ∷ l.second ∷ l.third ∷ ns) (numbers_append ls ks)
+    ap (λ (ns : List ℕ). l.wrong ∷ l.label ∷ l.statement ∷ l.first ∷ l.second ∷ l.third ∷ ns) (numbers_append ls ks)
 
 -- a line that was put behind those that stand there
 pub numbers_set : (room : List SourceLine) (at : ℕ) (l : SourceLine) → at < length room

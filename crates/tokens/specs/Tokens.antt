@@ -53,19 +53,15 @@ wrong_number (Some Wrong.NameLong) = 4
 wrong_number (Some Wrong.WordsMany) = 5
 wrong_number (Some Wrong.Colon) = 6
 
-abbrev pub right : Option Wrong → Bool
-right None = true
-right (Some _) = false
-
 -- ---- A line, byte by byte: what is wrong, label and words so far, and the word that is being read
 
 unfoldable pub start : Reading
-start = record { wrong = None; label = 0; first = 0; second = 0; third = 0; fourth = 0; kind = Kind.Nothing; value = 0; comment = false }
+start = record { wrong = 0; label = 0; first = 0; second = 0; third = 0; fourth = 0; kind = Kind.Nothing; value = 0; comment = false }
 
 unfoldable pub mistaken : Reading → Wrong → Reading
 mistaken now wrong =
     record {
-      wrong = Some wrong;
+      wrong = wrong_number (Some wrong);
       label = now.label;
       first = now.first;
       second = now.second;
@@ -176,7 +172,7 @@ labelled now =
 
 -- a line in which something is wrong stays as it is
 unfoldable pub if_right : Reading → Reading → Reading
-if_right now next = pick (right now.wrong) next now
+if_right now next = pick (eqb now.wrong 0) next now
 
 unfoldable pub read_byte : Reading → ℕ → Reading
 read_byte now byte =
@@ -238,7 +234,7 @@ statement word = pick (eqb word 0) 0 (number_of (all_named statement_names) word
 
 -- the six numbers of a line
 unfoldable pub numbers : Reading → List ℕ
-numbers now = wrong_number now.wrong ∷ now.label ∷ statement now.first ∷ now.second ∷ now.third ∷ now.fourth ∷ []
+numbers now = now.wrong ∷ now.label ∷ statement now.first ∷ now.second ∷ now.third ∷ now.fourth ∷ []
 
 -- where the line ends
 unfoldable pub last : Reading → Reading
@@ -263,4 +259,4 @@ line_count (byte ∷ bytes) = pick (eqb byte line_feed) (suc (line_count bytes))
 -- lines in a room, as six numbers each
 unfoldable pub all_numbers : List SourceLine → List ℕ
 all_numbers [] = []
-all_numbers (l ∷ ls) = wrong_number l.wrong ∷ l.label ∷ l.statement ∷ l.first ∷ l.second ∷ l.third ∷ all_numbers ls
+all_numbers (l ∷ ls) = l.wrong ∷ l.label ∷ l.statement ∷ l.first ∷ l.second ∷ l.third ∷ all_numbers ls

@@ -33,10 +33,10 @@ pub enum Wrong {
     Colon,
 }
 
-// A line: its label, the number of its statement and the words behind that, 0 where there is none.
+// A line: the number of what is wrong in it, its label, the number of its statement and the words behind that, 0 where there is none.
 #[derive(Clone, Copy)]
 pub struct SourceLine {
-    pub wrong: Option<Wrong>,
+    pub wrong: u64,
     pub label: u64,
     pub statement: u64,
     pub first: u64,
@@ -47,7 +47,7 @@ pub struct SourceLine {
 impl SourceLine {
     // A line with nothing in it.
     pub const BLANK: SourceLine = SourceLine {
-        wrong: None,
+        wrong: 0,
         label: 0,
         statement: 0,
         first: 0,
@@ -56,10 +56,10 @@ impl SourceLine {
     };
 }
 
-// A line, as far as it is read.
+// A line, as far as it is read. What is wrong in it is a number, 0 for nothing: `line::next` and `line::last` take any, and write those of `Wrong`.
 #[derive(Clone, Copy)]
 pub struct Reading {
-    pub wrong: Option<Wrong>,
+    pub wrong: u64,
     pub label: u64,
     pub first: u64,
     pub second: u64,
@@ -76,7 +76,7 @@ fn start() -> Reading
     ensures small_value { Small result }
 {
     Reading {
-        wrong: None,
+        wrong: 0,
         label: 0,
         first: 0,
         second: 0,

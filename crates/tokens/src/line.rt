@@ -1,6 +1,6 @@
 // A line, byte by byte: the words so far, and the word that is being read.
-ghost use Rattle.std.specs.Prelude.{◌≡◌, ◌<◌, ◌≤◌, ◌^◌};
-ghost use Rattle.tokens.specs.Tokens.{character as character_of, is_space, mistaken as mistaken_of, with_word as with_word_of, with_words as with_words_of, in_comment as in_comment_of, digit as digit_of, begun as begun_of, after_zero as after_zero_of, longer as longer_of, goes_on as goes_on_of, added as added_of, ended as ended_of, labelled as labelled_of, if_right, read_byte as read_byte_of, next as next_of, last as last_of};
+ghost use Rattle.std.specs.Prelude.{◌≡◌, ◌<◌, ◌≤◌, ◌^◌, Some};
+ghost use Rattle.tokens.specs.Tokens.{wrong_number, character as character_of, is_space, mistaken as mistaken_of, with_word as with_word_of, with_words as with_words_of, in_comment as in_comment_of, digit as digit_of, begun as begun_of, after_zero as after_zero_of, longer as longer_of, goes_on as goes_on_of, added as added_of, ended as ended_of, labelled as labelled_of, if_right, read_byte as read_byte_of, next as next_of, last as last_of};
 ghost use Rattle.tokens.specs.Reads.{Small};
 ghost use Rattle.tokens.specs.declared.Kind.{Kind};
 
@@ -31,6 +31,21 @@ fn is_space(byte: u8) -> bool
     matches!(byte, b' ' | b'\t' | b'\r' | b',')
 }
 
+// The number of what is wrong.
+#[tactic(auto, unfolding(crate::specs::Tokens::wrong_number))]
+fn number(wrong: Wrong) -> u64
+    ensures { result ≡ wrong_number (Some wrong) }
+{
+    match wrong {
+        Wrong::Character => 1,
+        Wrong::NumberLarge => 2,
+        Wrong::NumberForm => 3,
+        Wrong::NameLong => 4,
+        Wrong::WordsMany => 5,
+        Wrong::Colon => 6,
+    }
+}
+
 #[tactic(auto, unfolding(crate::specs::Tokens::mistaken))]
 fn mistaken(reading: Reading, wrong: Wrong) -> Reading
     requires { Small reading }
@@ -38,7 +53,7 @@ fn mistaken(reading: Reading, wrong: Wrong) -> Reading
     ensures small_value { Small result }
 {
     Reading {
-        wrong: Some(wrong),
+        wrong: number(wrong),
         ..reading
     }
 }
@@ -223,7 +238,7 @@ fn labelled(reading: Reading) -> Reading
     ensures value { result ≡ if_right reading (labelled_of reading) }
     ensures small_value { Small result }
 {
-    if reading.wrong.is_some() {
+    if reading.wrong != 0 {
         return reading;
     }
     if reading.first <= 65535 || reading.second != 0 || reading.label != 0 {
@@ -261,7 +276,7 @@ pub fn next(reading: Reading, byte: u8) -> Reading
     ensures value { result ≡ next_of reading byte }
     ensures small_value { Small result }
 {
-    if reading.wrong.is_some() || reading.comment {
+    if reading.wrong != 0 || reading.comment {
         return reading;
     }
     read_byte(reading, byte)
@@ -274,7 +289,7 @@ pub fn last(reading: Reading) -> Reading
     ensures value { result ≡ last_of reading }
     ensures small_value { Small result }
 {
-    if reading.wrong.is_some() || reading.comment {
+    if reading.wrong != 0 || reading.comment {
         return reading;
     }
     ended(reading)

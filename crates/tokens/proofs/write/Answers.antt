@@ -4,7 +4,7 @@ use mathlib.Core.List.{[], ◌∷◌, ◌++◌}
 use mathlib.Core.Path.{ap, ◌∙◌}
 use lib.ListN.{take}
 use Rattle.tokens.proofs.LineLaws.{numbers_set}
-use Rattle.tokens.specs.Tokens.{wrong_number, numbers, all_numbers}
+use Rattle.tokens.specs.Tokens.{numbers, all_numbers}
 use Rattle.tokens.proofs.write.Goals as goal
 
 pub returns : goal.returns
@@ -14,5 +14,5 @@ returns c =
     numbers_set c.args.room.now c.args.at _ c.requires
     ∙ ap
     (λ (n : ℕ).
-    all_numbers (take c.args.at c.args.room.now) ++ (wrong_number reading.wrong ∷ reading.label ∷ n ∷ reading.second ∷ reading.third ∷ reading.fourth ∷ []))
+    all_numbers (take c.args.at c.args.room.now) ++ (reading.wrong ∷ reading.label ∷ n ∷ reading.second ∷ reading.third ∷ reading.fourth ∷ []))
     c.statement.ensures
