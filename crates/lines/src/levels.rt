@@ -181,9 +181,13 @@ impl Table<'_> {
     {
         let row = self.row(row);
         let other = self.row(other);
+        // First the lines, which differ for most pairs.
+        if row.line != other.line {
+            return PAST_ALL;
+        }
         let low = row.low.max(other.low);
         let high = row.high.min(other.high);
-        if row.line == other.line && low <= high {
+        if low <= high {
             place(row.line, low)
         } else {
             PAST_ALL

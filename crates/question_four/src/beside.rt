@@ -1,12 +1,9 @@
 // The right run beside a mistaken one: the same calls on two stores. A bar stands where they differ.
-ghost use Rattle.std.specs.Prelude.{◌<◌, ◌^◌};
-
 use super::mistakes::Mistake;
 use super::node::{Call, Node};
 use super::{cells, listed, node, text, words};
 use model::{Answer, Body, Record};
 use std::io;
-use store::format;
 
 #[derive(Clone, Copy)]
 pub struct Runs {
@@ -210,40 +207,20 @@ fn table(
     left(out, right, mistaken)
 }
 
-// The calls on two stores, with L 1 and this Q, of so many words.
-pub fn beside<const WORDS: usize>(
+// Calls before the first row, in rows, and behind the last, on two stores.
+pub fn beside(
     out: &impl Print,
     program: &[u16],
-    queue_records: u16,
+    right: &mut [u16],
+    mistaken: &mut [u16],
     mistake: Mistake,
     lists: Lists<'_>,
-) -> io::Result<()>
-    requires { WORDS < 2 ^ 16 }
-{
-    let mut right = [0u16; WORDS];
-    let mut mistaken = [0u16; WORDS];
-    let _ = format::format(program, 1, queue_records, &mut right);
-    let _ = format::format(program, 1, queue_records, &mut mistaken);
+) -> io::Result<()> {
     let off = Runs {
         right: node::off(),
         mistaken: node::off(),
     };
-    let first = calls(
-        program,
-        &mut right,
-        &mut mistaken,
-        off,
-        lists.before,
-        mistake,
-    );
+    let first = calls(program, right, mistaken, off, lists.before, mistake);
     listed::before(out, lists.before)?;
-    table(
-        out,
-        program,
-        &mut right,
-        &mut mistaken,
-        first,
-        mistake,
-        lists,
-    )
+    table(out, program, right, mistaken, first, mistake, lists)
 }

@@ -4,9 +4,12 @@
 
 #![tactic(auto)]
 
+ghost use Rattle.std.specs.Prelude.{◌<◌, ◌^◌};
+
 use beside::Lists;
 use mistakes::Mistake;
 use std::io;
+use store::format;
 
 mod beside;
 mod cells;
@@ -120,14 +123,31 @@ fn cuts_in_drop(out: &impl Print) -> io::Result<()> {
     table::table(out, &program, b"b7sss", b"8scb7sss8ssscb7sss8ssss")
 }
 
-// Stores with L 1 have 25 words with Q 1, and 27 with Q 2.
+// On formatted stores of so many words, with L 1.
+fn beside_on<const WORDS: usize>(
+    out: &impl Print,
+    program: &[u16],
+    queue_records: u16,
+    mistake: Mistake,
+    lists: Lists<'_>,
+) -> io::Result<()>
+    requires { WORDS < 2 ^ 16 }
+{
+    let mut right = [0u16; WORDS];
+    let mut mistaken = [0u16; WORDS];
+    let _ = format::format(program, 1, queue_records, &mut right);
+    let _ = format::format(program, 1, queue_records, &mut mistaken);
+    beside::beside(out, program, &mut right, &mut mistaken, mistake, lists)
+}
+
+// With Q 1, so of 25 words.
 fn beside_one(
     out: &impl Print,
     program: &[u16],
     mistake: Mistake,
     lists: Lists<'_>,
 ) -> io::Result<()> {
-    beside::beside::<25>(out, program, 1, mistake, lists)
+    beside_on::<25>(out, program, 1, mistake, lists)
 }
 
 fn head_plus_one(out: &impl Print) -> io::Result<()> {
@@ -136,7 +156,7 @@ fn head_plus_one(out: &impl Print) -> io::Result<()> {
         b"\n8. Redoing an event's commit by adding one to head: two records go",
     )?;
     let program = cases::counting();
-    beside::beside::<27>(
+    beside_on::<27>(
         out,
         &program,
         2,

@@ -11,11 +11,10 @@ pub fn line(out: &impl Print, text: &[u8]) -> io::Result<()> {
     put(out, b"\n")
 }
 
+// In one write, since nothing is buffered.
 pub fn spaces(out: &impl Print, n: u16) -> io::Result<()> {
-    for _ in 0..n {
-        put(out, b" ")?;
-    }
-    Ok(())
+    let width = n as usize;
+    print!(out; "{:width$}", "")
 }
 
 // What is left of a column, of which so much is used.
