@@ -1,6 +1,5 @@
 -- How a word's bytes are read: byte by byte, a name by its characters and a number by its digits, each as a word that can stand
 -- at any place of a line. Assumes nothing.
-use Rattle.std.specs.Prelude.{None}
 use Prim.Native.Char.{code}
 use Prim.Native.Nat.{ℕ, zero, suc, ◌+◌, ◌-◌, ◌*◌, ◌/◌, ◌%◌, ◌^◌, ◌≤◌, ◌<◌}
 use mathlib.Core.Bool.{Bool, true, false, not}
@@ -78,7 +77,7 @@ digit_byte_lem d h =
 abbrev pub during : ℕ → List ℕ → Kind → ℕ → Reading
 during label ws kind value =
     record {
-      wrong = None;
+      wrong = 0;
       label = label;
       first = get_or ws 0 0;
       second = get_or ws 1 0;
