@@ -11,10 +11,10 @@ pub fn line(out: &impl Print, text: &[u8]) -> io::Result<()> {
     put(out, b"\n")
 }
 
-// In one write, since nothing is buffered.
+// Up to 40 of them, in one write, since nothing is buffered.
 pub fn spaces(out: &impl Print, n: u16) -> io::Result<()> {
-    let width = n as usize;
-    print!(out; "{:width$}", "")
+    let spaces = b"                                        ";
+    put(out, &spaces[..spaces.len().min(n as usize)])
 }
 
 // What is left of a column, of which so much is used.
