@@ -8,7 +8,7 @@ use borrow.Author.Tests.{eq-eqb, ne_eqb}
 use Rattle.model.proofs.TestLaws.{pick_true, pick-false}
 use Rattle.assembly.proofs.LineLaws.{line_in, lines_in, lines_first}
 use Rattle.assembly.specs.Lines.{as_line, as_lines, line_at, is_body, body_start}
-use Rattle.assembly.specs.Mistakes.{MistakeNumbers, or_else, mistake_if, kind_number, found_number, mistake_at, mistake_numbers, or_next, own_mistake, among_mistake, first_own, first_among, label_mistake, label_mistake_of, place_mistake, place_mistake_of, name_mistake, name_mistake_of}
+use Rattle.assembly.specs.Mistakes.{MistakeNumbers, or_else, mistake_if, kind_number, found_number, is_known, finds_known, mistake_at, mistake_numbers, or_next, own_mistake, among_mistake, first_own, first_among, label_mistake, label_mistake_of, place_mistake, place_mistake_of, name_mistake, name_mistake_of}
 use Rattle.assembly.specs.declared.Mistake.{Mistake}
 use Rattle.model.specs.Test.{pick}
 use Rattle.tokens.specs.Tokens.{all_numbers}
@@ -110,7 +110,11 @@ found_first x kind m n e h =
 pub found_nothing : (x : Result Unit MistakeKind) (u : Unit {0}) {r : ℕ} (m n : ℕ) → found_number x ≡ m → x ≡ Ok u → r ≡ n → r ≡ or_else m n
 found_nothing x u m n e h g = g ∙ sym (next-counts n (sym e ∙ ap found_number h))
 
-pub ruleset in_turn = (makes, makes_first, goes, finds_none, found_first, found_nothing)
+-- the kind that it found is known, where what it finds is
+pub known_first : (x : Result Unit MistakeKind) (kind : MistakeKind) → finds_known x ≡ true → x ≡ Err kind → is_known kind ≡ true
+known_first x kind e h = sym (ap finds_known h) ∙ e
+
+pub ruleset in_turn = (makes, makes_first, goes, finds_none, found_first, found_nothing, known_first)
 
 -- ---- With its line
 

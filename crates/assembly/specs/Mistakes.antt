@@ -1,5 +1,5 @@
 -- docs/ASSEMBLY.md, "Mistakes": the first mistake of a line, of the lines and of the text; 0 where there is none. Assumes nothing.
-use Rattle.std.specs.Prelude.{ℕ, zero, suc, ◌+◌, ◌-◌, ◌*◌, Bool, not, List, eqb, leb, ltb, Some, Result, Ok, Err}
+use Rattle.std.specs.Prelude.{ℕ, zero, suc, ◌+◌, ◌-◌, ◌*◌, Bool, true, false, not, List, eqb, leb, ltb, Some, Result, Ok, Err}
 use Rattle.model.specs.Test.{pick, ◌and◌, ◌or◌}
 use Rattle.tokens.specs.Uses.{uses_a, uses_b, uses_k, is_jump, go_opcode}
 use Rattle.assembly.specs.Lines.{Line, line_at, lines_at, memory_line, entry_line, transaction_line, task_line, event_line, other_line, body_line, instruction_line, is_instruction, is_name_word, none, count, numbered, transaction_value, label_number, has_label, body_start}
@@ -47,6 +47,16 @@ kind_number MistakeKind.TextLong = 36
 abbrev pub found_number : Result Unit MistakeKind → ℕ
 found_number (Ok _) = 0
 found_number (Err kind) = kind_number kind
+
+-- any kind but an unknown one
+abbrev pub is_known : MistakeKind → Bool
+is_known (MistakeKind.Unknown _) = false
+is_known _ = true
+
+-- of what a function finds
+abbrev pub finds_known : Result Unit MistakeKind → Bool
+finds_known (Ok _) = true
+finds_known (Err kind) = is_known kind
 
 abbrev pub no_statement : ℕ
 no_statement = 7
@@ -230,6 +240,11 @@ mistake_at line number = record { line = line; number = number }
 abbrev pub mistake_numbers : {T : Type 0} → Result T Mistake → MistakeNumbers
 mistake_numbers (Ok _) = mistake_at 0 0
 mistake_numbers (Err m) = mistake_at m.line (kind_number m.kind)
+
+-- of an answer
+abbrev pub answers_known : {T : Type 0} → Result T Mistake → Bool
+answers_known (Ok _) = true
+answers_known (Err m) = is_known m.kind
 
 -- "what is wrong in a line by itself, reading it and as a statement, line by line": of the k lines from line i on
 unfoldable pub own_mistake : Line → ℕ

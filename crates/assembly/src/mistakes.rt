@@ -1,8 +1,9 @@
 // The first mistake of a text's lines.
-ghost use Rattle.std.specs.Prelude.{◌+◌, ◌^◌, ◌≤◌, ◌<◌, ◌≡◌, length};
+ghost use Rattle.std.specs.Prelude.{◌+◌, ◌^◌, ◌≤◌, ◌<◌, ◌≡◌, true, length};
 ghost use Rattle.model.specs.Test.{pick, ◌and◌};
 ghost use Rattle.assembly.specs.Lines.{as_line, line_at, is_body, is_instruction};
-ghost use Rattle.assembly.specs.Mistakes.{opcode_of, operand_of, task_word, label_word, transaction_word, missing_task, missing_label, missing_transaction, name_mistake_of, among_mistake, own_mistake, found_number, mistake_numbers, first_own, first_among, program_length, text_mistake, of_text, mistake_of};
+ghost use Rattle.assembly.specs.Mistakes.{opcode_of, operand_of, task_word, label_word, transaction_word, missing_task, missing_label, missing_transaction, name_mistake_of, among_mistake, own_mistake, found_number, finds_known, mistake_numbers, answers_known, first_own, first_among, program_length, text_mistake, of_text, mistake_of};
+ghost use Rattle.tokens.specs.Reads.{Known, AllKnown};
 ghost use Rattle.tokens.specs.Tokens.{all_numbers};
 ghost use Rattle.tokens.specs.Uses.{is_jump};
 
@@ -90,7 +91,8 @@ fn missing_transaction(lines: &[SourceLine], name: u64) -> bool
 #[tactic(auto, using(model::proofs::TestLaws::tests, crate::proofs::MistakeLaws::in_turn))]
 fn name_mistake(lines: &[SourceLine], start: usize, line: SourceLine) -> Result<(), MistakeKind>
     requires { start ≤ length lines.now }
-    ensures { found_number result ≡ name_mistake_of (all_numbers lines.now) (length lines.now) start (as_line line) }
+    ensures number { found_number result ≡ name_mistake_of (all_numbers lines.now) (length lines.now) start (as_line line) }
+    ensures known { finds_known result ≡ true }
 {
     if missing_task(lines, task_word(line)) {
         return Err(MistakeKind::NoTask);
@@ -106,7 +108,8 @@ fn name_mistake(lines: &[SourceLine], start: usize, line: SourceLine) -> Result<
 
 // What is wrong in a line as it was read, by its number.
 fn reading_mistake(wrong: u64) -> Result<(), MistakeKind>
-    ensures { found_number result ≡ wrong }
+    ensures number { found_number result ≡ wrong }
+    ensures known { Known wrong → finds_known result ≡ true }
 {
     match wrong {
         0 => Ok(()),
@@ -123,7 +126,8 @@ fn reading_mistake(wrong: u64) -> Result<(), MistakeKind>
 // A line by itself.
 #[tactic(auto, using(crate::proofs::MistakeLaws::in_turn), unfolding(crate::specs::Mistakes::own_mistake))]
 fn own_mistake(line: SourceLine) -> Result<(), MistakeKind>
-    ensures { found_number result ≡ own_mistake (as_line line) }
+    ensures number { found_number result ≡ own_mistake (as_line line) }
+    ensures known { Known line.wrong → finds_known result ≡ true }
 {
     reading_mistake(line.wrong)?;
     statement::statement_mistake(line)
@@ -131,7 +135,8 @@ fn own_mistake(line: SourceLine) -> Result<(), MistakeKind>
 
 #[tactic(auto, using(crate::proofs::MistakeLaws::own_in_turn))]
 fn first_own(lines: &[SourceLine]) -> Result<(), Mistake>
-    ensures { mistake_numbers result ≡ first_own (all_numbers lines.now) 0 (length lines.now) }
+    ensures numbers { mistake_numbers result ≡ first_own (all_numbers lines.now) 0 (length lines.now) }
+    ensures known { AllKnown lines.now → answers_known result ≡ true }
 {
     for i in 0..lines.len() {
         if let Err(kind) = own_mistake(lines[i]) {
@@ -145,7 +150,8 @@ fn first_own(lines: &[SourceLine]) -> Result<(), Mistake>
 #[tactic(auto, using(crate::proofs::MistakeLaws::in_turn, crate::proofs::MistakeLaws::placed), unfolding(crate::specs::Mistakes::among_mistake))]
 fn among_mistake(lines: &[SourceLine], start: usize, i: usize) -> Result<(), MistakeKind>
     requires { (start ≤ i) × (i < length lines.now) }
-    ensures { found_number result ≡ among_mistake (all_numbers lines.now) (length lines.now) start i }
+    ensures number { found_number result ≡ among_mistake (all_numbers lines.now) (length lines.now) start i }
+    ensures known { finds_known result ≡ true }
 {
     let line = lines[i];
     place::label_mistake(start, line, &lines[start..i])?;
@@ -169,7 +175,8 @@ pub fn next_start(lines: &[SourceLine], start: usize, i: usize) -> usize
 
 #[tactic(auto, using(crate::proofs::MistakeLaws::among_in_turn))]
 fn first_among(lines: &[SourceLine]) -> Result<(), Mistake>
-    ensures { mistake_numbers result ≡ first_among (all_numbers lines.now) (length lines.now) 0 (length lines.now) }
+    ensures numbers { mistake_numbers result ≡ first_among (all_numbers lines.now) (length lines.now) 0 (length lines.now) }
+    ensures known { answers_known result ≡ true }
 {
     let mut start = 0;
     for i in 0..lines.len() {
@@ -191,7 +198,8 @@ pub fn program_length(lines: &[SourceLine]) -> u64
 
 #[tactic(auto, using(model::proofs::TestLaws::tests, crate::proofs::MistakeLaws::in_turn, crate::proofs::LineLaws::room), unfolding(crate::specs::Mistakes::text_mistake))]
 fn text_mistake(lines: &[SourceLine]) -> Result<(), MistakeKind>
-    ensures { found_number result ≡ text_mistake (all_numbers lines.now) (length lines.now) }
+    ensures number { found_number result ≡ text_mistake (all_numbers lines.now) (length lines.now) }
+    ensures known { finds_known result ≡ true }
 {
     if lines::count(lines, lines::MEMORY) == 0 {
         return Err(MistakeKind::NoMemory);
@@ -208,7 +216,8 @@ fn text_mistake(lines: &[SourceLine]) -> Result<(), MistakeKind>
 // The text's, in its last line.
 #[tactic(auto, using(crate::proofs::MistakeLaws::at_line), unfolding(crate::specs::Mistakes::of_text))]
 fn of_text(lines: &[SourceLine]) -> Result<(), Mistake>
-    ensures { mistake_numbers result ≡ of_text (all_numbers lines.now) (length lines.now) }
+    ensures numbers { mistake_numbers result ≡ of_text (all_numbers lines.now) (length lines.now) }
+    ensures known { answers_known result ≡ true }
 {
     match text_mistake(lines) {
         Ok(()) => Ok(()),
@@ -222,7 +231,8 @@ fn of_text(lines: &[SourceLine]) -> Result<(), Mistake>
 // The first of lines by themselves, then of lines among the others, then of the text.
 #[tactic(auto, using(crate::proofs::MistakeLaws::first_of_all), unfolding(crate::specs::Mistakes::mistake_of))]
 pub fn mistake_of(lines: &[SourceLine]) -> Result<(), Mistake>
-    ensures { mistake_numbers result ≡ mistake_of (all_numbers lines.now) (length lines.now) }
+    ensures numbers { mistake_numbers result ≡ mistake_of (all_numbers lines.now) (length lines.now) }
+    ensures known { AllKnown lines.now → answers_known result ≡ true }
 {
     first_own(lines)?;
     first_among(lines)?;

@@ -1,8 +1,8 @@
 // A line among the others, in the body that begins at `start`.
-ghost use Rattle.std.specs.Prelude.{not, ◌≡◌, eqb, ltb};
+ghost use Rattle.std.specs.Prelude.{true, not, ◌≡◌, eqb, ltb};
 ghost use Rattle.model.specs.Test.{◌and◌, ◌or◌};
 ghost use Rattle.assembly.specs.Lines.{as_line, as_lines, is_instruction, memory_line, entry_line, task_line, event_line, none, count, numbered};
-ghost use Rattle.assembly.specs.Mistakes.{found_number, name_first, label_mistake_of, place_mistake_of};
+ghost use Rattle.assembly.specs.Mistakes.{found_number, finds_known, name_first, label_mistake_of, place_mistake_of};
 
 use crate::{MistakeKind, lines};
 use tokens::SourceLine;
@@ -18,7 +18,8 @@ fn label_outside(start: usize, line: SourceLine) -> bool
 // Its label, behind the lines of its body so far.
 #[tactic(auto, using(model::proofs::TestLaws::tests, crate::proofs::MistakeLaws::in_turn), unfolding(model::specs::Test::pick))]
 pub fn label_mistake(start: usize, line: SourceLine, body: &[SourceLine]) -> Result<(), MistakeKind>
-    ensures { found_number result ≡ label_mistake_of start (as_line line) (as_lines body.now) }
+    ensures number { found_number result ≡ label_mistake_of start (as_line line) (as_lines body.now) }
+    ensures known { finds_known result ≡ true }
 {
     if line.label == 0 {
         return Ok(());
@@ -83,7 +84,8 @@ pub fn place_mistake(
     line: SourceLine,
     above: &[SourceLine],
 ) -> Result<(), MistakeKind>
-    ensures { found_number result ≡ place_mistake_of start (as_line line) (as_lines above.now) }
+    ensures number { found_number result ≡ place_mistake_of start (as_line line) (as_lines above.now) }
+    ensures known { finds_known result ≡ true }
 {
     if instruction_outside(start, line) {
         return Err(MistakeKind::InstructionPlace);

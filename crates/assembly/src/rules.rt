@@ -1,9 +1,9 @@
 // The rules that the check finds broken, as mistakes of a text.
-ghost use Rattle.std.specs.Prelude.{◌+◌, ◌*◌, ◌-◌, ◌≤◌, ◌<◌, min, ◌≡◌, length};
+ghost use Rattle.std.specs.Prelude.{◌+◌, ◌*◌, ◌-◌, ◌≤◌, ◌<◌, min, ◌≡◌, true, length};
 ghost use Rattle.model.specs.Program.{word as word_of, tasks};
 ghost use Rattle.model.specs.Test.{◌and◌, ◌or◌};
 ghost use Rattle.assembly.specs.Rules.{size_mistake, row_mistake, operand_mistake, instruction_mistake, instruction_rule, size_place, body_place, instruction_place, explained_by, rule_mistake};
-ghost use Rattle.assembly.specs.Mistakes.{kind_number, mistake_at, mistake_numbers};
+ghost use Rattle.assembly.specs.Mistakes.{kind_number, is_known, mistake_at, mistake_numbers, answers_known};
 ghost use Rattle.tokens.specs.Tokens.{all_numbers};
 ghost use Rattle.model.specs.Answer.{refusal as refusal_of};
 
@@ -28,7 +28,8 @@ fn word(words: &[u16], i: usize) -> u16
 // 3, by the word.
 #[tactic(auto, using(model::proofs::TestLaws::tests), unfolding(crate::specs::Rules::size_mistake, model::specs::Test::pick))]
 fn size_mistake(i: u16) -> MistakeKind
-    ensures { kind_number result ≡ size_mistake i }
+    ensures number { kind_number result ≡ size_mistake i }
+    ensures known { is_known result ≡ true }
 {
     match i {
         1 => MistakeKind::TaskCount,
@@ -41,7 +42,8 @@ fn size_mistake(i: u16) -> MistakeKind
 // 4, by the body.
 #[tactic(auto, using(model::proofs::TestLaws::tests), unfolding(crate::specs::Rules::row_mistake, model::specs::Test::pick, model::specs::Test::both))]
 fn row_mistake(words: &[u16], i: u16) -> MistakeKind
-    ensures { kind_number result ≡ row_mistake words.now i }
+    ensures number { kind_number result ≡ row_mistake words.now i }
+    ensures known { is_known result ≡ true }
 {
     let count = word(words, 6 + 3 * (i as usize) + 1);
     if count >= 1 && count <= 256 {
@@ -60,7 +62,8 @@ fn operand_mistake(
     opcode: u16,
     k: u16,
 ) -> MistakeKind
-    ensures { kind_number result ≡ operand_mistake memory tasks count is_task opcode k }
+    ensures number { kind_number result ≡ operand_mistake memory tasks count is_task opcode k }
+    ensures known { is_known result ≡ true }
 {
     if opcode == SHR && k >= 16 {
         return MistakeKind::ShiftLarge;
@@ -93,7 +96,8 @@ fn instruction_mistake(
     first: u16,
     k: u16,
 ) -> MistakeKind
-    ensures { kind_number result ≡ instruction_mistake memory tasks count is_task first k }
+    ensures number { kind_number result ≡ instruction_mistake memory tasks count is_task first k }
+    ensures known { is_known result ≡ true }
 {
     if first / 16 % 16 >= 8 || first % 16 >= 8 {
         return MistakeKind::RegisterLarge;
@@ -103,7 +107,8 @@ fn instruction_mistake(
 
 #[tactic(auto, using(model::proofs::TestLaws::tests), unfolding(crate::specs::Rules::instruction_rule))]
 fn instruction_rule(words: &[u16], i: u16, j: u16) -> MistakeKind
-    ensures { kind_number result ≡ instruction_rule words.now i j }
+    ensures number { kind_number result ≡ instruction_rule words.now i j }
+    ensures known { is_known result ≡ true }
 {
     let row = 6 + 3 * (i as usize);
     let at = word(words, row) as usize + 2 * (j as usize);
@@ -156,7 +161,8 @@ fn instruction_place(lines: &[SourceLine], i: u16, j: u16) -> usize
 #[tactic(auto, using(model::proofs::TestLaws::tests), unfolding(crate::specs::Rules::explained_by, crate::specs::Rules::rule_place, crate::specs::Rules::rule_number, model::specs::Answer::refusal, model::specs::Test::pick))]
 fn explained(lines: &[SourceLine], words: &[u16], refusal: Refusal) -> Mistake
     requires { 1 ≤ length lines.now }
-    ensures { mistake_at result.line (kind_number result.kind) ≡ explained_by (all_numbers lines.now) (length lines.now) words.now (refusal_of refusal).number (refusal_of refusal).first (refusal_of refusal).second }
+    ensures numbers { mistake_at result.line (kind_number result.kind) ≡ explained_by (all_numbers lines.now) (length lines.now) words.now (refusal_of refusal).number (refusal_of refusal).first (refusal_of refusal).second }
+    ensures known { is_known result.kind ≡ true }
 {
     let (place, kind) = match refusal {
         Refusal::ProgramSize(word) => (size_place(lines, word), size_mistake(word)),
@@ -181,7 +187,8 @@ pub fn rule_mistake(
     checked: Result<(), Refusal>,
 ) -> Result<(), Mistake>
     requires { 1 ≤ length lines.now }
-    ensures { mistake_numbers result ≡ rule_mistake (all_numbers lines.now) (length lines.now) words.now checked }
+    ensures numbers { mistake_numbers result ≡ rule_mistake (all_numbers lines.now) (length lines.now) words.now checked }
+    ensures known { answers_known result ≡ true }
 {
     match checked {
         Ok(()) => Ok(()),

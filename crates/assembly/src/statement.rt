@@ -1,7 +1,7 @@
 // A statement by itself: how many words it has, and whether each is a name or a number.
-ghost use Rattle.std.specs.Prelude.{◌+◌, ◌-◌, ◌≤◌, ◌<◌, not, ◌≡◌};
+ghost use Rattle.std.specs.Prelude.{◌+◌, ◌-◌, ◌≤◌, ◌<◌, true, not, ◌≡◌};
 ghost use Rattle.model.specs.Test.{◌and◌, ◌or◌};
-ghost use Rattle.assembly.specs.Mistakes.{bit, operands, words_least, words_most, words_behind, number_only, number_first, number_second, number_third, kind_mistake, count_mistake, statement_mistake, found_number};
+ghost use Rattle.assembly.specs.Mistakes.{bit, operands, words_least, words_most, words_behind, number_only, number_first, number_second, number_third, kind_mistake, count_mistake, statement_mistake, found_number, finds_known};
 ghost use Rattle.assembly.specs.Lines.{as_line, is_name_word};
 ghost use Rattle.tokens.specs.Uses.{uses_a, uses_b};
 
@@ -72,7 +72,8 @@ fn words_behind(line: SourceLine) -> u64
 
 #[tactic(auto, using(model::proofs::TestLaws::tests, crate::proofs::MistakeLaws::in_turn), unfolding(crate::specs::Mistakes::count_mistake, model::specs::Test::either))]
 fn count_mistake(line: SourceLine) -> Result<(), MistakeKind>
-    ensures { found_number result ≡ count_mistake (as_line line) }
+    ensures number { found_number result ≡ count_mistake (as_line line) }
+    ensures known { finds_known result ≡ true }
 {
     let behind = words_behind(line);
     if behind < words_least(line.statement) || words_most(line.statement) < behind {
@@ -140,7 +141,8 @@ pub fn is_name(word: u64) -> bool
 
 #[tactic(auto, using(model::proofs::TestLaws::tests, crate::proofs::MistakeLaws::in_turn), unfolding(crate::specs::Mistakes::kind_mistake, model::specs::Test::both))]
 fn kind_mistake(line: SourceLine) -> Result<(), MistakeKind>
-    ensures { found_number result ≡ kind_mistake (as_line line) }
+    ensures number { found_number result ≡ kind_mistake (as_line line) }
+    ensures known { finds_known result ≡ true }
 {
     if place::name_first(line.statement) && !is_name(line.first) {
         return Err(MistakeKind::NameDue);
@@ -156,7 +158,8 @@ fn kind_mistake(line: SourceLine) -> Result<(), MistakeKind>
 
 #[tactic(auto, using(model::proofs::TestLaws::tests, crate::proofs::MistakeLaws::in_turn), unfolding(crate::specs::Mistakes::statement_mistake))]
 pub fn statement_mistake(line: SourceLine) -> Result<(), MistakeKind>
-    ensures { found_number result ≡ statement_mistake (as_line line) }
+    ensures number { found_number result ≡ statement_mistake (as_line line) }
+    ensures known { finds_known result ≡ true }
 {
     if line.statement == OTHER {
         return Err(MistakeKind::NoStatement);

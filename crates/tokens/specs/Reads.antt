@@ -1,14 +1,27 @@
 -- What the library promises of a text's lines. Assumes nothing.
-use Rattle.std.specs.Prelude.{ℕ, ◌+◌, ◌^◌, ◌<◌, List, ◌∷◌, ◌++◌, ◌≡◌, leb, length, take, Option, Some, None}
+use Rattle.std.specs.Prelude.{ℕ, ◌+◌, ◌^◌, ◌<◌, ◌≤◌, List, ◌∷◌, ◌++◌, ◌≡◌, leb, length, take, get_or, Option, Some, None}
 use Rattle.model.specs.Test.{pick}
-use Rattle.tokens.specs.Tokens.{lines_from, lines, line_count, all_numbers}
+use Rattle.tokens.specs.Tokens.{lines_from, lines, line_count, all_numbers, wrong_number}
 use Rattle.tokens.specs.declared.SourceLine.{SourceLine}
 use Rattle.tokens.specs.declared.Progress.{Progress}
 use Rattle.tokens.specs.declared.Reading.{Reading}
+use Rattle.tokens.specs.declared.Wrong.{Wrong}
 
 -- the value of a word that is being read is that of a name of 12 characters at most
 abbrev pub Small : Reading → Type 0
 Small now = now.value < 38 ^ 12
+
+-- what is wrong in a line, by its number, is nothing or one of `Wrong`, of which Colon is the last
+abbrev pub Known : ℕ → Type 0
+Known wrong = wrong ≤ wrong_number (Some Wrong.Colon)
+
+-- so it is in each of these lines
+abbrev pub AllKnown : List SourceLine → Type 0
+AllKnown ls = (i : ℕ) (d : SourceLine) → i < length ls → Known (get_or ls i d).wrong
+
+-- and in those of a room so far, and in what is read of the next
+abbrev pub KnownSoFar : List SourceLine → Progress → Type 0
+KnownSoFar room now = AllKnown (take now.done room) × Known now.reading.wrong
 
 -- a byte of the text: what the room has and what is to come, whatever follows, and how many lines that is
 pub record Takes (byte : ℕ) (room : List SourceLine) (before : Progress) (left : List SourceLine) (after : Progress) : Type 0 where

@@ -2,9 +2,9 @@
 
 #![tactic(auto)]
 
-ghost use Rattle.std.specs.Prelude.{◌+◌, ◌*◌, ◌<◌, ◌≤◌, eqb, length, take, ◌++◌, ◌≡◌};
+ghost use Rattle.std.specs.Prelude.{ℕ, ◌+◌, ◌*◌, ◌<◌, ◌≤◌, Some, eqb, length, take, ◌++◌, ◌≡◌};
 ghost use Rattle.tokens.specs.Tokens.{start as start_of, numbers as numbers_of, line_feed, line_count, all_numbers};
-ghost use Rattle.tokens.specs.Reads.{Small, Takes, Reads};
+ghost use Rattle.tokens.specs.Reads.{Small, AllKnown, KnownSoFar, Takes, Reads};
 ghost use Rattle.model.specs.Test.{pick};
 
 pub mod line;
@@ -135,7 +135,8 @@ pub struct Progress {
 fn take(room: &mut [SourceLine], byte: u8, progress: Progress) -> Progress
     requires room_left { progress.done < length room.old }
     requires small_value { Small progress.reading }
-    ensures { Takes byte room.old progress room.new result }
+    ensures lines { Takes byte room.old progress room.new result }
+    ensures known { KnownSoFar room.old progress → KnownSoFar room.new result }
 {
     let done = progress.done;
     let reading = progress.reading;
@@ -154,7 +155,8 @@ fn take(room: &mut [SourceLine], byte: u8, progress: Progress) -> Progress
 
 // The lines of a text, and how many they are; none where there isn't room for them.
 pub fn read(text: &[u8], room: &mut [SourceLine]) -> Option<usize>
-    ensures { Reads text.now room.new result }
+    ensures text { Reads text.now room.new result }
+    ensures known { (n : ℕ) → result ≡ Some n → AllKnown (take n room.new) }
 {
     let lines = count(text);
     if lines > room.len() {
@@ -169,4 +171,29 @@ pub fn read(text: &[u8], room: &mut [SourceLine]) -> Option<usize>
     }
     write(room, progress.done, line::last(progress.reading));
     Some(lines)
+}
+
+#[cfg(test)]
+mod tests {
+    use super::*;
+
+    #[test]
+    fn reads_what_is_wrong(rt: HostRuntime) {
+        let mut room = [SourceLine::BLANK; 3];
+        assert_eq!(rt;
+            read(b"here: SET 1 2\n2: SET\nSET 65536 @", &mut room),
+            Some(3)
+        );
+        assert_eq!(rt; room[0].wrong, 0);
+        assert_eq!(rt;
+            room[1].wrong,
+            6,
+            "a colon stands behind the line's first word, a name"
+        );
+        assert_eq!(rt;
+            room[2].wrong,
+            2,
+            "a number is at most 65535, not the character behind it"
+        );
+    }
 }

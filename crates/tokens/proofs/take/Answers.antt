@@ -7,13 +7,15 @@ use native.Mathlib.Omega.{arith}
 use lib.ListN.{take}
 use Rattle.model.proofs.TestLaws.{pick_true, pick-false}
 use Rattle.tokens.proofs.LineLaws.{count_of, feed_ends, other_goes_on}
+use Rattle.tokens.proofs.WrongLaws.{next_known, last_known, start_known, known_written}
+use Rattle.tokens.specs.Reads.{Known}
 use Rattle.tokens.specs.Tokens.{finished, lines_from, numbers, all_numbers}
 use Rattle.tokens.specs.declared.Reading.{Reading}
 use Rattle.tokens.proofs.take.Goals as goal
 
-pub returns-then-byte-eq10 : goal.returns-then-byte-eq10
+pub returns-then-byte-eq10-clause-lines : goal.returns-then-byte-eq10-clause-lines
 unfolding finished
-returns-then-byte-eq10 c =
+returns-then-byte-eq10-clause-lines c =
     let room = c.args.room.now in
     let reading = c.args.progress.reading in
     let done = c.args.progress.done in
@@ -32,8 +34,8 @@ returns-then-byte-eq10 c =
       small_value = c.start.ensures.small_value;
     }
 
-pub returns : goal.returns
-returns c =
+pub returns-clause-lines : goal.returns-clause-lines
+returns-clause-lines c =
     let room = c.args.room.now in
     let reading = c.args.progress.reading in
     let done = c.args.progress.done in
@@ -46,3 +48,12 @@ returns c =
       count = λ rest. omega (arith, count_of byte rest, pick-false {A = ℕ} 1 0 (ne_eqb _ _ c.if-byte-eq10.false));
       small_value = c.next.ensures.small_value;
     }
+
+pub returns-then-byte-eq10-clause-known : goal.returns-then-byte-eq10-clause-known
+returns-then-byte-eq10-clause-known c =
+    λ before.
+    let now : Known c.last.result.wrong = rw c.last.ensures.value (last_known c.args.progress.reading before.1) in
+    (known_written (take c.args.progress.done c.args.room.now) _ _ before.0 now c.write.ensures, start_known _ c.start.ensures.value)
+
+pub returns-clause-known : goal.returns-clause-known
+returns-clause-known c = λ before. (before.0, rw c.next.ensures.value (next_known c.args.progress.reading before.1 c.args.byte))

@@ -3,6 +3,6 @@ use Rattle.assembly.proofs.MistakeLaws.{found_nothing}
 use Rattle.assembly.specs.Mistakes.{own_mistake}
 use Rattle.assembly.proofs.mistakes.own_mistake.Goals as goal
 
-pub returns : goal.returns
+pub returns-clause-number : goal.returns-clause-number
 unfolding own_mistake
-returns c = found_nothing _ _ _ _ c.reading_mistake.ensures c.in_ok-reading_mistake.was c.statement_mistake.ensures
+returns-clause-number c = found_nothing _ _ _ _ c.reading_mistake.ensures.number c.in_ok-reading_mistake.was c.statement_mistake.ensures.number
